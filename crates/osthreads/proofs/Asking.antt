@@ -1,7 +1,6 @@
 -- What a worker's turns ask, and which items the answers result in.
-use Rattle.std.proofs.Common.{◌≡◌, ◌⊎◌, ◌<◌, Bool, true, false, cond, nat_le, Option, Some, None, is_some, IsSome, IsTrue, List, [], ◌∷◌, ◌++◌, length, map, inl, inr, refl, sym, ap, subst, ◌∙◌, arith, unwrap_or}
-use Rattle.std.specs.List.{list_all}
-use Rattle.std.proofs.lemmas.Bool.{and_parts, eqb-true, ltb-true}
+use Rattle.std.proofs.Common.{◌≡◌, ◌⊎◌, ◌<◌, Bool, true, false, cond, Option, Some, None, is_some, IsSome, IsTrue, List, [], ◌∷◌, ◌++◌, length, inl, inr, refl, sym, ap, subst, ◌∙◌, arith, unwrap_or}
+use Rattle.std.proofs.lemmas.Bool.{eqb-true, ltb-true}
 use Rattle.std.proofs.lemmas.Option.{same_Some}
 use Rattle.osbase.specs.declared.statuses.Status.TheVariants.{EOk, EOsId, EOsState}
 use Rattle.osbase.specs.declared.references.CoreId.{CoreId}

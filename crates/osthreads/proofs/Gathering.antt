@@ -15,7 +15,7 @@ use Rattle.osplan.specs.View.{core_of}
 use Rattle.osseat.specs.declared.histories.Plan.{Plan as SeatPlan}
 use Rattle.osseat.specs.Runs.{AreIdle, AreLogged, IsOneRun}
 use Rattle.osseat.specs.Histories.{IsLegal, calls_by}
-use Rattle.osseat.specs.Seats.{AllApart, AllAt, AllStand, Held, IsOneHistory, cores_of, fresh}
+use Rattle.osseat.specs.Seats.{AllApart, AllAt, AllStand, Held, IsOneHistory, cores_of, fresh, has}
 use Rattle.osseat.proofs.Runs.{one_run}
 use Rattle.osboard.specs.declared.calls.BoardCall.{BoardCall}
 use Rattle.osboard.specs.declared.calls.BoardReply.{BoardReply}
@@ -24,7 +24,7 @@ use Rattle.osspin.specs.declared.calls.SpinCall.{SpinCall}
 use Rattle.osspin.specs.declared.calls.SpinReply.{SpinReply}
 use Rattle.osspin.specs.Spins.{IsRefusedCall, spinlocks}
 use Rattle.osspin.proofs.Locks.{refused_idle}
-use Rattle.osturn.specs.Asking.{Calls, calls_of}
+use Rattle.osturn.specs.Asking.{Calls, calls_of, no_calls}
 use Rattle.osmail.specs.Ends.{sent_to, taken_from}
 use Rattle.osturn.specs.Fits.{history_by, ids_of}
 use Rattle.osturn.specs.Sound.{AreSound}
@@ -37,7 +37,7 @@ use Rattle.osthreads.specs.Seats.{Shared, first_seats, made_from, paired, seats_
 use Rattle.osthreads.specs.Threads.{AreAllFinished, AreEnded, AreReady, AreSettled, IsEnded, IsSettled}
 use Rattle.osthreads.specs.declared.turns.Stop.{Stop}
 use Rattle.osthreads.specs.Working.{IsFinished, Refusal, is_finished_by, is_kept_by, is_short_of_memory, refusal_at, refused_from}
-use Rattle.osthreads.proofs.Senders.{ids-apart}
+use Rattle.osthreads.proofs.Senders.{ids-apart, nobody-listed}
 use Rattle.osthreads.proofs.Threaded.{both, runs-sound}
 
 -- ---- lists
@@ -248,6 +248,9 @@ module _ (plan : Plan) (stimuli : List CoreStimuli) (turns : ℕ) (shared : Shar
     board = subst (λ (p : SeatPlan CoreId). IsLegal one_board p.about one.board.log) one.new_board one.board.legal;
     spins = subst (λ (p : SeatPlan Unit). IsLegal spinlocks p.about one.spins.log) one.new_spins one.spins.legal;
     finished = each-finished (record { board = one.board.log; spins = one.spins.log }) ids es ended finished one.board.stand one.spins.stand;
+    others = λ id out. both (calls_of id (record { board = one.board.log; spins = one.spins.log })) no_calls
+        (one.board.others id (subst (λ (p : SeatPlan CoreId). has p.cores id ≡ false) (sym one.new_board) (nobody-listed plan id out)))
+        (one.spins.others id (subst (λ (p : SeatPlan Unit). has p.cores id ≡ false) (sym one.new_spins) (nobody-listed plan id out)));
   }
 
 -- ---- seats

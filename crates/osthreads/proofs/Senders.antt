@@ -1,5 +1,5 @@
 -- A core receives from configured cores only, and those that are not configured have no list.
-use Rattle.std.proofs.Common.{◌≡◌, ◌<◌, ◌≤◌, ◌+◌, ◌==◌, ◌||◌, ℕ, zero, suc, Bool, true, false, not, cond, nat_lt, Some, is_some, IsSome, IsTrue, List, [], ◌∷◌, ◌++◌, length, map, filter, refl, sym, ap, subst, ◌∙◌, arith}
+use Rattle.std.proofs.Common.{◌≡◌, ◌<◌, ◌≤◌, ◌+◌, ◌==◌, ◌||◌, ℕ, zero, suc, Bool, true, false, not, cond, nat_lt, Option, Some, None, is_some, IsSome, IsTrue, List, [], ◌∷◌, ◌++◌, length, map, filter, refl, sym, ap, subst, ◌∙◌, arith}
 use Rattle.std.specs.List.{slice_get}
 use Rattle.std.proofs.lemmas.Bool.{and_parts, false≢true, ltb-true, ne_eqb, or_left, or_right, true≢false}
 use Rattle.std.proofs.lemmas.Bool.Decides.{nat_tests}
@@ -13,6 +13,7 @@ use Rattle.osbase.specs.Phases.{is_scheduling}
 use Rattle.osbase.specs.Sets.{core_ids, has_core, numbers_from}
 use Rattle.osbase.proofs.Same.{same_core-true}
 use Rattle.osbase.proofs.Tables.{table-at}
+use Rattle.osplan.specs.declared.plans.Core.{Core}
 use Rattle.osplan.specs.declared.plans.Plan.{Plan}
 use Rattle.osplan.specs.Limits.{is_within_limits}
 use Rattle.osplan.specs.View.{View, core_of, is_configured, view_of}
@@ -155,3 +156,11 @@ has-passes p (d ∷ ds) c there = by (p d) refl there (has-passes p ds c)
 
 pub listed-there : (plan : Plan) (id : CoreId) → has (ids_of plan) id ≡ true → is_some (core_of plan id) ≡ true
 listed-there plan id there = has-passes (λ c. is_some (core_of plan c)) core_ids id there
+
+-- a core that is not configured is none of them
+pub nobody-listed : (plan : Plan) (id : CoreId) → core_of plan id ≡ None → has (ids_of plan) id ≡ false
+nobody-listed plan id out = by (has (ids_of plan) id) refl
+  where
+    by : (b : Bool) → has (ids_of plan) id ≡ b → b ≡ false
+    by true e = absurd (false≢true (sym (ap (λ (o : Option Core). is_some o) out) ∙ listed-there plan id e))
+    by false e = refl

@@ -41,7 +41,7 @@ begun plan stimuli core id made sent taken is_id is_kernel is_left no_items no_m
     seated = seated-first plan stimuli core id is_id is_kernel is_left no_items no_marks;
     fits = rw (no_items) (record { alone = refl; begins = (stimuli_of stimuli core.id, refl); drains = λ drained. absurd (false≢true drained) });
   };
-  calls = rw (no_items, none_made) (record { log = no_calls; answers = refl; before = []; idle = []; calls = refl; logged = refl; looks = tt; enough = omega arith; spins = refl });
+  calls = rw (no_items, none_made) (record { log = no_calls; answers = refl; before = []; idle = []; calls = refl; logged = refl; looks = tt; enough = omega arith; spins = tt });
   mail = record {
     sent_is = λ to. (no_mail to).0 ∙ rw (no_items) refl;
     taken_is = λ from. (no_mail from).1 ∙ rw (no_items) refl;

@@ -9,11 +9,12 @@ use Rattle.osbase.specs.declared.histories.Course.{Course}
 use Rattle.osbase.specs.declared.histories.Sent.{Sent}
 use Rattle.osbase.specs.declared.items.Item.{Item}
 use Rattle.osbase.specs.declared.items.Stimulus.{Stimulus}
+use Rattle.osbase.specs.declared.turns.Choice.{Choice}
 use Rattle.osbase.specs.declared.turns.CoreStimuli.{CoreStimuli}
 use Rattle.osbase.specs.History.{History, course_of, front_envelope, outbox, posted, received, same_core}
 use Rattle.osbase.specs.Runs.{stimuli_of}
 use Rattle.osplan.specs.declared.plans.Plan.{Plan}
-use Rattle.osplan.specs.View.{View, view_of}
+use Rattle.osplan.specs.View.{View, is_configured, view_of}
 use Rattle.osstate.specs.State.{KernelState, state_of}
 use Rattle.oskernel.specs.declared.wants.Watch.{Watch}
 use Rattle.oskernel.specs.Admission.{serves_in, takes_in}
@@ -22,13 +23,14 @@ use Rattle.oskernel.specs.Wants.{front_of, want_in, want_of, watch_in, watch_of}
 use Rattle.oskernel.proofs.Stages.{is_mail}
 use Rattle.osseat.specs.declared.histories.Entry.{Entry}
 use Rattle.osseat.specs.Histories.{Thinned, entry}
-use Rattle.osseat.proofs.Thins.{logged, unlogged}
+use Rattle.osseat.proofs.Thins.{logged}
 use Rattle.osboard.specs.declared.calls.BoardCall.{BoardCall}
 use Rattle.osboard.specs.declared.calls.BoardCall.TheVariants.{Start, Enter, MakeReady, Drain, Look, AskHalt, LookHalt}
 use Rattle.osboard.specs.declared.calls.BoardReply.{BoardReply}
 use Rattle.osboard.specs.declared.calls.BoardReply.TheVariants.{Started, Acknowledged, Shown, Decided, Halting}
 use Rattle.osboard.specs.Boards.{BoardEntry, IsLook}
 use Rattle.osspin.specs.declared.calls.SpinReply.{SpinReply}
+use Rattle.osspin.specs.declared.calls.SpinReply.TheVariants.{Answered}
 use Rattle.osspin.specs.Spins.{IsRefusedCall, SpinEntry}
 use Rattle.osmail.specs.Ends.{AreUnchanged, HasOneMore, Streams}
 use Rattle.osturn.specs.declared.asks.Ask.{Ask}
@@ -37,7 +39,9 @@ use Rattle.osturn.specs.declared.asks.Answer.{Answer}
 use Rattle.osturn.specs.declared.asks.Answer.TheVariants.{Replied, Spun, HasRoom, Found, Unasked}
 use Rattle.osturn.specs.declared.seats.Seat.{Seat}
 use Rattle.oskernel.specs.declared.wants.SpinWish.{SpinWish}
-use Rattle.osturn.specs.Asking.{Calls, asked_by, joined, named_by, no_calls, spin_call_of, told_by}
+use Rattle.oskernel.specs.declared.wants.SpinWish.TheVariants as Wish
+use Rattle.oskernel.specs.declared.wants.Want.{Want}
+use Rattle.osturn.specs.Asking.{Calls, asked_by, joined, look_asked, named_by, no_calls, own_asked, spin_call_of, starting, told_by}
 use Rattle.osturn.specs.Fits.{AreAnswered, FitsCore, Leads, history_by, stimuli_in}
 use Rattle.osturn.specs.Seats.{stimulus_count}
 use Rattle.osturn.proofs.Answered.{answered-push}
@@ -46,7 +50,8 @@ use Rattle.osturn.proofs.Leading.{halted-item, is-item, passing-item, spun-item}
 use Rattle.osturn.proofs.Longer.{IsInTurn, core-on, history_from-push, length-stimuli_in}
 use Rattle.osturn.proofs.Seated.{Keeps, Took, seated-kept, seated-on}
 use Rattle.osturn.proofs.Streams.{envelope_in, is_from, is_post_to, posted-after, received-is}
-use Rattle.osthreads.specs.Working.{AreCalls, HasDone, IsAsked, IsAtWork, IsFruitless, IsIdleLook, IsMailed}
+use Rattle.osthreads.specs.Calling.{call_of_item}
+use Rattle.osthreads.specs.Working.{AreCalls, AreSpinCalls, HasDone, IsAsked, IsAtWork, IsFruitless, IsIdleLook, IsMailed, IsRefusedWish, MayWait}
 
 -- ---- stimuli
 
@@ -137,12 +142,125 @@ looks-more : (v : View) (items : List Item) (xs : List BoardEntry) (e : BoardEnt
 looks-more v items [] e all look = (look, tt)
 looks-more v items (x ∷ xs) e all look = (all.0, looks-more v items xs e all.1 look)
 
+-- ---- its calls of the spinlocks
+
+-- A turn that asks for one is the core's own, which wants it.
+abbrev WantsIt : Want → Option Ask → Type 0
+WantsIt want (Some (OfSpins wish)) = want ≡ Want.Spin wish
+WantsIt want asks = Unit {0}
+
+own-wants : (v : View) (next : Option Stimulus) (want : Want) → WantsIt want (own_asked v next want)
+own-wants v next (Want.Start k) = by (is_configured v k)
+  where
+    by : (b : Bool) → WantsIt (Want.Start k) (Some (starting k b))
+    by true = tt
+    by false = tt
+own-wants v next Want.Enter = tt
+own-wants v next Want.Ready = tt
+own-wants v next (Want.Post to) = tt
+own-wants v next (Want.Spin wish) = refl
+own-wants v next (Want.AskHalt status) = tt
+own-wants v (Some s) Want.GoOn = tt
+own-wants v None Want.GoOn = tt
+own-wants v next Want.Drain = tt
+own-wants v next Want.Nothing = tt
+
+look-wants : (want : Want) (watch : Watch) → WantsIt want (Some (look_asked watch))
+look-wants want Watch.Halt = tt
+look-wants want Watch.Last = tt
+look-wants want watch = tt
+
+asked-wants : (v : View) (next : Option Stimulus) (want : Want) (watch : Watch) (choice : Choice) → WantsIt want (asked_by v want watch next choice)
+asked-wants v next want watch Choice.Own = own-wants v next want
+asked-wants v next want watch (Choice.Serve from) = tt
+asked-wants v next want watch Choice.Look = look-wants want watch
+
+-- The call that an answer tells of is that of the item to which it leads.
+module _ (id : CoreId) where
+  abbrev NoCall : Item → Type 0
+  NoCall i = call_of_item id i ≡ []
+
+  abbrev Called : SpinWish → SpinReply → Item → Type 0
+  Called wish reply i = (told_by id (OfSpins wish) (Spun reply)).spins ≡ call_of_item id i
+
+  called-for : (watch : Watch) (ask : Ask) (answer : Answer) (i : Item) → named_by id watch ask answer ≡ Some i → (told_by id ask answer).spins ≡ call_of_item id i
+  called-for watch (OfBoard Look) (Replied (Shown view)) i e = sym (passing-item NoCall refl (λ agreement. refl) (λ cores. refl) refl id view watch i e)
+  called-for watch (OfBoard (Start k)) (Replied (Started status)) i e = sym (is-item NoCall (Item.Began k status) i refl e)
+  called-for watch (OfBoard (Enter mode)) (Replied Acknowledged) i e = sym (is-item NoCall Item.Entered i refl e)
+  called-for watch (OfBoard MakeReady) (Replied Acknowledged) i e = sym (is-item NoCall Item.Readied i refl e)
+  called-for watch (OfBoard Drain) (Replied Acknowledged) i e = sym (is-item NoCall Item.Drained i refl e)
+  called-for watch (OfBoard LookHalt) (Replied (Halting halt)) i e = sym (halted-item NoCall (λ asked. refl) (λ core status. refl) watch halt i e)
+  called-for watch (OfBoard (AskHalt status)) (Replied (Decided asked)) i e = sym (is-item NoCall (Item.Halt asked.0 asked.1) i refl e)
+  called-for watch (OfSpins (Wish.Get l)) (Spun (Answered true)) i e = is-item (Called (Wish.Get l) (Answered true)) (Item.Granted l) i refl e
+  called-for watch (OfSpins (Wish.Try l)) (Spun (Answered taken)) i e = is-item (Called (Wish.Try l) (Answered taken)) (Item.Tried l taken) i refl e
+  called-for watch (OfSpins (Wish.Free l)) (Spun (Answered true)) i e = is-item (Called (Wish.Free l) (Answered true)) (Item.Freed l) i refl e
+  called-for watch (Room to) (HasRoom true) i e = sym (is-item NoCall (Item.Posted to) i refl e)
+  called-for watch (Oldest from) (Found (Some x)) i e = sym (is-item NoCall (Item.Received from x.number x.message) i refl e)
+  called-for watch (StartUnknown k) Unasked i e = sym (is-item NoCall (Item.Began k EOsId) i refl e)
+  called-for watch (TakeStimulus stimulus) Unasked i e = sym (is-item NoCall (Item.Stim stimulus) i refl e)
+  called-for watch ask answer i e = cc
+
+module _ (v : View) where
+  wishes-more : (h : History) (xs : List SpinEntry) (e : SpinEntry) → AllByRecursion (IsRefusedWish v h) xs → IsRefusedWish v h e → AllByRecursion (IsRefusedWish v h) (xs ++ e ∷ [])
+  wishes-more h [] e all one = (one, tt)
+  wishes-more h (x ∷ xs) e all one = (all.0, wishes-more h xs e all.1 one)
+
+  behind : (xs ys zs more : List SpinEntry) → (xs ++ (ys ++ zs)) ++ more ≡ xs ++ (ys ++ (zs ++ more))
+  behind xs ys zs more = append_assoc xs (ys ++ zs) more ∙ ap (λ (es : List SpinEntry). xs ++ es) (append_assoc ys zs more)
+
+  -- one more, which was refused; and that of an item more
+  spins-refused : (h : History) (items : List Item) (calls : List SpinEntry) (e : SpinEntry) → AreSpinCalls v h items calls → IsRefusedWish v (history_from v h items) e → AreSpinCalls v h items (calls ++ e ∷ [])
+  spins-refused h [] calls e are one = wishes-more h calls e are one
+  spins-refused h (i ∷ is) calls e are one = (
+    are.0,
+    are.1 ++ e ∷ [],
+    ap (λ (es : List SpinEntry). es ++ e ∷ []) are.2 ∙ behind are.0 (call_of_item v.core i) are.1 (e ∷ []),
+    are.3,
+    spins-refused (after v h i) is are.1 e are.4 one,
+  )
+
+  spins-push : (h : History) (items : List Item) (calls : List SpinEntry) (i : Item) → AreSpinCalls v h items calls → AreSpinCalls v h (items ++ i ∷ []) (calls ++ call_of_item v.core i)
+  spins-push h [] calls i are = (calls, [], ap (λ (es : List SpinEntry). calls ++ es) (sym (append-nil (call_of_item v.core i))), are, tt)
+  spins-push h (j ∷ js) calls i are = (
+    are.0,
+    are.1 ++ call_of_item v.core i,
+    ap (λ (es : List SpinEntry). es ++ call_of_item v.core i) are.2 ∙ behind are.0 (call_of_item v.core j) are.1 (call_of_item v.core i),
+    are.3,
+    spins-push (after v h j) js are.1 i are.4,
+  )
+
+  -- less the refused ones they are those of the items
+  thin-wishes : (h : History) (xs ys log : List SpinEntry) → AllByRecursion (IsRefusedWish v h) xs → Thinned IsRefusedCall ys log → Thinned IsRefusedCall (xs ++ ys) log
+  thin-wishes h [] ys log all thin = thin
+  thin-wishes h (x ∷ xs) ys log all thin = inr (ap (λ (e : SpinEntry). e.reply) all.0.call, thin-wishes h xs ys log all.1 thin)
+
+  thin-both : (xs ys log : List SpinEntry) → Thinned IsRefusedCall ys log → Thinned IsRefusedCall (xs ++ ys) (xs ++ log)
+  thin-both [] ys log thin = thin
+  thin-both (x ∷ xs) ys log thin = inl (xs ++ log, refl, thin-both xs ys log thin)
+
+  thin-spins : (h : History) (items : List Item) (calls : List SpinEntry) (log : Calls) → AreSpinCalls v h items calls → AreAnswered v h items log → Thinned IsRefusedCall calls log.spins
+  thin-spins h [] calls log are answers =
+      let none : log.spins ≡ [] = ap (λ (c : Calls). c.spins) answers in
+      subst (λ (es : List SpinEntry). Thinned IsRefusedCall es log.spins) (append-nil calls) (thin-wishes h calls [] log.spins are none)
+  thin-spins h (i ∷ is) calls log are answers =
+      let told : log.spins ≡ call_of_item v.core i ++ answers.3.spins =
+      ap (λ (c : Calls). c.spins) answers.4 ∙ ap (λ (es : List SpinEntry). es ++ answers.3.spins) (called-for v.core (watch_of v h) answers.0 answers.1 i answers.2.names) in
+      subst (λ (es : List SpinEntry). Thinned IsRefusedCall es log.spins) (sym are.2)
+      (subst (Thinned IsRefusedCall (are.0 ++ (call_of_item v.core i ++ are.1))) (sym told)
+      (thin-wishes h are.0 (call_of_item v.core i ++ are.1) (call_of_item v.core i ++ answers.3.spins) are.3
+      (thin-both (call_of_item v.core i) are.1 answers.3.spins (thin-spins (after v h i) is are.1 answers.3 are.4 answers.5))))
+
+-- ---- all its calls
+
 -- no call more
 none-more : {C R : Type 0} (idle : Entry C R → Type 0) (xs ys more : List (Entry C R)) → more ≡ xs → Thinned idle xs ys → Thinned idle more (ys ++ [])
 none-more {C} {R} idle xs ys more same t = subst (λ (es : List (Entry C R)). Thinned idle es (ys ++ [])) (sym same) (subst (Thinned idle xs) (sym (append-nil ys)) t)
 
 module _ (v : View) (items : List Item) (made : Calls) (loads : ℕ) (calls : AreCalls v items made loads) where
-  -- all of the board's, less looks
+  -- all of the spinlocks', less refused ones, and of the board's, less looks
+  pub spins-thin : Thinned IsRefusedCall made.spins calls.log.spins
+  spins-thin = thin-spins v [] items made.spins calls.log calls.spins calls.answers
+
   pub thin : Thinned IsLook made.board calls.log.board
   thin = subst (λ (es : List BoardEntry). Thinned IsLook es calls.log.board) (sym calls.calls) (thin-more calls.before calls.idle calls.log.board calls.logged (only-looks v items calls.idle calls.looks))
 
@@ -157,7 +275,7 @@ module _ (v : View) (items : List Item) (made : Calls) (loads : ℕ) (calls : Ar
     logged = calls.logged;
     looks = looks-more v items calls.idle e calls.looks look;
     enough = let longer = length-append calls.idle (e ∷ []) in let some = calls.enough in omega arith;
-    spins = subst (λ (es : List SpinEntry). Thinned IsRefusedCall es calls.log.spins) (sym same) calls.spins;
+    spins = subst (AreSpinCalls v [] items) (sym same) calls.spins;
   }
 
   -- fewer looks are at the end, too, and a call of a spinlock more was refused
@@ -174,7 +292,7 @@ module _ (v : View) (items : List Item) (made : Calls) (loads : ℕ) (calls : Ar
     spins = calls.spins;
   }
 
-  pub refused-on : (e : SpinEntry) (made' : Calls) → IsRefusedCall e → made'.board ≡ made.board → made'.spins ≡ made.spins ++ e ∷ [] → AreCalls v items made' loads
+  pub refused-on : (e : SpinEntry) (made' : Calls) → IsRefusedWish v (history_from v [] items) e → made'.board ≡ made.board → made'.spins ≡ made.spins ++ e ∷ [] → AreCalls v items made' loads
   refused-on e made' was same more = record {
     log = calls.log;
     answers = calls.answers;
@@ -184,12 +302,12 @@ module _ (v : View) (items : List Item) (made : Calls) (loads : ℕ) (calls : Ar
     logged = calls.logged;
     looks = calls.looks;
     enough = calls.enough;
-    spins = unlogged IsRefusedCall made.spins calls.log.spins made'.spins calls.log.spins e calls.spins was more refl;
+    spins = subst (AreSpinCalls v [] items) (sym more) (spins-refused v [] items made.spins e calls.spins was);
   }
 
   -- an item more, to which these calls led
   module _ (ask : Ask) (answer : Answer) (i : Item) (leads : Leads v (history_from v [] items) ask answer i) where
-    led-on : (told made' : Calls) → told_by v.core ask answer ≡ told → Thinned IsLook made'.board (calls.log.board ++ told.board) → Thinned IsRefusedCall made'.spins (calls.log.spins ++ told.spins) → AreCalls v (items ++ i ∷ []) made' 0
+    led-on : (told made' : Calls) → told_by v.core ask answer ≡ told → Thinned IsLook made'.board (calls.log.board ++ told.board) → made'.spins ≡ made.spins ++ told.spins → AreCalls v (items ++ i ∷ []) made' 0
     led-on told made' is board spins = record {
       log = joined calls.log told;
       answers = subst (AreAnswered v [] (items ++ i ∷ [])) (ap (joined calls.log) is) (answered-push v [] items calls.log ask answer i calls.answers leads);
@@ -199,27 +317,30 @@ module _ (v : View) (items : List Item) (made : Calls) (loads : ℕ) (calls : Ar
       logged = board;
       looks = tt;
       enough = omega arith;
-      spins = spins;
+      spins = subst (AreSpinCalls v [] (items ++ i ∷ [])) (sym (spins ∙ ap (λ (es : List SpinEntry). made.spins ++ es) led)) (spins-push v [] items made.spins i calls.spins);
     }
+      where
+        led : told.spins ≡ call_of_item v.core i
+        led = ap (λ (c : Calls). c.spins) (sym is) ∙ called-for v.core (watch_of v (history_from v [] items)) ask answer i leads.names
 
     -- none, one of the board, or one of a spinlock
     pub uncalled-on : (made' : Calls) → told_by v.core ask answer ≡ no_calls → made' ≡ made → AreCalls v (items ++ i ∷ []) made' 0
     uncalled-on made' none same =
         led-on no_calls made' none
         (none-more IsLook made.board calls.log.board made'.board (ap (λ (c : Calls). c.board) same) thin)
-        (none-more IsRefusedCall made.spins calls.log.spins made'.spins (ap (λ (c : Calls). c.spins) same) calls.spins)
+        (ap (λ (c : Calls). c.spins) same ∙ sym (append-nil made.spins))
 
     pub board-on : (e : BoardEntry) (made' : Calls) → told_by v.core ask answer ≡ record { board = e ∷ []; spins = [] } → made'.board ≡ made.board ++ e ∷ [] → made'.spins ≡ made.spins → AreCalls v (items ++ i ∷ []) made' 0
     board-on e made' one more same =
         led-on (record { board = e ∷ []; spins = [] }) made' one
         (logged IsLook made.board calls.log.board made'.board (calls.log.board ++ e ∷ []) e e thin more refl refl)
-        (none-more IsRefusedCall made.spins calls.log.spins made'.spins same calls.spins)
+        (same ∙ sym (append-nil made.spins))
 
     pub spins-on : (e : SpinEntry) (made' : Calls) → told_by v.core ask answer ≡ record { board = []; spins = e ∷ [] } → made'.board ≡ made.board → made'.spins ≡ made.spins ++ e ∷ [] → AreCalls v (items ++ i ∷ []) made' 0
     spins-on e made' one same more =
         led-on (record { board = []; spins = e ∷ [] }) made' one
         (none-more IsLook made.board calls.log.board made'.board same thin)
-        (logged IsRefusedCall made.spins calls.log.spins made'.spins (calls.log.spins ++ e ∷ []) e e calls.spins more refl refl)
+        more
 
 -- ---- its mail
 
@@ -368,13 +489,21 @@ module _ (plan : Plan) (stimuli : List CoreStimuli) (loads : ℕ) (core : Seat) 
     mail = done.mail;
   }
 
-  -- a call of a spinlock that was refused
-  pub spin-idle : (e : SpinEntry) (made' : Calls) → IsRefusedCall e → made'.board ≡ made.board → made'.spins ≡ made.spins ++ e ∷ [] → HasDone plan stimuli core made' sent taken None (loads + 0)
-  spin-idle e made' was same more = record {
+  -- a call of a spinlock that was refused, and that the core waits for
+  pub spin-idle : (wish : SpinWish) (e : SpinEntry) (made' : Calls) → IsAsked plan core (OfSpins wish) → MayWait (OfSpins wish) → e ≡ entry core.id (spin_call_of wish) (Answered false) → made'.board ≡ made.board → made'.spins ≡ made.spins ++ e ∷ [] → HasDone plan stimuli core made' sent taken None (loads + 0)
+  spin-idle wish e made' asked waits is same more = record {
     work = done.work;
-    calls = fewer (view_of plan core.id) core.items.items made' loads (refused-on (view_of plan core.id) core.items.items made loads done.calls e made' was same more) (loads + 0) (omega arith);
+    calls = fewer view core.items.items made' loads (refused-on view core.items.items made loads done.calls e made' (record { wish = wish; wanted = wanted; waits = waits; call = is }) same more) (loads + 0) (omega arith);
     mail = done.mail;
   }
+    where
+      view : View
+      view = view_of plan core.id
+
+      wanted : want_of view (history_by plan core.id core.items.items) ≡ Want.Spin wish
+      wanted =
+          subst (λ (k : KernelState). want_in k ≡ Want.Spin wish) done.work.seated.tracks.stands.is
+          (subst (WantsIt (want_in core.kernel)) asked.1 (asked-wants view (slice_get core.stimuli.now 0) (want_in core.kernel) (watch_in core.kernel) asked.0))
 
   -- nothing was called, sent or taken, and there may be more room
   pub still : (new : Seat) (sent' taken' : Streams) → Keeps core new → AreUnchanged sent sent' → AreUnchanged taken taken' → HasDone plan stimuli new made sent' taken' None (loads + 0)

@@ -1,19 +1,19 @@
 -- What the run of one core results in, and what the runs of all cores result in together. It is said of reports, of the calls of the
 -- board and the spinlocks, and of the envelopes, and of no turns and no threads. [own]
-use Rattle.std.specs.Prelude.{ℕ, List, [], ◌∷◌, map}
+use Rattle.std.specs.Prelude.{◌≡◌, ℕ, None, List, [], ◌∷◌, map}
 use Rattle.std.specs.List.{AllByRecursion}
 use Rattle.osbase.specs.declared.references.CoreId.{CoreId}
 use Rattle.osbase.specs.declared.turns.CoreStimuli.{CoreStimuli}
 use Rattle.osbase.specs.declared.turns.Report.{Report}
 use Rattle.osbase.specs.History.{posted, received}
 use Rattle.osplan.specs.declared.plans.Plan.{Plan}
-use Rattle.osplan.specs.View.{view_of}
+use Rattle.osplan.specs.View.{core_of, view_of}
 use Rattle.osseat.specs.declared.histories.Plan.{Plan as SeatPlan}
 use Rattle.osseat.specs.Histories.{IsLegal}
 use Rattle.osseat.specs.Runs.{IsOneRun}
 use Rattle.osboard.specs.Boards.{one_board}
 use Rattle.osspin.specs.Spins.{spinlocks}
-use Rattle.osturn.specs.Asking.{Calls, calls_of}
+use Rattle.osturn.specs.Asking.{Calls, calls_of, no_calls}
 use Rattle.osturn.specs.Fits.{AreAnswered, FitsCore, IsBeginning, history_by, ids_of}
 use Rattle.osturn.specs.Sound.{IsOwn}
 use Rattle.osthreads.specs.Working.{IsFinished}
@@ -58,9 +58,10 @@ abbrev pub AreOneSpins : Plan → List Calls → Type 0
 AreOneSpins plan logs = IsOneRun spinlocks (new_spins plan) (map (λ (log : Calls). log.spins) logs)
 
 -- Each core has ended, or its worker stalled. One history of the board and one of the spinlocks say so: they have all calls of the
--- cores, also those that resulted in no item.
+-- configured cores, also those that resulted in no item, and no others.
 pub record AreFinished (plan : Plan) (stimuli : List CoreStimuli) (turns : ℕ) (reports : List Report) : Type 0 where
   pub history : Calls
   pub board : IsLegal one_board plan.master history.board
   pub spins : IsLegal spinlocks tt history.spins
   pub finished : AllByRecursion (λ (r : Report). IsFinished plan stimuli turns r (calls_of r.core history)) reports
+  pub others : (id : CoreId) → core_of plan id ≡ None → calls_of id history ≡ no_calls

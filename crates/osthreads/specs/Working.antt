@@ -14,24 +14,28 @@ use Rattle.osplan.specs.declared.plans.Plan.{Plan}
 use Rattle.osplan.specs.View.{View, view_of}
 use Rattle.osstate.specs.State.{KernelState, state_of}
 use Rattle.oskernel.specs.Admission.{takes_in}
-use Rattle.oskernel.specs.Step.{history_from, outbox_size, serves, takes}
-use Rattle.oskernel.specs.Wants.{want_in, watch_in}
-use Rattle.osseat.specs.Histories.{Thinned}
+use Rattle.oskernel.specs.Step.{after, history_from, outbox_size, serves, takes}
+use Rattle.oskernel.specs.Wants.{want_in, want_of, watch_in}
+use Rattle.osseat.specs.Histories.{Thinned, entry}
 use Rattle.osboard.specs.declared.calls.BoardState.{BoardState}
 use Rattle.osboard.specs.Boards.{BoardEntry, IsLook, board_reply}
-use Rattle.osspin.specs.Spins.{IsRefusedCall, spin_reply}
+use Rattle.osspin.specs.declared.calls.SpinReply.TheVariants.{Answered}
+use Rattle.osspin.specs.Spins.{SpinEntry, spin_reply}
 use Rattle.osmail.specs.Ends.{Streams}
 use Rattle.osturn.specs.declared.asks.Answer.{Answer}
 use Rattle.osturn.specs.declared.asks.Answer.TheVariants.{Replied, Spun}
 use Rattle.osturn.specs.declared.asks.Ask.{Ask}
 use Rattle.osturn.specs.declared.asks.Ask.TheVariants.{OfBoard, OfSpins, Room}
 use Rattle.osturn.specs.declared.seats.Seat.{Seat}
+use Rattle.oskernel.specs.declared.wants.SpinWish.{SpinWish}
 use Rattle.oskernel.specs.declared.wants.SpinWish.TheVariants as Wish
+use Rattle.oskernel.specs.declared.wants.Want.{Want}
 use Rattle.osturn.specs.Asking.{Calls, asked_by, named_by, spin_call_of}
 use Rattle.osturn.specs.Fits.{AreAnswered, FitsCore, history_by, ids_of, stimuli_in}
 use Rattle.osturn.specs.Seats.{IsSeated, is_ended_phase}
 use Rattle.osturn.specs.Sound.{IsOwn}
 use Rattle.osthreads.specs.declared.run.Run.{Run}
+use Rattle.osthreads.specs.Calling.{call_of_item}
 use Rattle.osthreads.specs.Seats.{made_from}
 use Rattle.osthreads.specs.declared.turns.Stop.{Stop}
 use Rattle.osthreads.specs.declared.turns.Turned.{Turned}
@@ -56,7 +60,9 @@ MayAnswer id (OfBoard call) answer = (board : BoardState) × (answer ≡ Replied
 MayAnswer id (OfSpins wish) answer = (holders : List (Option CoreId)) × (answer ≡ Spun (spin_reply id (spin_call_of wish) holders))
 MayAnswer id ask answer = Unit {0}
 
--- What a core's turn asks may have to wait: for room in a mailbox, GetSpinlock for its spinlock, and a release until it is done.
+-- What a core's turn asks may have to wait: for room in a mailbox, GetSpinlock for its spinlock, and a release until it is done. A release
+-- is refused only to a core that does not hold the spinlock. That the kernel asks for none such follows from the checks of ReleaseSpinlock
+-- and from what it owes; no law of the kernel carries that from the check to the turn that asks, so a release stands here too.
 abbrev pub MayWait : Ask → Type 0
 MayWait (Room to) = Unit {0}
 MayWait (OfSpins (Wish.Get l)) = Unit {0}
@@ -79,8 +85,23 @@ pub record IsAtWork (plan : Plan) (stimuli : List CoreStimuli) (core : Seat) : T
 abbrev pub IsIdleLook : View → List Item → BoardEntry → Type 0
 IsIdleLook v items e = IsLook e × IsFruitless v.core (state_of v (history_from v [] items)) (OfBoard e.call) (Replied e.reply)
 
--- The calls are those that resulted in the core's items, in order, and calls that resulted in none: looks at the board, and calls of
--- spinlocks that were refused. Those of the board end with at least so many looks after the last item.
+-- A call of a spinlock that resulted in no item: it was refused, and is what the core waited for after this history.
+pub record IsRefusedWish (v : View) (h : History) (e : SpinEntry) : Type 0 where
+  pub wish : SpinWish
+  pub wanted : want_of v h ≡ Want.Spin wish
+  pub waits : MayWait (OfSpins wish)
+  pub call : e ≡ entry v.core (spin_call_of wish) (Answered false)
+
+-- After this history the calls of the spinlocks are those that resulted in these items, in order, and before each item and after the last
+-- one any number of refused ones, each of what the core waited for there.
+abbrev pub AreSpinCalls : View → History → List Item → List SpinEntry → Type 0
+AreSpinCalls v h [] calls = AllByRecursion (IsRefusedWish v h) calls
+AreSpinCalls v h (i ∷ is) calls =
+    (refused : List SpinEntry) × (rest : List SpinEntry)
+    × (calls ≡ refused ++ (call_of_item v.core i ++ rest)) × AllByRecursion (IsRefusedWish v h) refused × AreSpinCalls v (after v h i) is rest
+
+-- The calls are those that resulted in the core's items, in order, and calls that resulted in none: looks at the board, and refused calls
+-- of a spinlock that the core waited for. Those of the board end with at least so many looks after the last item.
 pub record AreCalls (v : View) (items : List Item) (made : Calls) (loads : ℕ) : Type 0 where
   pub log : Calls
   pub answers : AreAnswered v [] items log
@@ -90,7 +111,7 @@ pub record AreCalls (v : View) (items : List Item) (made : Calls) (loads : ℕ) 
   pub logged : Thinned IsLook before log.board
   pub looks : AllByRecursion (IsIdleLook v items) idle
   pub enough : loads ≤ length idle
-  pub spins : Thinned IsRefusedCall made.spins log.spins
+  pub spins : AreSpinCalls v [] items made.spins
 
 -- An envelope that was taken and became no item, with its sender.
 abbrev pub Refusal : Type 0
@@ -217,8 +238,7 @@ pub record IsStopped {M : Type 0} (sent taken : M → Streams) (stimuli : List C
 
 -- So many turns in a row changed nothing. A round has a turn for each configured core, its own for the core itself, and a look. So the
 -- core's calls of the board end with a look for each whole round, and if there was one, the core can do nothing by itself, but for an
--- envelope that may wait for room in a mailbox, GetSpinlock that may wait for its spinlock, and a release, of which it is not said here
--- that none is refused.
+-- envelope that may wait for room in a mailbox, GetSpinlock that may wait for its spinlock, and a release (see `MayWait`).
 pub record HasStalled (plan : Plan) (stimuli : List CoreStimuli) (turns : ℕ) (report : Report) (loads : ℕ) : Type 0 where
   pub rounds : turns / (length (ids_of plan) + 1) ≤ loads
   pub stuck : length (ids_of plan) < turns
@@ -231,8 +251,9 @@ pub record IsFinished (plan : Plan) (stimuli : List CoreStimuli) (turns : ℕ) (
   pub stalled : report.ended ≡ false → HasStalled plan stimuli turns report loads
 
 -- What a worker hands back. Its report says what its items say, and they fit what was listed. Its calls are those that resulted in
--- items, looks at the board, and calls of spinlocks that were refused. Its end of the mail sent what was posted and took what was received, but for an envelope that the core
--- could not take. Its core has ended exactly if it stopped for that; if it stopped since its turns changed nothing, it has stalled.
+-- items, looks at the board, and refused calls of a spinlock that the core waited for. Its end of the mail sent what was posted and took
+-- what was received, but for an envelope that the core could not take. Its core has ended exactly if it stopped for that; if it stopped
+-- since its turns changed nothing, it has stalled.
 pub record IsWorked {M : Type 0} (sent taken : M → Streams) (run : Run) (worked : Worked M) : Type 0 where
   pub own : IsOwn run.config.now worked.report
   pub fits : FitsCore run.config.now run.stimuli.now worked.report.core worked.report.items

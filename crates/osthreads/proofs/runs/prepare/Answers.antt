@@ -1,9 +1,9 @@
-use Rattle.std.proofs.Common.{◌≡◌, List, IsTrue, map, sym, ap, subst, ◌∙◌}
+use Rattle.std.proofs.Common.{List, IsTrue, map, sym, ap, subst, ◌∙◌}
 use Rattle.osbase.specs.declared.references.CoreId.{CoreId}
 use Rattle.osplan.specs.declared.plans.Plan.{Plan}
 use Rattle.osplan.specs.Limits.{is_within_limits}
 use Rattle.osplan.proofs.Within.{limit-parts}
-use Rattle.osseat.specs.Seats.{AllApart, Held, fresh}
+use Rattle.osseat.specs.Seats.{AllApart, fresh}
 use Rattle.osboard.specs.declared.calls.BoardCall.{BoardCall}
 use Rattle.osboard.specs.declared.calls.BoardReply.{BoardReply}
 use Rattle.osspin.specs.declared.calls.SpinCall.{SpinCall}

@@ -13,7 +13,7 @@ use Rattle.osthreads.specs.declared.ending.Ending.{Ending}
 use Rattle.osthreads.specs.Runs.{AreFinished, IsOneCore}
 use Rattle.osthreads.specs.Seats.{seats_cores, shared}
 use Rattle.osthreads.specs.Threads.{AreAlone}
-use Rattle.osthreads.proofs.Gathering.{AreOneEach, all-map, all-ready, boards-cores, boards-placed, first-cores, seats-finished, seats-sound, spins-cores, spins-placed}
+use Rattle.osthreads.proofs.Gathering.{all-map, all-ready, boards-cores, boards-placed, first-cores, seats-finished, seats-sound, spins-cores, spins-placed}
 use Rattle.osthreads.proofs.runs.run_threads.Goals as goal
 
 pub run_all-joined-requires-clause-ready : goal.run_all-joined-requires-clause-ready

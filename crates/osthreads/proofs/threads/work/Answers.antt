@@ -1,5 +1,5 @@
 use Rattle.osthreads.proofs.Shifting.{worked-finished}
-use Rattle.osthreads.proofs.Working.{thin}
+use Rattle.osthreads.proofs.Working.{spins-thin, thin}
 use Rattle.osthreads.proofs.threads.work.Goals as goal
 
 pub returns : goal.returns
@@ -13,7 +13,7 @@ returns g c =
         answers = w.worked.calls.answers;
       };
       board = thin _ _ _ _ w.worked.calls;
-      spins = w.worked.calls.spins;
+      spins = spins-thin _ _ _ _ w.worked.calls;
       mail = rw (c.into_steps.ensures) w.worked.mail;
       finished = worked-finished _ _ _ _ w.worked;
     }

@@ -1,4 +1,4 @@
-use Rattle.std.proofs.Common.{◌≡◌, ◌<◌, ◌++◌, ◌∷◌, [], true, false, inl, inr, refl, ap, sym, subst, ◌∙◌}
+use Rattle.std.proofs.Common.{◌≡◌, ◌<◌, ◌++◌, ◌∷◌, [], false, inl, inr, refl, ap, sym, subst, ◌∙◌}
 use Rattle.osbase.specs.declared.limits.TheConstants.{SPINLOCKS}
 use Rattle.osseat.specs.Histories.{entry}
 use Rattle.osseat.specs.Seats.{Extends}
@@ -42,7 +42,9 @@ returns-in_default-clause-turns g c stimuli loads done =
     let t = replied-by spinlocks old.seats.spins c.call.new.seat c.spin_call_of.result c.call.result c.call.ensures in
     let reply : c.call.result ≡ spin_reply old.core.id (spin_call_of c.args.wish) t.0 = t.1 ∙ (λ i. spin_reply (old.same_spins i) (c.spin_call_of.ensures i) t.0) in
     let none = unspun old.core.id c.args.wish t.0 (λ item names. c.in_default.not-Some item (c.named.ensures ∙ ap (spun c.args.wish) reply ∙ names)) in
-    spin-idle old.run.now.config.now stimuli loads old.core (made_from old.seats) _ _ done (entry old.seats.spins.core c.spin_call_of.result c.call.result) _ (reply ∙ none.refused) refl c.call.ensures.mine
+    let refused : c.call.result ≡ Answered false = reply ∙ none.refused in
+    spin-idle old.run.now.config.now stimuli loads old.core (made_from old.seats) _ _ done c.args.wish (entry old.seats.spins.core c.spin_call_of.result c.call.result) _
+    c.requires.asked none.waits (λ i. entry (old.same_spins i) (c.spin_call_of.ensures i) (refused i)) refl c.call.ensures.mine
 
 pub returns-in_default-clause-stuck : goal.returns-in_default-clause-stuck
 returns-in_default-clause-stuck g c =
