@@ -203,8 +203,8 @@ kept-cores plan inside sayable =
     let within = limit-parts plan inside in
     all-both _ _ plan.cores (all-both _ _ plan.cores (all-both _ _ plan.cores within.cores within.known) within.timed) (text-parts plan sayable).cores
 
-right-of-four : (a b c d : Verdict) → is_right a ≡ true → is_right b ≡ true → is_right c ≡ true → is_right d ≡ true → is_right (both (both (both a b) c) d) ≡ true
-right-of-four a b c d first second third fourth = grind arith
+right-of-core : (mode : Bool) (a b c d : Verdict) → mode ≡ true → is_right a ≡ true → is_right b ≡ true → is_right c ≡ true → is_right d ≡ true → is_right (with_names mode (both (both (both a b) c) d)) ≡ true
+right-of-core mode a b c d known first second third fourth = rw known (grind arith)
 
 right-of-each : {X Y : Type 0} (p : X → Bool) (g : X → Y) (f : Y → Verdict) → ((x : X) → p x ≡ true → is_right (f (g x)) ≡ true) → (xs : List X) → list_all p xs ≡ true → is_right (each_verdict f (map g xs)) ≡ true
 right-of-each p g f right xs all = each-right f (map g xs) ∙ list_all-by p (λ y. is_right (f y)) g right xs all
@@ -296,17 +296,13 @@ module _ (plan : Plan) (inside : IsTrue (limits.is_within_limits plan)) (sayable
   auto-shape modes shape write text_of each None h = refl
   auto-shape modes shape write text_of each (Some x) h = each x h
 
-  -- its counter's name is in form, since the counter is one of the configuration
-  counter-formed : (counter : CounterRef) → limits.is_object plan (counter_object counter) ≡ true → is_name (counter_name plan counter) ≡ true
-  counter-formed counter known = (object-named (counter_object counter) known).in_form
-
   alarm-shape : (alarm : Alarm) → (is_alarm_expressible alarm && limits.is_alarm_known plan alarm) ≡ true → alarm_shape (alarm_data plan alarm) ≡ Some (alarm_said plan alarm)
   unfolding alarm_shape
   alarm-shape alarm h =
       let both = and_parts (is_alarm_expressible alarm) (limits.is_alarm_known plan alarm) h in
       let says = and_parts (is_name alarm.name) (is_action_expressible alarm.action) both.0 in
       let known = three-parts (limits.is_object plan (counter_object alarm.counter)) (limits.is_action_known plan alarm.action) (list_all (limits.is_mode plan) (alarm_modes alarm)) both.1 in
-      rw (says.0, counter-formed alarm.counter known.0, auto-shape (λ (auto : AlarmStart). auto.modes) alarm_start_shape (start_data plan) (start_said plan) (λ auto e. rw (start-shape auto e) refl) alarm.auto known.2) refl
+      rw (says.0, (object-named (counter_object alarm.counter) known.0).in_form, auto-shape (λ (auto : AlarmStart). auto.modes) alarm_start_shape (start_data plan) (start_said plan) (λ auto e. rw (start-shape auto e) refl) alarm.auto known.2) refl
 
   point-shape : (point : ExpiryPoint) → point_shape (point_data plan point) ≡ Some (point_said plan point)
   unfolding point_shape
@@ -320,7 +316,7 @@ module _ (plan : Plan) (inside : IsTrue (limits.is_within_limits plan)) (sayable
       let known = three-parts (limits.is_object plan (counter_object table.counter)) (list_all (limits.is_action_known plan) (table_actions table)) (list_all (limits.is_mode plan) (table_modes table)) both.1 in
       rw (
         says.0,
-        counter-formed table.counter known.0,
+        (object-named (counter_object table.counter) known.0).in_form,
         each-items point_shape (point_data plan) (point_said plan) (λ (point : ExpiryPoint). true) (λ point e. point-shape point) table.points (always table.points),
         auto-shape (λ (auto : TableStart). auto.modes) table_start_shape (table_start_data plan) (table_start_said plan) (λ auto e. rw (table-start-shape auto e) refl) table.auto known.2,
       ) refl
@@ -429,16 +425,13 @@ module _ (plan : Plan) (inside : IsTrue (limits.is_within_limits plan)) (sayable
       (core-has core parts.0 found.0, cores-have cores parts.1 found.1)
 
   -- The name of a counter of the configuration stands for it,
-  counter-placed : (counter : CounterRef) → limits.is_object plan (counter_object counter) ≡ true → place_of objects ObjectKind.Counter (counter_name plan counter) ≡ Some (counter_place counter)
-  counter-placed counter known = (object-named (counter_object counter) known).found
-
   counter-ref-back : (id : CoreId) (counter : CounterRef) → limits.is_object plan (counter_object counter) ≡ true → counter_ref objects id (counter_name plan counter) ≡ counter
-  counter-ref-back id counter known = rw (counter-placed counter known) refl
+  counter-ref-back id counter known = rw (object-named (counter_object counter) known).found refl
 
   -- and its numbers are the counter's.
   counter-named : (id : CoreId) (counter : CounterRef) → limits.is_object plan (counter_object counter) ≡ true → NamedCounter plan objects id (counter_name plan counter)
   counter-named id counter known =
-      named-counter plan (config_said plan) id (counter_name plan counter) apart (cores-have plan.cores cores (each-found plan.cores bounds.distinct)) (ap is_some (counter-placed counter known))
+      named-counter plan (config_said plan) id (counter_name plan counter) apart (cores-have plan.cores cores (each-found plan.cores bounds.distinct)) (ap is_some (object-named (counter_object counter) known).found)
 
   -- The numbers of a counter, as its name finds them in the text.
   counter-sized : (id : CoreId) (counter : CounterRef) (known : limits.is_object plan (counter_object counter) ≡ true) → option_map limits.counter_sizes (counter_in plan counter) ≡ Some (counter-named id counter known).sizes
@@ -502,16 +495,13 @@ module _ (plan : Plan) (inside : IsTrue (limits.is_within_limits plan)) (sayable
       ) refl
 
   -- The name of a spinlock's successor stands for it.
-  spinlock-placed : (spinlock : SpinlockId) → limits.is_spinlock plan spinlock ≡ true → place_of objects ObjectKind.Spinlock (spinlock_name plan spinlock) ≡ Some (spinlock_place spinlock)
-  spinlock-placed spinlock h = (object-named (spinlock_object spinlock) (there-spinlock plan none spinlock h)).found
-
   next-back : (next : Option SpinlockId) → option_map_or (limits.is_spinlock plan) next true ≡ true → option_and_then (spinlock_ref objects) (option_map (spinlock_name plan) next) ≡ next
   next-back None h = refl
-  next-back (Some spinlock) h = rw (spinlock-placed spinlock h) refl
+  next-back (Some spinlock) h = rw (object-named (spinlock_object spinlock) (there-spinlock plan none spinlock h)).found refl
 
   next-known : (next : Option SpinlockId) → option_map_or (limits.is_spinlock plan) next true ≡ true → option_map_or (λ (name : List ℕ). is_some (place_of objects ObjectKind.Spinlock name)) (option_map (spinlock_name plan) next) true ≡ true
   next-known None h = refl
-  next-known (Some spinlock) h = rw (spinlock-placed spinlock h) refl
+  next-known (Some spinlock) h = rw (object-named (spinlock_object spinlock) (there-spinlock plan none spinlock h)).found refl
 
   spinlock-back : (spinlock : Spinlock) → limits.is_spinlock_known plan spinlock ≡ true → spinlock_plan objects (spinlock_said plan spinlock) ≡ spinlock
   spinlock-back spinlock h = rw (next-back spinlock.next h) refl
@@ -582,7 +572,7 @@ module _ (plan : Plan) (inside : IsTrue (limits.is_within_limits plan)) (sayable
   alarm-right : (id : CoreId) (alarm : Alarm) → is_kept_alarm plan alarm ≡ true → is_right (alarm_verdict objects id (alarm_said plan alarm)) ≡ true
   alarm-right id alarm h =
       let parts = alarm-parts plan alarm h in
-      acting-right _ _ _ _ _ (ap is_some (counter-placed alarm.counter parts.1)) (action-right alarm.action (kept-action plan alarm.action parts.2)) (auto-known (λ (auto : AlarmStart). auto.modes) (λ (auto : AlarmStartText). auto.modes) (start_said plan) (λ auto. refl) alarm.auto parts.3)
+      acting-right _ _ _ _ _ (ap is_some (object-named (counter_object alarm.counter) parts.1).found) (action-right alarm.action (kept-action plan alarm.action parts.2)) (auto-known (λ (auto : AlarmStart). auto.modes) (λ (auto : AlarmStartText). auto.modes) (start_said plan) (λ auto. refl) alarm.auto parts.3)
 
   point-right : (point : ExpiryPoint) → is_kept_point plan point ≡ true → is_right (point_verdict objects (point_said plan point)) ≡ true
   point-right point h = right-of-each (is_kept_action plan) (action_said plan) (action_verdict objects) action-right point.actions (and_parts (is_between 0 1000000000 (Some point.offset)) (list_all (is_kept_action plan) point.actions) h).1
@@ -591,15 +581,14 @@ module _ (plan : Plan) (inside : IsTrue (limits.is_within_limits plan)) (sayable
   table-right id table h =
       let parts = table-parts plan table h in
       let points = right-of-each (is_kept_point plan) (point_said plan) (point_verdict objects) point-right table.points (kept-points plan table h) in
-      acting-right _ _ _ _ _ (ap is_some (counter-placed table.counter parts.1)) points (auto-known (λ (auto : TableStart). auto.modes) (λ (auto : TableStartText). auto.modes) (table_start_said plan) (λ auto. refl) table.auto parts.3)
+      acting-right _ _ _ _ _ (ap is_some (object-named (counter_object table.counter) parts.1).found) points (auto-known (λ (auto : TableStart). auto.modes) (λ (auto : TableStartText). auto.modes) (table_start_said plan) (λ auto. refl) table.auto parts.3)
 
   core-right : (core : Core) → is_kept_core plan core ≡ true → is_right (core_verdict objects (core_said plan core)) ≡ true
   core-right core h =
       let kept = kept-core plan core h in
       let id = id_of (core_said plan core) in
-      let four = both (both (both (each_verdict (task_verdict objects id) (map (task_said plan) core.tasks)) (each_verdict (λ (isr : IsrText). isr_verdict objects id isr.script) (map (isr_said plan) core.isrs))) (each_verdict (alarm_verdict objects id) (map (alarm_said plan) core.alarms))) (each_verdict (table_verdict objects id) (map (table_said plan) core.tables)) in
-      ap (λ known. is_right (with_names known four)) (core-mode-known core.mode kept.mode)
-      ∙ right-of-four (each_verdict (task_verdict objects id) (map (task_said plan) core.tasks)) (each_verdict (λ (isr : IsrText). isr_verdict objects id isr.script) (map (isr_said plan) core.isrs)) (each_verdict (alarm_verdict objects id) (map (alarm_said plan) core.alarms)) (each_verdict (table_verdict objects id) (map (table_said plan) core.tables))
+      right-of-core _ (each_verdict (task_verdict objects id) (map (task_said plan) core.tasks)) (each_verdict (λ (isr : IsrText). isr_verdict objects id isr.script) (map (isr_said plan) core.isrs)) (each_verdict (alarm_verdict objects id) (map (alarm_said plan) core.alarms)) (each_verdict (table_verdict objects id) (map (table_said plan) core.tables))
+      (core-mode-known core.mode kept.mode)
       (right-of-each (is_kept_task plan) (task_said plan) (task_verdict objects id) (task-right id) core.tasks kept.tasks)
       (right-of-each (is_kept_isr plan) (isr_said plan) (λ (isr : IsrText). isr_verdict objects id isr.script) (isr-right id) core.isrs kept.isrs)
       (right-of-each (is_kept_alarm plan) (alarm_said plan) (alarm_verdict objects id) (alarm-right id) core.alarms kept.alarms)
@@ -662,8 +651,7 @@ module _ (plan : Plan) (inside : IsTrue (limits.is_within_limits plan)) (sayable
   points-numbers (point ∷ points) = rw (length-map point.actions (action_said plan), points-numbers points) refl
 
   table-auto-numbers : (auto : Option TableStart) → option_map (λ (auto : TableStartText). auto.offset) (option_map (table_start_said plan) auto) ≡ option_map (λ (auto : TableStart). Some auto.offset) auto
-  table-auto-numbers None = refl
-  table-auto-numbers (Some auto) = refl
+  table-auto-numbers auto = grind arith
 
   table-numbers : (id : CoreId) (table : Table) → is_kept_table plan table ≡ true → table_sizes objects (table_said plan table) ≡ limits.table_sizes (counter_in plan) table
   table-numbers id table h = rw (points-numbers table.points, table-auto-numbers table.auto, counter-numbers id table.counter (table-parts plan table h).1) refl
