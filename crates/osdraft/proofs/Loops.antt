@@ -2,10 +2,8 @@
 use Rattle.std.proofs.Common.{◌≡◌, ◌&&◌, Bool, true, false, List, [], ◌∷◌, ◌++◌, map, None, refl, sym, ap, ◌∙◌, append_assoc, arith}
 use Rattle.std.specs.List.{list_all}
 use Rattle.std.proofs.lemmas.List.{append-nil}
-use Rattle.osplan.specs.declared.faults.ConfFault.{ConfFault}
-use Rattle.osplan.specs.Fault.{first_fault}
-use Rattle.oscheck.specs.declared.verdicts.Verdict.{Verdict}
-use Rattle.oscheck.specs.Verdict.{all_right, both, each}
+use Rattle.osplan.specs.{declared.faults.ConfFault.ConfFault, Fault.first_fault}
+use Rattle.oscheck.specs.{declared.verdicts.Verdict.Verdict, Verdict.all_right, Verdict.both, Verdict.each}
 
 both-right : (v : Verdict) → both v all_right ≡ v
 both-right v = grind arith

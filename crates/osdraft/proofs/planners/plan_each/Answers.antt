@@ -1,7 +1,6 @@
 use Rattle.std.proofs.Common.{inl, inr, ◌≡◌, ◌⊎◌, ◌+◌, false, drop, arith}
 use Rattle.std.specs.List.{list_all}
-use Rattle.std.proofs.lemmas.List.{drop_all}
-use Rattle.std.proofs.lemmas.Result.{err_from_is_err_and}
+use Rattle.std.proofs.{lemmas.List.drop_all, lemmas.Result.err_from_is_err_and}
 use Rattle.osplan.specs.declared.faults.ConfFault.TheVariants.{Limit, NoMemory}
 use Rattle.osread.proofs.Each.{drop-here}
 use Rattle.osdraft.proofs.Loops.{at-end, at-first, one-more, too-long}

@@ -1,9 +1,7 @@
 use Rattle.std.proofs.Common.{inl, inr, ◌≡◌, ◌⊎◌, ◌&&◌, ◌∙◌, false, refl, ap}
 use Rattle.std.specs.List.{list_all}
-use Rattle.std.proofs.lemmas.Bool.{and_from, and_right}
-use Rattle.std.proofs.lemmas.Result.{err_from_is_err_and}
-use Rattle.oscheck.specs.Check.{is_core_short, is_script_short}
-use Rattle.oscheck.specs.Words.{IsrText}
+use Rattle.std.proofs.{lemmas.Bool.and_from, lemmas.Bool.and_right, lemmas.Result.err_from_is_err_and}
+use Rattle.oscheck.specs.{Check.is_core_short, Check.is_script_short, Words.IsrText}
 use Rattle.oscheck.proofs.Counting.{core_shorts}
 use Rattle.osplan.specs.declared.faults.ConfFault.TheVariants.{Limit, NoMemory}
 use Rattle.osdraft.proofs.plans.TextPlannerPlannerCoreTextCore.plan.Goals as goal
