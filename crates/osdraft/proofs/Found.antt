@@ -131,23 +131,23 @@ module _ (t : ConfigText) where
 
 -- ---- what a name stands for
 
-place-is : (kind : ObjectKind) (d : Declaration) (place : Place) (b : Bool) → same_kind d.kind kind ≡ b → cond b (Some (object_of d).place) None ≡ Some place → object_of d ≡ record { kind = kind; place = place }
-place-is kind d place true same is =
-    let there : (object_of d).place ≡ place = cc in
-    ap (λ (k : ObjectKind). let o : Object = record { kind = k; place = (object_of d).place } in o) (same_kind-true d.kind kind same) ∙ ap (λ (p : Place). let o : Object = record { kind = kind; place = p } in o) there
-place-is kind d place false same is = cc
-
-found-there : (t : ConfigText) (kind : ObjectKind) (name : List ℕ) (place : Place) (o : Option Declaration) → find (has_name name) (declarations t) ≡ o → option_and_then (place_in kind) o ≡ Some place → AllByRecursion (IsThere t) (declarations t)
-    → is_object (plan_of t) (record { kind = kind; place = place }) ≡ true
-found-there t kind name place None found is there = cc
-found-there t kind name place (Some d) found is there =
-    ap (is_object (plan_of t)) (sym (place-is kind d place (same_kind d.kind kind) refl is)) ∙ found-is (IsThere t) (has_name name) (declarations t) d there found
+-- The object that has a name which has a place.
+declared-as : (objects : List Declaration) (kind : ObjectKind) (name : List ℕ) → is_some (place_of objects kind name) ≡ true → (d : Declaration) × (find (has_name name) objects ≡ Some d) × (same_kind d.kind kind ≡ true)
+declared-as objects kind name = by (find (has_name name) objects) refl
+  where
+    by : (o : Option Declaration) → find (has_name name) objects ≡ o → is_some (option_and_then (place_in kind) o) ≡ true → (d : Declaration) × (find (has_name name) objects ≡ Some d) × (same_kind d.kind kind ≡ true)
+    by None found some = absurd (true≢false (sym some))
+    by (Some d) found some = (d, found, grind arith)
 
 -- A name that has a place stands for an object of the plan.
 pub place-known : (t : ConfigText) → are_numbers_distinct (limits.numbers_of (plan_of t).cores) ≡ true → core_of (plan_of t) NOBODY ≡ None → (kind : ObjectKind) (name : List ℕ) (place : Place) → place_of (declarations t) kind name ≡ Some place
     → is_object (plan_of t) (record { kind = kind; place = place }) ≡ true
 place-known t distinct alone kind name place is =
-    found-there t kind name place (find (has_name name) (declarations t)) refl is (all-there t alone (each-found (plan_of t).cores distinct))
+    let d = declared-as (declarations t) kind name (ap is_some is) in
+    let at : Some (object_of d.0).place ≡ Some place = rw (d.1, d.2) at is in
+    let here : (object_of d.0).place ≡ place = cc in
+    let same : object_of d.0 ≡ object_at kind place = ap (λ (k : ObjectKind). object_at k (object_of d.0).place) (same_kind-true d.0.kind kind d.2) ∙ ap (object_at kind) here in
+    ap (is_object (plan_of t)) (sym same) ∙ found-is (IsThere t) (has_name name) (declarations t) d.0 (all-there t alone (each-found (plan_of t).cores distinct)) d.1
 
 -- ---- the counters that a text names are those of a configuration that has the text's counters
 
@@ -198,27 +198,12 @@ pub record NamedCounter (plan : Plan) (objects : List Declaration) (id : CoreId)
   pub planned : option_map limits.counter_sizes (counter_in plan (counter_ref objects id name)) ≡ Some sizes
   pub within : is_counter_within sizes ≡ true
 
-counter-if : (plan : Plan) (objects : List Declaration) (id : CoreId) (name : List ℕ) (d : Declaration) (b : Bool) → same_kind d.kind ObjectKind.Counter ≡ b → is_alone objects name ≡ true → find (has_name name) objects ≡ Some d → IsSized plan d d.kind
-    → is_some (place_of objects ObjectKind.Counter name) ≡ true → NamedCounter plan objects id name
-counter-if plan objects id name d true kind once found sized known =
-    let counter : IsSized plan d ObjectKind.Counter = subst (IsSized plan d) (same_kind-true d.kind ObjectKind.Counter kind) sized in
-    record {
-      sizes = declared_sizes d;
-      declared = rw (once, found, kind) refl;
-      planned = rw (found, kind) counter.0;
-      within = counter.1;
-    }
-counter-if plan objects id name d false kind once found sized known =
-    let none : is_some (place_of objects ObjectKind.Counter name) ≡ false = rw (found, kind) refl in
-    absurd (true≢false (sym known ∙ none))
-
-counter-by : (plan : Plan) (objects : List Declaration) (id : CoreId) (name : List ℕ) (o : Option Declaration) → find (has_name name) objects ≡ o → are_distinct (names_of objects) ≡ true → AreSized plan objects → is_some (place_of objects ObjectKind.Counter name) ≡ true → NamedCounter plan objects id name
-counter-by plan objects id name None found apart sized known =
-    let none : is_some (place_of objects ObjectKind.Counter name) ≡ false = rw found refl in
-    absurd (true≢false (sym known ∙ none))
-counter-by plan objects id name (Some d) found apart sized known =
-    counter-if plan objects id name d (same_kind d.kind ObjectKind.Counter) refl (alone objects name d apart found) found (found-is (λ (d : Declaration). IsSized plan d d.kind) (has_name name) objects d sized found) known
-
 pub named-counter : (plan : Plan) (t : ConfigText) (id : CoreId) (name : List ℕ) → are_distinct (names_of (declarations t)) ≡ true → AllByRecursion (HasCounters plan) t.cores → is_some (place_of (declarations t) ObjectKind.Counter name) ≡ true
     → NamedCounter plan (declarations t) id name
-named-counter plan t id name apart has known = counter-by plan (declarations t) id name (find (has_name name) (declarations t)) refl apart (all-sized plan t has) known
+named-counter plan t id name apart has known =
+    let objects = declarations t in
+    let d = declared-as objects ObjectKind.Counter name known in
+    let once = alone objects name d.0 apart d.1 in
+    let sized = found-is (λ (d : Declaration). IsSized plan d d.kind) (has_name name) objects d.0 (all-sized plan t has) d.1 in
+    let counter : IsSized plan d.0 ObjectKind.Counter = subst (IsSized plan d.0) (same_kind-true d.0.kind ObjectKind.Counter d.2) sized in
+    record { sizes = declared_sizes d.0; declared = rw (once, d.1, d.2) refl; planned = rw (d.1, d.2) counter.0; within = counter.1 }

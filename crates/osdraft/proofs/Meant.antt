@@ -90,15 +90,10 @@ module _ (objects : List Declaration) (apart : are_distinct (names_of objects) �
 
 -- ---- numbers within their limits are bytes, or words of 32 bits
 
-few-activations : (extended : Bool) → most_activations extended ≤ 64
-few-activations extended = grind arith
-
 pub task-bytes : (s : TaskSizes) → is_task_within s ≡ true → IsByte s.priority × IsByte s.activations × IsWord s.budget
-task-bytes s h = (
-  is-byte 0 31 s.priority (grind arith) (omega arith),
-  is-byte 1 (most_activations s.extended) s.activations (grind arith) (omega (arith, few-activations s.extended)),
-  is-word 0 1000000000 s.budget (grind arith) (omega arith),
-)
+task-bytes s h =
+    let few : most_activations s.extended ≤ 64 = grind arith in
+    (is-byte 0 31 s.priority (grind arith) (omega arith), is-byte 1 (most_activations s.extended) s.activations (grind arith) (omega arith), is-word 0 1000000000 s.budget (grind arith) (omega arith))
 
 pub isr-bytes : (s : IsrSizes) → is_isr_within s ≡ true → IsByte s.level × IsWord s.budget
 isr-bytes s h = (is-byte 1 16 s.level (grind arith) (omega arith), is-word 0 1000000000 s.budget (grind arith) (omega arith))

@@ -1,17 +1,13 @@
 -- An object's name stands for the object, since no other has it; and what the place of an object finds in a configuration.
 use Rattle.std.proofs.Common.{◌≡◌, ℕ, zero, suc, ◌+◌, ◌≤◌, ◌⊎◌, Bool, true, false, not, cond, List, [], ◌∷◌, ◌++◌, length, map, Option, Some, option_and_then, inl, inr, refl, sym, ap, ◌∙◌, subst, arith, ◌<◌, nat_lt, None, option_map, unwrap_or, IsTrue}
 use Rattle.std.specs.List.{list_any, enumerate_from, find, flat_map, slice_get, list_all}
-use Rattle.std.specs.Str.{bytes_eq}
+use Rattle.std.specs.{Str.bytes_eq, Option.option_map_or}
 use Rattle.std.proofs.lemmas.Bool.{and_parts, not-true, or_cases, or_left, or_right, true≢false, eqb-true, cases_Bool, ltb-true}
-use Rattle.std.proofs.lemmas.List.{length-map}
-use Rattle.std.proofs.lemmas.Simd.{map-map}
-use Rattle.std.proofs.lemmas.Slice.Eq.{bytes_eq-Decides}
+use Rattle.std.proofs.{lemmas.List.length-map, lemmas.Simd.map-map, lemmas.Slice.Eq.bytes_eq-Decides, lemmas.List.Folds.flat_map-map, lemmas.List.Folds.list_all-map, lemmas.Option.slice_get-map}
 use Rattle.oscheck.specs.Words.{Core, CoreId, Declaration, Named, ObjectKind, Place, Plan, Object, Spinlock, SpinlockText}
-use Rattle.osbase.specs.History.{same_core}
-use Rattle.osbase.specs.Objects.{place_on, same_kind}
-use Rattle.osbase.specs.declared.objects.TheConstants.{NOBODY}
-use Rattle.osbase.proofs.Same.{same_core-true, same_kind-self, same_kind-true}
-use Rattle.osplan.specs.declared.plans.TheConstants.{COMMON, KINDS}
+use Rattle.osbase.specs.{History.same_core, Objects.place_on, Objects.same_kind, declared.objects.TheConstants.NOBODY, Names.is_name}
+use Rattle.osbase.proofs.{Same.same_core-true, Same.same_kind-self, Same.same_kind-true, Places.passes-at}
+use Rattle.osplan.specs.{declared.plans.TheConstants.COMMON, declared.plans.TheConstants.KINDS, View.core_of, Limits.is_object, Limits.is_within_limits, Limits.sizes_of, Names.common_name, Names.name_in, Names.name_of}
 use Rattle.osplan.specs.Expressible.{are_distinct, declared_names, is_core_expressible, is_expressible, is_mode_expressible}
 use Rattle.osplan.specs.Objects.{common_names, is_common, names_in, object_count}
 use Rattle.osplan.proofs.Tests.{all-weaker, any-mapped, find-holds, find-passes}
@@ -20,15 +16,7 @@ use Rattle.osshape.specs.Shape.{common_in, objects_in}
 use Rattle.osshape.proofs.Naming.{common-named, names-of-all, names-of-text}
 use Rattle.osdraft.proofs.Found.{byte-small}
 use Rattle.oswrite.proofs.Said.{config_said, core_said, spinlock_said}
-use Rattle.std.specs.Option.{option_map_or}
-use Rattle.std.proofs.lemmas.List.Folds.{flat_map-map, list_all-map}
-use Rattle.std.proofs.lemmas.Option.{slice_get-map}
-use Rattle.osbase.specs.Names.{is_name}
-use Rattle.osplan.specs.View.{core_of}
-use Rattle.osplan.specs.Limits.{is_object, is_within_limits, sizes_of}
-use Rattle.osbase.proofs.Places.{passes-at}
 use Rattle.osplan.proofs.Within.{core-fits, core-text-parts, few-modes, few-objects, few-spinlocks, limit-parts, names-formed, text-parts}
-use Rattle.osplan.specs.Names.{common_name, name_in, name_of}
 
 -- ---- where no name stands twice, each object is found by its name
 
@@ -162,17 +150,22 @@ pub record Found (plan : Plan) (object : Object) (name : List ℕ) : Type 0 wher
   pub low : object.place.index ≤ 255
 
 module _ (plan : Plan) (inside : IsTrue (is_within_limits plan)) (sayable : IsTrue (is_expressible plan)) where
-  -- of so many objects of a kind, which have these names,
-  here-by : (place : Place) (names : List (List ℕ)) (objects : List Named) → names ≡ map (λ (o : Named). o.name) objects → list_all is_name names ≡ true → (i : ℕ) → i < length names
-      → (o : Named) × (slice_get objects i ≡ Some o) × (unwrap_or (slice_get names i) [] ≡ o.name) × (is_name o.name ≡ true)
-  here-by place names objects named formed i within =
-      let many = length-map objects (λ (o : Named). o.name) in
-      let count : length names ≡ length (map (λ (o : Named). o.name) objects) = ap length named in
-      let here = get-some objects i (omega (arith, within, many, count)) in (
-        here.0,
-        here.1,
-        ap (λ (names : List (List ℕ)). unwrap_or (slice_get names i) []) named ∙ ap (λ (o : Option (List ℕ)). unwrap_or o []) (slice_get-map (λ (o : Named). o.name) objects i) ∙ ap (λ (o : Option Named). unwrap_or (option_map (λ (o : Named). o.name) o) []) here.1,
-        passes-at (λ (o : Named). is_name o.name) objects i here.0 (sym (list_all-map is_name (λ (o : Named). o.name) objects) ∙ ap (list_all is_name) (sym named) ∙ formed) here.1,
+  -- The name of one of so many objects of a kind, which have these names and all stand in the text.
+  found-by : (object : Object) (id : CoreId) (names : List (List ℕ)) (objects : List Named) → id ≡ object.place.core → name_of plan object.kind object.place ≡ unwrap_or (slice_get names object.place.index) [] → names ≡ map (λ (o : Named). o.name) objects → list_all is_name names ≡ true → object.place.index < length names
+      → object.place.index ≤ 255 → ((o : Named) → slice_get objects object.place.index ≡ Some o → Stands (declarations (config_said plan)) (declaration id object.kind (object.place.index, o))) → (name : List ℕ) × Found plan object name
+  found-by object id names objects is called named formed within low stands =
+      let i = object.place.index in
+      let count : length names ≡ length objects = ap length named ∙ length-map objects (λ (o : Named). o.name) in
+      let here = get-some objects i (omega arith) in (
+        here.0.name,
+        record {
+          name_is = called ∙ ap (λ (names : List (List ℕ)). unwrap_or (slice_get names i) []) named ∙ ap (λ (o : Option (List ℕ)). unwrap_or o []) (slice_get-map (λ (o : Named). o.name) objects i ∙ ap (option_map (λ (o : Named). o.name)) here.1);
+          in_form = passes-at (λ (o : Named). is_name o.name) objects i here.0 (sym (list_all-map is_name (λ (o : Named). o.name) objects) ∙ ap (list_all is_name) (sym named) ∙ formed) here.1;
+          max = here.0.max;
+          min = here.0.min;
+          declared = subst (λ (id : CoreId). Stands (declarations (config_said plan)) (declaration id object.kind (i, here.0))) is (stands here.0 here.1);
+          low = low;
+        },
       )
 
   common-formed : (kind : ObjectKind) → list_all is_name (common_names kind plan) ≡ true
@@ -191,21 +184,11 @@ module _ (plan : Plan) (inside : IsTrue (is_within_limits plan)) (sayable : IsTr
       let index = object.place.index in
       let t = config_said plan in
       let parts = and_parts (same_core object.place.core NOBODY) (nat_lt index (length (common_names kind plan))) known in
-      let stands : object.place.core ≡ NOBODY = same_core-true object.place.core NOBODY parts.0 in
       let within = ltb-true index (length (common_names kind plan)) parts.1 in
       let few = common-few kind in
-      let here = here-by object.place (common_names kind plan) (common_in kind t) (common-said plan kind) (common-formed kind) index within in
-      let among = stands-front (flat_map (common_of t) COMMON) (flat_map declared_by t.cores) _ (common-stands plan kind index here.0 here.1) in (
-        here.0.name,
-        record {
-          name_is = ap (λ (o : Option Core). option_map_or (λ (c : Core). name_in kind c index) o (common_name plan kind object.place)) is ∙ ap (λ b. cond b (unwrap_or (slice_get (common_names kind plan) index) []) []) parts.0 ∙ here.2;
-          in_form = here.3;
-          max = here.0.max;
-          min = here.0.min;
-          declared = subst (λ (id : CoreId). Stands (declarations t) (declaration id kind (index, here.0))) (sym stands) among;
-          low = omega (arith, within, few);
-        },
-      )
+      let called = ap (λ (o : Option Core). option_map_or (λ (c : Core). name_in kind c index) o (common_name plan kind object.place)) is ∙ ap (λ b. cond b (unwrap_or (slice_get (common_names kind plan) index) []) []) parts.0 in
+      found-by object NOBODY (common_names kind plan) (common_in kind t) (sym (same_core-true object.place.core NOBODY parts.0)) called (common-said plan kind) (common-formed kind) within (omega (arith, within, few))
+      (λ o at. stands-front (flat_map (common_of t) COMMON) (flat_map declared_by t.cores) _ (common-stands plan kind index o at))
   found-if object (Some core) is known =
       let said = core-text-parts core (find-passes (λ (c : Core). same_core c.id object.place.core) is_core_expressible plan.cores core (text-parts plan sayable).cores is) in
       let fits = core-fits plan object.place.core core inside is in
@@ -216,21 +199,12 @@ module _ (plan : Plan) (inside : IsTrue (is_within_limits plan)) (sayable : IsTr
       let few = few-objects core fits kind in
       let within = ltb-true index (object_count kind core) known in
       let many : length (names_in kind core) ≡ object_count kind core = ap length (kind-named plan core kind) ∙ length-map (objects_in kind text) (λ (o : Named). o.name) ∙ as-many plan core kind in
-      let here = here-by object.place (names_in kind core) (objects_in kind text) (kind-named plan core kind) (names-formed core said kind) index (omega (arith, within, many)) in
       let low = ltb-true core.id.number 16 fits.number in
       let number : core.id.number ≡ object.place.core.number = eqb-true core.id.number object.place.core.number (find-holds (λ (c : Core). same_core c.id object.place.core) plan.cores core is) in
       let stands : id_of text ≡ object.place.core = ap (λ (n : ℕ). let id : CoreId = record { number = n } in id) (byte-small core.id.number (omega (arith, low)) ∙ number) in
-      let among = stands-back (flat_map (common_of t) COMMON) (flat_map declared_by t.cores) _ (in-cores plan plan.cores object.place.core core _ is (object-stands plan core kind index here.0 here.1)) in (
-        here.0.name,
-        record {
-          name_is = ap (λ (o : Option Core). option_map_or (λ (c : Core). name_in kind c index) o (common_name plan kind object.place)) is ∙ here.2;
-          in_form = here.3;
-          max = here.0.max;
-          min = here.0.min;
-          declared = subst (λ (id : CoreId). Stands (declarations t) (declaration id kind (index, here.0))) stands among;
-          low = omega (arith, within, few);
-        },
-      )
+      let called = ap (λ (o : Option Core). option_map_or (λ (c : Core). name_in kind c index) o (common_name plan kind object.place)) is in
+      found-by object (id_of text) (names_in kind core) (objects_in kind text) stands called (kind-named plan core kind) (names-formed core said kind) (omega (arith, within, many)) (omega (arith, within, few))
+      (λ o at. stands-back (flat_map (common_of t) COMMON) (flat_map declared_by t.cores) _ (in-cores plan plan.cores object.place.core core _ is (object-stands plan core kind index o at)))
 
   pub found : (object : Object) → is_object plan object ≡ true → (name : List ℕ) × Found plan object name
   found object known = found-if object (core_of plan object.place.core) refl known

@@ -1,70 +1,46 @@
 -- The data of a configuration has the shape of one. So its text has no fault, and means the configuration.
 use Rattle.std.proofs.Common.{◌≡◌, ℕ, ◌&&◌, Bool, true, List, [], ◌∷◌, map, Option, Some, None, option_map, IsTrue, refl, sym, ap, ◌∙◌, arith, ◌<◌, is_some, unwrap_or, length, option_and_then, not}
-use Rattle.std.specs.List.{list_all, AllByRecursion}
-use Rattle.std.specs.Option.{option_map_or}
-use Rattle.std.proofs.lemmas.Bool.{and_parts, and_from, or_right}
-use Rattle.std.specs.Str.{bytes_eq}
-use Rattle.serde_json.specs.Data.{Data, string}
-use Rattle.serde_json.specs.View.{items_of}
+use Rattle.std.specs.{List.list_all, List.AllByRecursion, Option.option_map_or, Str.bytes_eq}
+use Rattle.std.proofs.{lemmas.Bool.and_parts, lemmas.Bool.and_from, lemmas.Bool.or_right, lemmas.List.Folds.list_all-map, lemmas.Simd.map-map, lemmas.List.length-map, lemmas.List.map-append, lemmas.List.map-id}
+use Rattle.serde_json.specs.{Data.Data, Data.string, View.items_of, Find.as_str, Read.read}
 use Rattle.osbase.specs.Objects.{counter_object, counter_place, mode_object, mode_place, object_of_call, spinlock_object, spinlock_of, spinlock_place}
-use Rattle.osbase.specs.declared.objects.TheConstants.{NOBODY}
+use Rattle.osbase.specs.{declared.objects.TheConstants.NOBODY, Names.is_name, History.same_core, declared.items.CoreMode.TheVariants.Named, declared.items.CoreMode.TheVariants.DontCare}
 use Rattle.oscheck.specs.Words.{Alarm, AlarmStart, Core, Counter, CounterRef, ExpiryPoint, Isr, IsrText, ModeId, Plan, RemoteCall, Resource, Table, TableStart, Task, CoreId, CoreMode, Declaration, Object, ObjectKind, Op, AlarmStartText, ResourceText, Spinlock, SpinlockId, SpinlockText, TableStartText, TableText}
-use Rattle.osbase.specs.Names.{is_name}
 use Rattle.osplan.specs.Limits as limits
 use Rattle.osplan.specs.Limits.{number_of, CoreSizes, CounterSizes, PointSizes, TableSizes, are_counters_within, is_alarm_within, is_between, is_start, is_table_start_within, is_table_timed, is_table_within, is_task_within, is_isr_within, is_core_within, same_number, has_number, are_numbers_distinct}
 use Rattle.osplan.specs.Expressible.{dont_care, is_mode_expressible, is_task_expressible, is_isr_expressible, is_resource_expressible, is_counter_expressible, is_action_expressible, is_alarm_expressible, is_spinlock_expressible, is_table_expressible, is_core_expressible, is_expressible}
 use Rattle.osread.specs.Reading.{each}
 use Rattle.osread.specs.Json.{elements, whole_of, name_of as read_name, or_null}
-use Rattle.serde_json.specs.Find.{as_str}
 use Rattle.osshape.specs.Shape.{mode_shape, task_shape, isr_shape, resource_shape, counter_shape, alarm_start_shape, alarm_shape, point_shape, spinlock_shape, table_start_shape, table_shape, core_shape, config_shape}
-use Rattle.osplan.specs.Names.{name_of_mode, name_of, spinlock_name}
+use Rattle.osplan.specs.{Names.name_of_mode, Names.name_of, Names.spinlock_name, Spinlocks.are_links_ordered, Protection.protection_named, Protection.protection_word, declared.protection.Protection.Protection}
 use Rattle.osplan.specs.Objects.{alarm_modes, table_actions, table_modes, posted_at_once}
 use Rattle.osplan.specs.Objects as plans
-use Rattle.osplan.specs.Spinlocks.{are_links_ordered}
-use Rattle.osplan.specs.Protection.{protection_named, protection_word}
-use Rattle.osplan.specs.declared.protection.Protection.{Protection}
-use Rattle.osplan.proofs.Scripts.{all_scripts}
+use Rattle.osplan.proofs.{Scripts.all_scripts, SpinlockObjects.there-spinlock, Found.IsFound, Found.each-found, Starting.master-low}
 use Rattle.osplan.proofs.Tests.{all-both, all-weaker, each-flat, any-find, any-mapped}
 use Rattle.osplan.proofs.Within.{limit-parts, text-parts, core-text-parts, TextParts, LimitParts}
 use Rattle.osdraft.proofs.Loops.{always}
 use Rattle.osdraft.proofs.Right.{three-parts, acting-right, each-right, is_right}
 use Rattle.oswrite.specs.Writing.{core_mode_word, name_data, id_data, mode_data, task_data, isr_data, resource_data, counter_data, start_data, or_null_data, alarm_data, action_data, point_data, spinlock_data, spinlock_name_data, table_start_data, table_data, core_data, config_data, op_text, script_text}
 use Rattle.osread.proofs.Contents.{elements-items_of}
-use Rattle.oswrite.proofs.Placed.{found, names-said, placed}
+use Rattle.oswrite.proofs.{Placed.found, Placed.names-said, Placed.placed, Joining.parts-pieces}
 use Rattle.oswrite.proofs.Said.{task_said, isr_said, resource_said, counter_said, start_said, counter_name, action_said, alarm_said, point_said, spinlock_said, table_start_said, table_said, core_said, config_said}
-use Rattle.std.proofs.lemmas.List.Folds.{list_all-map}
-use Rattle.std.proofs.lemmas.Simd.{map-map}
-use Rattle.osbase.specs.History.{same_core}
-use Rattle.oscript.specs.declared.Op.TheVariants.{Work}
-use Rattle.oscript.specs.Calls.{action_of_op, is_action, op_of_call}
-use Rattle.oscript.specs.Rows.{has_masks, is_in_form}
+use Rattle.oscript.specs.{declared.Op.TheVariants.Work, Calls.action_of_op, Calls.is_action, Calls.op_of_call, Rows.has_masks, Rows.is_in_form}
 use Rattle.oscript.proofs.Acting.{action-back as action-of, call-objects}
-use Rattle.osforms.specs.Operation.{op_meant, has_masks as text_has_masks}
-use Rattle.osforms.proofs.Joining.{has_none}
+use Rattle.osforms.specs.{Operation.op_meant, Operation.has_masks as text_has_masks, Action.is_action as is_action_text}
+use Rattle.osforms.proofs.{Joining.has_none, ActionTexts.meant_action}
 use Rattle.osforms.proofs.Operations.{IsNamed, text-meant, text-none, text-some, meant-known, meant_masks}
-use Rattle.osbase.specs.declared.items.CoreMode.TheVariants.{Named, DontCare}
-use Rattle.osplan.specs.View.{core_of, counter_in}
+use Rattle.osplan.specs.{View.core_of, View.counter_in, Fault.if_faultless, Fault.failing}
 use Rattle.osplan.specs.Expressible as said
 use Rattle.osplan.proofs.ModeObjects.{mode-named, mode-said, nobody, there-mode}
-use Rattle.osplan.proofs.SpinlockObjects.{there-spinlock}
-use Rattle.osplan.proofs.Found.{IsFound, each-found}
-use Rattle.osplan.proofs.Starting.{master-low}
-use Rattle.oscheck.specs.Action.{action_of, any_action}
+use Rattle.oscheck.specs.{Action.action_of, Action.any_action, declared.verdicts.Verdict.Verdict}
 use Rattle.oscheck.specs.Check.{core_scripts, counter_sizes, isr_sizes, task_sizes, start_sizes, alarm_sizes, point_sizes, table_sizes, core_sizes, sizes_of, numbers_of, is_text_within, is_unreserved, is_each_once, is_core_mode_known, is_mode_known, is_spinlock_known, are_known, are_near, are_ordered, links_of, successor, is_core_timed, are_timed, are_masks, are_operations, tests_of}
 use Rattle.osshape.specs.Declarations.{counter_ref, mode_ref, number_id, declarations, place_of, names_of, counter_declared, declared_sizes, id_of, spinlock_ref}
 use Rattle.oscheck.specs.Operation.{is_operation, is_operation_known, operations_of, op_of}
 use Rattle.osdraft.specs.Meaning.{core_mode, task_plan, isr_plan, resource_plan, counter_plan, start_plan, alarm_plan, point_plan, spinlock_plan, table_start_plan, table_plan, core_plan, plan_of, config_of, config_of_shape}
 use Rattle.osshape.proofs.Lists.{map-back, list_all-by, map-same}
 use Rattle.osdraft.proofs.Found.{IsByte, byte-small, is-byte, is-word, HasCounters, NamedCounter, named-counter}
-use Rattle.oswrite.proofs.Joining.{parts-pieces}
-use Rattle.std.proofs.lemmas.List.{length-map, map-append, map-id}
-use Rattle.osforms.proofs.ActionTexts.{meant_action}
-use Rattle.serde_json.specs.Read.{read}
-use Rattle.osplan.specs.Fault.{if_faultless, failing}
-use Rattle.oscheck.specs.declared.verdicts.Verdict.{Verdict}
 use Rattle.oscheck.specs.Verdict.{action_verdict, alarm_verdict, both, core_verdict, each as each_verdict, isr_verdict, op_verdict, point_verdict, table_verdict, task_verdict, with_names}
 use Rattle.osdraft.proofs.Meant.{near_kept, TableLimits, table-limits, cap-byte, counter-words, isr-bytes, posted-same, start-words, table-start-word, task-bytes}
-use Rattle.osforms.specs.Action.{is_action as is_action_text}
 
 -- ---- lists
 
