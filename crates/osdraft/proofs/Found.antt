@@ -1,19 +1,19 @@
 -- The numbers of a text within their limits are those of its plan, and what its names find there.
-use Rattle.std.proofs.Common.{◌≡◌, ℕ, ◌≤◌, ◌<◌, Bool, true, eqb, List, Option, Some, refl, sym, ◌∙◌, arith, suc, ◌+◌, false, cond, [], ◌∷◌, length, map, None, option_and_then, ap, inl, inr, ◌++◌, is_some, option_map, subst}
+use Rattle.std.proofs.Common.{◌≡◌, ℕ, ◌≤◌, ◌<◌, Bool, true, eqb, List, Option, Some, refl, sym, ◌∙◌, arith, suc, ◌+◌, [], ◌∷◌, length, map, None, option_and_then, ap, inl, inr, ◌++◌, is_some, option_map, subst}
 use Rattle.std.specs.List.{list_all, enumerate_from, find, flat_map, AllByRecursion, slice_get}
-use Rattle.std.proofs.{lemmas.Bool.Decides.nat_tests, lemmas.List.Folds.list_all-map, lemmas.List.Folds.list_all-append, lemmas.List.length-map, lemmas.Option.slice_get-map, lemmas.Option.slice_get_within, lemmas.Simd.map-map}
-use Rattle.std.proofs.lemmas.Bool.{le-leb, lt-ltb, and_parts, and_from, cases_Bool, leb-true, true≢false}
-use Rattle.oscheck.specs.Words.{ConfigText, Core, CoreText, Declaration, Named, Object, ObjectKind, Place, CoreId, CounterRef, CounterText, Plan}
+use Rattle.std.proofs.{lemmas.Bool.Decides.nat_tests, lemmas.List.Folds.list_all-map, lemmas.List.length-map, lemmas.Option.slice_get-map, lemmas.Option.slice_get_within, lemmas.Simd.map-map}
+use Rattle.std.proofs.lemmas.Bool.{le-leb, lt-ltb, and_parts, cases_Bool, leb-true, true≢false}
+use Rattle.oscheck.specs.Words.{ConfigText, Core, CoreText, Declaration, Named, Object, ObjectKind, Place, CoreId, CounterRef, Plan}
 use Rattle.osplan.specs.Limits as limits
 use Rattle.osplan.specs.Limits.{is_between, is_core_within, is_within, number_of, same_number, are_numbers_distinct, is_object, CounterSizes, are_counters_within, is_counter_within}
-use Rattle.osshape.specs.Declarations.{byte_of, word_of, common_of, declarations, declaration, declared_as, declared_by, has_name, place_in, place_of, id_of, is_alone, counter_ref, counter_declared, declared_sizes, names_of}
-use Rattle.osshape.proofs.{Lists.map-same, Lists.list_all-every, Alone.alone}
+use Rattle.osshape.specs.Declarations.{byte_of, word_of, common_of, declarations, declaration, declared_as, declared_by, has_name, place_in, place_of, id_of, counter_ref, counter_declared, declared_sizes, names_of}
+use Rattle.osshape.proofs.{Lists.map-same, Alone.alone}
 use Rattle.oscheck.specs.Check.{core_sizes, sizes_of, numbers_of, counter_sizes}
 use Rattle.osdraft.specs.Meaning.{core_plan, plan_of}
-use Rattle.osbase.specs.{Objects.object_at, Objects.place_on, Objects.same_kind, declared.objects.TheConstants.NOBODY}
+use Rattle.osbase.specs.{Objects.object_at, Objects.same_kind, declared.objects.TheConstants.NOBODY}
 use Rattle.osbase.proofs.{Same.same_kind-true, Places.passes-at}
 use Rattle.osplan.specs.{Objects.common_names, Objects.object_count, declared.plans.TheConstants.COMMON, declared.plans.TheConstants.KINDS, Expressible.are_distinct, View.core_of, View.counter_in}
-use Rattle.osplan.proofs.{Found.IsFound, Found.each-found, Tests.all-flat, Tests.find-passes}
+use Rattle.osplan.proofs.{Found.IsFound, Found.each-found}
 use Rattle.osshape.specs.Shape.{common_in, objects_in, numbered}
 
 -- ---- numbers within their limits are bytes

@@ -3,17 +3,17 @@ use Rattle.std.proofs.Common.{◌≡◌, ℕ, ◌&&◌, Bool, true, cond, count_
 use Rattle.std.proofs.{lemmas.Bool.Decides.nat_tests, lemmas.List.Sums.sum-map, Math.Path.fun_ext, lemmas.List.length-map, lemmas.List.map-append, lemmas.List.Folds.list_all-map, lemmas.List.Folds.flat_map-map, lemmas.Simd.map-map}
 use Rattle.std.specs.List.{find, list_all, sum, AllByRecursion}
 use Rattle.std.proofs.lemmas.Bool.{and_parts, leb-true, and_from, true≢false}
-use Rattle.oscheck.specs.Words.{Alarm, AlarmText, Core, CoreMode, CoreText, Declaration, ObjectKind, Op, Place, PointText, RemoteCall, TableText, AlarmStartText, ConfigText, CoreId, CounterText, Plan, ResourceText, Spinlock, SpinlockId, SpinlockText, Table, TableStart, TableStartText, TaskText, ModeId, Task, AlarmStart, ExpiryPoint, Isr, IsrText, Named}
-use Rattle.oscript.specs.{Calls.action_of_op, declared.Op.TheVariants.Work, Rows.is_in_form}
+use Rattle.oscheck.specs.Words.{Alarm, AlarmText, Core, CoreMode, CoreText, Declaration, ObjectKind, Op, Place, PointText, RemoteCall, TableText, AlarmStartText, ConfigText, CoreId, CounterText, Plan, ResourceText, Spinlock, SpinlockText, Table, TableStart, TableStartText, TaskText, ModeId, Task, AlarmStart, ExpiryPoint, Isr, IsrText, Named}
+use Rattle.oscript.specs.{declared.Op.TheVariants.Work, Rows.is_in_form}
 use Rattle.osforms.specs.{Action.is_action, Action.is_action_op, Operation.op_meant, Operation.has_masks}
 use Rattle.osplan.specs.{Expressible.are_distinct, Expressible.dont_care, Objects.greatest_of, Objects.names_in, Objects.table_actions, Spinlocks.are_links_ordered, View.core_of, View.counter_in, Fault.failing}
 use Rattle.osplan.proofs.Tests.{all-both, all-flat, any-find, any-mapped}
 use Rattle.osplan.proofs.{ModeObjects.mode-there, ModeObjects.nobody, SpinlockObjects.spinlock-there, SpinlockObjects.stays, Found.IsFound, Found.each-found, Scripts.all_scripts, EveryKind.every-common, EveryKind.every-kind}
 use Rattle.osbase.specs.{declared.objects.TheConstants.NOBODY, Objects.counter_object, Objects.counter_of, Objects.mode_of, Objects.spinlock_of, History.same_core, Names.is_name}
 use Rattle.std.specs.{Str.bytes_eq, Option.option_map_or}
-use Rattle.oscheck.specs.Action.{action_of, any_action, is_action_known, is_action_masked}
+use Rattle.oscheck.specs.Action.{action_of, is_action_known, is_action_masked}
 use Rattle.oscheck.specs.Check.{core_scripts, isr_sizes, is_isr_script, task_sizes, counter_sizes, start_sizes, alarm_sizes, point_sizes, table_sizes, core_sizes, sizes_of, numbers_of, is_core_timed, is_each_once, are_timed, is_core_known, is_core_mode_known, is_core_near, is_core_script, is_mode_known, is_operation_near, is_script_near, is_spinlock_known, is_task_script, is_text_within, is_unreserved, are_known, are_near, are_ordered, are_masks, are_operations, tests_of}
-use Rattle.osshape.specs.Declarations.{has_name, id_of, is_alone, mode_ref, spinlock_ref, place_alone, place_of, names_of, byte_of, number_id, word_of, declarations, counter_ref}
+use Rattle.osshape.specs.Declarations.{has_name, id_of, mode_ref, spinlock_ref, place_alone, place_of, names_of, number_id, declarations, counter_ref}
 use Rattle.osdraft.specs.Meaning.{alarm_plan, core_mode, core_plan, isr_plan, point_plan, spinlock_plan, table_plan, task_plan, resource_plan, counter_plan, start_plan, table_start_plan, plan_of}
 use Rattle.oscheck.specs.Posted.{greatest_posted, is_posting, posted_at, posted_at_once}
 use Rattle.osdraft.proofs.Alarms.{acted, action-meant, action-acts, action-passes, action-keeps}
@@ -39,11 +39,8 @@ use Rattle.osdraft.proofs.Loops.{always}
 alone-everywhere : (objects : List Declaration) → are_distinct (names_of objects) ≡ true → place_alone objects ≡ place_of objects
 alone-everywhere objects apart = fun_ext (λ kind. fun_ext (λ name. by kind name (find (has_name name) objects) refl))
   where
-    none-if : (b : Bool) → cond {A = Option Place} b None None ≡ None
-    none-if b = grind arith
-
     by : (kind : ObjectKind) (name : List ℕ) (o : Option Declaration) → find (has_name name) objects ≡ o → place_alone objects kind name ≡ place_of objects kind name
-    by kind name None none = rw none (none-if (is_alone objects name))
+    by kind name None none = rw none (grind arith)
     by kind name (Some d) found = rw (alone objects name d apart found) refl
 
 -- ---- sums
@@ -54,10 +51,7 @@ sum-same f g h p same xs all = sym (sum-map g (map h xs)) ∙ ap sum (map-same g
 count-same : {X Y : Type 0} (f : X → Bool) (g : Y → Bool) (h : X → Y) (p : X → Bool) → ((x : X) → p x ≡ true → g (h x) ≡ f x) → (xs : List X) → list_all p xs ≡ true → count_by g (map h xs) ≡ count_by f xs
 count-same f g h p same = sum-same (λ x. cond (f x) 1 0) (λ y. cond (g y) 1 0) h p (λ x e. ap (λ b. cond b 1 0) (same x e))
 
--- ---- actions
-
-action-some : (op : Op) → is_action_op op ≡ true → action_of_op op ≡ Some (unwrap_or (action_of_op op) any_action)
-action-some op is = let a = acted op is in a.1 ∙ ap (λ (o : Option RemoteCall). Some (unwrap_or o any_action)) (sym a.1)
+-- ---- what actions post
 
 module _ (objects : List Declaration) (apart : are_distinct (names_of objects) ≡ true) (core : CoreText) where
   abbrev planned : Core
@@ -68,7 +62,7 @@ module _ (objects : List Declaration) (apart : are_distinct (names_of objects) �
       let parts = three-parts (is_action_known objects text) (is_action_masked text) (is_action text) h in
       let meant = action-meant objects text parts.2 parts.0 in
       let alike : op_meant (place_alone objects) text ≡ Some meant.0 = ap (λ place. op_meant place text) (alone-everywhere objects apart) ∙ meant.1 in
-      rw (alike, meant.1, action-some meant.0 meant.2) refl
+      rw (alike, meant.1, (acted meant.0 meant.2).1) refl
 
   point-same : (point : PointText) → is_right (point_verdict objects point) ≡ true → plans.posted_at planned (point_plan objects point) ≡ posted_at objects (id_of core) point
   point-same point h =
