@@ -646,12 +646,10 @@ module _ (plan : Plan) (inside : IsTrue (limits.is_within_limits plan)) (sayable
         scripts-numbers core k,
       ) refl
 
-  plan-numbers : sizes_of (config_said plan) ≡ limits.sizes_of plan
-  plan-numbers =
-      rw (length-map plan.spinlocks (spinlock_said plan), map-same (core_sizes objects) (core_said plan) (limits.core_sizes plan) (is_kept_core plan) core-numbers plan.cores cores) refl
-
   within : is_text_within (config_said plan) ≡ true
-  within = and_from _ _ refl (ap limits.is_within plan-numbers ∙ bounds.sizes)
+  within =
+      let numbers : sizes_of (config_said plan) ≡ limits.sizes_of plan = rw (length-map plan.spinlocks (spinlock_said plan), map-same (core_sizes objects) (core_said plan) (limits.core_sizes plan) (is_kept_core plan) core-numbers plan.cores cores) refl in
+      and_from _ _ refl (ap limits.is_within numbers ∙ bounds.sizes)
 
   -- ---- tables
 
