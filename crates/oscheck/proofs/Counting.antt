@@ -1,23 +1,16 @@
 -- A text's limits, apart from the operations of its scripts, which are counted where they are read; and how many objects it has.
 use Rattle.std.proofs.Common.{◌≡◌, ℕ, ◌&&◌, nat_le, Bool, true, List, Some, length, map, refl, sym, ap, ◌∙◌, arith, false}
 use Rattle.std.specs.List.{list_all}
-use Rattle.std.proofs.lemmas.List.{length-map}
-use Rattle.std.proofs.lemmas.List.Folds.{list_all-append, list_all-map}
+use Rattle.std.proofs.{lemmas.List.length-map, lemmas.List.Folds.list_all-append, lemmas.List.Folds.list_all-map}
 use Rattle.osplan.specs.Limits.{is_between, are_alarms_within, are_counters_within, are_tables_within, most_cores, most_posted, is_core_numbered, is_core_within, is_short, count_in, most_of}
 use Rattle.oscheck.specs.Words.{ConfigText, CoreText, Declaration, IsrText, ObjectKind, SpinlockText, TaskText}
 use Rattle.oscheck.specs.Check.{are_scripts_short, alarm_sizes, bare_sizes, core_scripts, core_sizes, counter_sizes, is_core_short, is_script_short, is_text_numbered, is_text_within, table_sizes, tests_of}
-use Rattle.osshape.specs.Declarations.{declarations}
+use Rattle.osshape.specs.{Declarations.declarations, Shape.objects_in, Shape.unnumbered}
 use Rattle.osshape.proofs.Lists.{all-split, list_all-every}
-use Rattle.oscheck.specs.Operation.{operations_of}
-use Rattle.oscheck.specs.Posted.{posted_at_once}
+use Rattle.oscheck.specs.{Operation.operations_of, Posted.posted_at_once, Few.are_objects_few, Few.is_core_few}
 use Rattle.std.proofs.lemmas.Bool.{and_from, and_parts, false_from_ne_true, false≢true}
-use Rattle.osplan.specs.declared.faults.ConfFault.TheVariants.{Limit}
-use Rattle.osplan.specs.declared.plans.TheConstants.{KINDS}
-use Rattle.osplan.proofs.Tests.{all-weaker}
-use Rattle.osplan.proofs.Within.{few-of}
-use Rattle.osshape.specs.Shape.{objects_in, unnumbered}
-use Rattle.oscheck.specs.Few.{are_objects_few, is_core_few}
-use Rattle.osplan.specs.Fault.{failing, first_fault}
+use Rattle.osplan.specs.{declared.faults.ConfFault.TheVariants.Limit, declared.plans.TheConstants.KINDS, Fault.failing, Fault.first_fault}
+use Rattle.osplan.proofs.{Tests.all-weaker, Within.few-of}
 
 pub all_true : (b : Bool) → (b && true && true && true && true) ≡ b
 all_true b = grind arith

@@ -1,23 +1,14 @@
 -- What a reading finds of the operations of a script, and of an action.
 use Rattle.std.proofs.Common.{◌≡◌, ℕ, ◌&&◌, nat_le, Bool, true, false, cond, List, [], ◌∷◌, length, map, Some, None, option_map, unwrap_or, refl, sym, ap, subst, ◌∙◌, arith}
 use Rattle.std.specs.List.{list_all}
-use Rattle.oscheck.specs.Words.{CoreId, Declaration, Op}
+use Rattle.oscheck.specs.{Words.CoreId, Words.Declaration, Words.Op, declared.verdicts.Judged.Judged, declared.verdicts.Verdict.Verdict, Check.is_operation_near, Operation.is_operation, Operation.is_operation_known, Operation.op_of}
 use Rattle.oscript.specs.declared.Op.TheVariants.{Work}
 use Rattle.oscript.specs.Rows as rows
-use Rattle.osforms.specs.Action.{is_action_op}
-use Rattle.osforms.specs.Operation.{has_masks, op_meant}
-use Rattle.osforms.proofs.ActionTexts.{meant_action}
-use Rattle.osforms.proofs.Alike.{AreAlike, named-same}
-use Rattle.osforms.proofs.KindTexts.{cond-some, mapped}
-use Rattle.osforms.proofs.Operations.{meant-known, meant_masks}
-use Rattle.osforms.proofs.RoundTrip.{chained}
+use Rattle.osforms.specs.{Action.is_action_op, Operation.has_masks, Operation.op_meant}
+use Rattle.osforms.proofs.{ActionTexts.meant_action, Alike.AreAlike, Alike.named-same, KindTexts.cond-some, KindTexts.mapped, Operations.meant-known, Operations.meant_masks, RoundTrip.chained}
 use Rattle.osplan.specs.Limits.{stays_on}
 use Rattle.osread.specs.Reading.{each, each_of_few}
 use Rattle.osshape.specs.Declarations.{place_of}
-use Rattle.oscheck.specs.declared.verdicts.Judged.{Judged}
-use Rattle.oscheck.specs.declared.verdicts.Verdict.{Verdict}
-use Rattle.oscheck.specs.Check.{is_operation_near}
-use Rattle.oscheck.specs.Operation.{is_operation, is_operation_known, op_of}
 use Rattle.oscheck.specs.Verdict.{action_verdict, judged_op}
 
 each-made : {X Y : Type 0} (f : X → Y) (xs : List X) → each (λ x. Some (f x)) xs ≡ Some (map f xs)

@@ -4,16 +4,12 @@ use Rattle.std.specs.List.{list_all}
 use Rattle.std.proofs.lemmas.Bool.{and_parts, true≢false}
 use Rattle.oscheck.specs.Words.{Declaration, Object, Op, RemoteCall}
 use Rattle.osbase.specs.Objects.{object_of_call}
-use Rattle.oscript.specs.Calls.{action_of_op, is_action as is_action_call, op_of_call}
-use Rattle.oscript.specs.Rows.{objects_of}
+use Rattle.oscript.specs.{Calls.action_of_op, Calls.is_action as is_action_call, Calls.op_of_call, Rows.objects_of}
 use Rattle.oscript.proofs.Acting.{IsActionOf, action-is, call-objects}
-use Rattle.osforms.specs.Action.{is_action, is_action_op}
-use Rattle.osforms.specs.Operation.{op_meant, is_known}
-use Rattle.osforms.proofs.ActionTexts.{meant_action, action-formed}
-use Rattle.osforms.proofs.Known.{formed-known}
-use Rattle.oscheck.specs.Action.{any_action, is_action_known}
+use Rattle.osforms.specs.{Action.is_action, Action.is_action_op, Operation.op_meant, Operation.is_known}
+use Rattle.osforms.proofs.{ActionTexts.meant_action, ActionTexts.action-formed, Known.formed-known}
+use Rattle.oscheck.specs.{Action.any_action, Action.is_action_known, Operation.is_operation_known}
 use Rattle.osshape.specs.Declarations.{place_of}
-use Rattle.oscheck.specs.Operation.{is_operation_known}
 
 -- ---- operations that are actions
 

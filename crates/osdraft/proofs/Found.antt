@@ -1,29 +1,20 @@
 -- The numbers of a text within their limits are those of its plan, and what its names find there.
-use Rattle.std.proofs.Common.{◌≡◌, ℕ, ◌≤◌, ◌<◌, Bool, true, eqb, List, Option, Some, refl, sym, ◌∙◌, arith, suc, ◌+◌, false, cond, [], ◌∷◌, length, map, None, option_and_then, ap, inl, inr, ◌++◌, is_some, option_map, subst}
+use Rattle.std.proofs.Common.{◌≡◌, ℕ, ◌≤◌, ◌<◌, Bool, true, eqb, List, Option, Some, refl, sym, ◌∙◌, arith, suc, ◌+◌, [], ◌∷◌, length, map, None, option_and_then, ap, inl, inr, ◌++◌, is_some, option_map, subst}
 use Rattle.std.specs.List.{list_all, enumerate_from, find, flat_map, AllByRecursion, slice_get}
-use Rattle.std.proofs.lemmas.Bool.Decides.{nat_tests}
-use Rattle.std.proofs.lemmas.Bool.{le-leb, lt-ltb, and_parts, and_from, cases_Bool, leb-true, true≢false}
-use Rattle.std.proofs.lemmas.List.Folds.{list_all-map, list_all-append}
-use Rattle.oscheck.specs.Words.{ConfigText, Core, CoreText, Declaration, Named, Object, ObjectKind, Place, CoreId, CounterRef, CounterText, Plan}
+use Rattle.std.proofs.{lemmas.Bool.Decides.nat_tests, lemmas.List.Folds.list_all-map, lemmas.List.length-map, lemmas.Option.slice_get-map, lemmas.Option.slice_get_within, lemmas.Simd.map-map}
+use Rattle.std.proofs.lemmas.Bool.{le-leb, lt-ltb, and_parts, cases_Bool, leb-true, true≢false}
+use Rattle.oscheck.specs.Words.{ConfigText, Core, CoreText, Declaration, Named, Object, ObjectKind, Place, CoreId, CounterRef, Plan}
 use Rattle.osplan.specs.Limits as limits
 use Rattle.osplan.specs.Limits.{is_between, is_core_within, is_within, number_of, same_number, are_numbers_distinct, is_object, CounterSizes, are_counters_within, is_counter_within}
-use Rattle.osshape.specs.Declarations.{byte_of, word_of, common_of, declarations, declaration, declared_of, declared_by, has_name, place_in, place_of, id_of, is_alone, counter_ref, counter_declared, declared_sizes, names_of}
-use Rattle.osshape.proofs.Lists.{map-same, list_all-every}
+use Rattle.osshape.specs.Declarations.{byte_of, word_of, common_of, declarations, declaration, declared_as, declared_by, has_name, place_in, place_of, id_of, counter_ref, counter_declared, declared_sizes, names_of}
+use Rattle.osshape.proofs.{Lists.map-same, Alone.alone}
 use Rattle.oscheck.specs.Check.{core_sizes, sizes_of, numbers_of, counter_sizes}
 use Rattle.osdraft.specs.Meaning.{core_plan, plan_of}
-use Rattle.std.proofs.lemmas.List.{length-map}
-use Rattle.osbase.specs.Objects.{object_at, place_on, same_kind}
-use Rattle.osbase.specs.declared.objects.TheConstants.{NOBODY}
-use Rattle.osbase.proofs.Same.{same_kind-true}
-use Rattle.osplan.specs.Objects.{common_names, object_count}
-use Rattle.osplan.specs.declared.plans.TheConstants.{COMMON, KINDS}
-use Rattle.osplan.proofs.Found.{IsFound, each-found}
-use Rattle.osplan.proofs.Tests.{all-flat, find-passes}
+use Rattle.osbase.specs.{Objects.object_at, Objects.same_kind, declared.objects.TheConstants.NOBODY}
+use Rattle.osbase.proofs.{Same.same_kind-true, Places.passes-at}
+use Rattle.osplan.specs.{Objects.common_names, Objects.object_count, declared.plans.TheConstants.COMMON, declared.plans.TheConstants.KINDS, Expressible.are_distinct, View.core_of, View.counter_in}
+use Rattle.osplan.proofs.{Found.IsFound, Found.each-found}
 use Rattle.osshape.specs.Shape.{common_in, objects_in, numbered}
-use Rattle.std.proofs.lemmas.Option.{slice_get-map}
-use Rattle.osplan.specs.Expressible.{are_distinct}
-use Rattle.osplan.specs.View.{core_of, counter_in}
-use Rattle.osshape.proofs.Alone.{alone}
 
 -- ---- numbers within their limits are bytes
 
@@ -63,77 +54,100 @@ numbers-kept t h = map-same (λ (c : Core). number_of c.id) (core_plan (declarat
 pub bytes-equal : (a b : Option ℕ) → same_number a b ≡ true → eqb (byte_of a) (byte_of b) ≡ true
 bytes-equal a b same = grind (arith, nat_tests)
 
+-- ---- what is so of each object that a text declares
+
+module _ (P : Declaration → Type 0) where
+  both-are : (front back : List Declaration) → AllByRecursion P front → AllByRecursion P back → AllByRecursion P (front ++ back)
+  both-are [] back f b = b
+  both-are (d ∷ front) back f b = (f.0, both-are front back f.1 b)
+
+  -- of those of a kind, by their indexes,
+  each-is : (id : CoreId) (kind : ObjectKind) (n : ℕ) (objects : List Named) → ((k i : ℕ) (object : Named) → k ≡ n + i → slice_get objects i ≡ Some object → P (declaration id kind (k, object))) → AllByRecursion P (map (declaration id kind) (enumerate_from n objects))
+  each-is id kind n [] each = tt
+  each-is id kind n (object ∷ objects) each =
+      (each n 0 object (omega arith) refl, each-is id kind (n + 1) objects (λ k i other at is. each k (suc i) other (omega arith) is))
+
+  -- of all kinds,
+  kinds-are : (id : CoreId) (objects : ObjectKind → List Named) → ((kind : ObjectKind) (i : ℕ) (object : Named) → slice_get (objects kind) i ≡ Some object → P (declaration id kind (i, object))) → (kinds : List ObjectKind)
+      → AllByRecursion P (flat_map (λ (kind : ObjectKind). declared_as id kind (objects kind)) kinds)
+  kinds-are id objects each [] = tt
+  kinds-are id objects each (kind ∷ kinds) =
+      both-are (declared_as id kind (objects kind)) (flat_map (λ (kind : ObjectKind). declared_as id kind (objects kind)) kinds)
+      (each-is id kind 0 (objects kind) (λ k i object at is. let index : k ≡ i = omega arith in each kind k object (ap (slice_get (objects kind)) index ∙ is))) (kinds-are id objects each kinds)
+
+  module _ (Q : CoreText → Type 0) (each : (core : CoreText) → Q core → (kind : ObjectKind) (i : ℕ) (object : Named) → slice_get (objects_in kind core) i ≡ Some object → P (declaration (id_of core) kind (i, object))) where
+    -- of each core,
+    cores-are : (cores : List CoreText) → AllByRecursion Q cores → AllByRecursion P (flat_map declared_by cores)
+    cores-are [] has = tt
+    cores-are (core ∷ cores) has = both-are (declared_by core) (flat_map declared_by cores) (kinds-are (id_of core) (λ kind. objects_in kind core) (each core has.0) KINDS) (cores-are cores has.1)
+
+    -- and of those that all cores have in common.
+    all-are : (t : ConfigText) → ((kind : ObjectKind) (i : ℕ) (object : Named) → slice_get (common_in kind t) i ≡ Some object → P (declaration NOBODY kind (i, object))) → AllByRecursion Q t.cores → AllByRecursion P (declarations t)
+    all-are t common has = both-are (flat_map (common_of t) COMMON) (flat_map declared_by t.cores) (kinds-are NOBODY (λ kind. common_in kind t) common COMMON) (cores-are t.cores has)
+
+  -- So it is of the one that is found.
+  found-is : (p : Declaration → Bool) (objects : List Declaration) (d : Declaration) → AllByRecursion P objects → find p objects ≡ Some d → P d
+  found-is p [] d all found = cc
+  found-is p (x ∷ xs) d all found =
+      elim (cases_Bool (p x)) as (λ _. P d) [
+        | inl here ↦ let first : Some x ≡ Some d = rw here at found in let same : x ≡ d = cc in subst P same all.0
+        | inr other ↦ found-is p xs d all.1 (rw other at found)
+      ]
+
 -- ---- each object is there
 
 abbrev object_of : Declaration → Object
 object_of d = record { kind = d.kind; place = record { core = d.core; index = byte_of (Some d.index) } }
 
 module _ (t : ConfigText) where
-  abbrev is_there : Declaration → Bool
-  is_there d = is_object (plan_of t) (object_of d)
+  abbrev IsThere : Declaration → Type 0
+  IsThere d = is_object (plan_of t) (object_of d) ≡ true
 
   abbrev planned : CoreText → Core
   planned core = core_plan (declarations t) core
 
-  -- Objects of a kind, each of which is there at its index,
-  each-there : (id : CoreId) (kind : ObjectKind) (count : ℕ) → ((i : ℕ) → i < count → is_object (plan_of t) (object_at kind (place_on id i)) ≡ true) → (n : ℕ) (objects : List Named) → n + length objects ≤ count
-      → list_all is_there (map (declaration id kind) (enumerate_from n objects)) ≡ true
-  each-there id kind count there n [] within = refl
-  each-there id kind count there n (object ∷ objects) within =
-      and_from _ _ (there (byte_of (Some n)) (omega (arith, byte-at_most n))) (each-there id kind count there (n + 1) objects (omega arith))
-
-  -- of each core,
   as-many : (core : CoreText) (kind : ObjectKind) → length (objects_in kind core) ≡ object_count kind (planned core)
   as-many core ObjectKind.Mode = refl
   as-many core ObjectKind.Spinlock = refl
   as-many core kind = simp length-map
 
-  objects-there : (core : CoreText) → IsFound (plan_of t).cores (planned core) → list_all is_there (declared_by core) ≡ true
-  objects-there core found =
-      all-flat is_there (declared_of core) KINDS
-      (list_all-every (λ (kind : ObjectKind). list_all is_there (declared_of core kind))
-      (λ kind. let many = as-many core kind in each-there (id_of core) kind (object_count kind (planned core)) (λ i lt. rw found (lt-ltb i (object_count kind (planned core)) lt)) 0 (objects_in kind core) (omega arith)) KINDS)
+  common-many : (kind : ObjectKind) → length (common_in kind t) ≡ length (common_names kind (plan_of t))
+  common-many ObjectKind.Mode = simp length-map
+  common-many ObjectKind.Spinlock = simp length-map
+  common-many kind = refl
 
-  cores-there : (cores : List CoreText) → AllByRecursion (IsFound (plan_of t).cores) (map planned cores) → list_all is_there (flat_map declared_by cores) ≡ true
-  cores-there [] found = refl
-  cores-there (core ∷ cores) found =
-      list_all-append is_there (declared_by core) (flat_map declared_by cores) ∙ and_from _ _ (objects-there core found.0) (cores-there cores found.1)
+  each-found-text : (cores : List CoreText) → AllByRecursion (IsFound (plan_of t).cores) (map planned cores) → AllByRecursion (λ core. IsFound (plan_of t).cores (planned core)) cores
+  each-found-text [] found = tt
+  each-found-text (core ∷ cores) found = (found.0, each-found-text cores found.1)
 
-  -- and of those that all have in common.
-  module _ (alone : core_of (plan_of t) NOBODY ≡ None) where
-    common-many : (kind : ObjectKind) → length (common_in kind t) ≡ length (common_names kind (plan_of t))
-    common-many ObjectKind.Mode = simp length-map
-    common-many ObjectKind.Spinlock = simp length-map
-    common-many kind = refl
+  -- An index among so many objects is within their number.
+  low : (objects : List Named) (i : ℕ) (object : Named) (count : ℕ) → slice_get objects i ≡ Some object → length objects ≡ count → byte_of (Some i) < count
+  low objects i object count is many = omega (arith, slice_get_within objects i object is, byte-at_most i)
 
-    common-there : list_all is_there (flat_map (common_of t) COMMON) ≡ true
-    common-there =
-        all-flat is_there (common_of t) COMMON
-        (list_all-every (λ (kind : ObjectKind). list_all is_there (common_of t kind))
-        (λ kind. let many = common-many kind in each-there NOBODY kind (length (common_names kind (plan_of t))) (λ i lt. rw alone (lt-ltb i (length (common_names kind (plan_of t))) lt)) 0 (common_in kind t) (omega arith)) COMMON)
-
-    all-there : AllByRecursion (IsFound (plan_of t).cores) (map planned t.cores) → list_all is_there (declarations t) ≡ true
-    all-there found = list_all-append is_there (flat_map (common_of t) COMMON) (flat_map declared_by t.cores) ∙ and_from _ _ common-there (cores-there t.cores found)
+  all-there : core_of (plan_of t) NOBODY ≡ None → AllByRecursion (IsFound (plan_of t).cores) (map planned t.cores) → AllByRecursion IsThere (declarations t)
+  all-there alone found =
+      all-are IsThere (λ core. IsFound (plan_of t).cores (planned core)) (λ core here kind i object is. rw here (lt-ltb (byte_of (Some i)) (object_count kind (planned core)) (low (objects_in kind core) i object _ is (as-many core kind)))) t
+      (λ kind i object is. rw alone (lt-ltb (byte_of (Some i)) (length (common_names kind (plan_of t))) (low (common_in kind t) i object _ is (common-many kind)))) (each-found-text t.cores found)
 
 -- ---- what a name stands for
 
-place-is : (kind : ObjectKind) (d : Declaration) (place : Place) (b : Bool) → same_kind d.kind kind ≡ b → cond b (Some (object_of d).place) None ≡ Some place → object_of d ≡ record { kind = kind; place = place }
-place-is kind d place true same is =
-    let there : (object_of d).place ≡ place = cc in
-    ap (λ (k : ObjectKind). let o : Object = record { kind = k; place = (object_of d).place } in o) (same_kind-true d.kind kind same) ∙ ap (λ (p : Place). let o : Object = record { kind = kind; place = p } in o) there
-place-is kind d place false same is = cc
-
-found-there : (t : ConfigText) (kind : ObjectKind) (name : List ℕ) (place : Place) (o : Option Declaration) → find (has_name name) (declarations t) ≡ o → option_and_then (place_in kind) o ≡ Some place → list_all (is_there t) (declarations t) ≡ true
-    → is_object (plan_of t) (record { kind = kind; place = place }) ≡ true
-found-there t kind name place None found is there = cc
-found-there t kind name place (Some d) found is there =
-    ap (is_object (plan_of t)) (sym (place-is kind d place (same_kind d.kind kind) refl is)) ∙ find-passes (has_name name) (is_there t) (declarations t) d there found
+-- The object that has a name which has a place.
+declared-as : (objects : List Declaration) (kind : ObjectKind) (name : List ℕ) → is_some (place_of objects kind name) ≡ true → (d : Declaration) × (find (has_name name) objects ≡ Some d) × (same_kind d.kind kind ≡ true)
+declared-as objects kind name = by (find (has_name name) objects) refl
+  where
+    by : (o : Option Declaration) → find (has_name name) objects ≡ o → is_some (option_and_then (place_in kind) o) ≡ true → (d : Declaration) × (find (has_name name) objects ≡ Some d) × (same_kind d.kind kind ≡ true)
+    by None found some = absurd (true≢false (sym some))
+    by (Some d) found some = (d, found, grind arith)
 
 -- A name that has a place stands for an object of the plan.
 pub place-known : (t : ConfigText) → are_numbers_distinct (limits.numbers_of (plan_of t).cores) ≡ true → core_of (plan_of t) NOBODY ≡ None → (kind : ObjectKind) (name : List ℕ) (place : Place) → place_of (declarations t) kind name ≡ Some place
     → is_object (plan_of t) (record { kind = kind; place = place }) ≡ true
 place-known t distinct alone kind name place is =
-    found-there t kind name place (find (has_name name) (declarations t)) refl is (all-there t alone (each-found (plan_of t).cores distinct))
+    let d = declared-as (declarations t) kind name (ap is_some is) in
+    let at : Some (object_of d.0).place ≡ Some place = rw (d.1, d.2) at is in
+    let here : (object_of d.0).place ≡ place = cc in
+    let same : object_of d.0 ≡ object_at kind place = ap (λ (k : ObjectKind). object_at k (object_of d.0).place) (same_kind-true d.0.kind kind d.2) ∙ ap (object_at kind) here in
+    ap (is_object (plan_of t)) (sym same) ∙ found-is (IsThere t) (has_name name) (declarations t) d.0 (all-there t alone (each-found (plan_of t).cores distinct)) d.1
 
 -- ---- the counters that a text names are those of a configuration that has the text's counters
 
@@ -155,67 +169,27 @@ IsSized plan d kind = Unit {0}
 abbrev AreSized : Plan → List Declaration → Type 0
 AreSized plan objects = AllByRecursion (λ (d : Declaration). IsSized plan d d.kind) objects
 
-both-sized : (plan : Plan) (front back : List Declaration) → AreSized plan front → AreSized plan back → AreSized plan (front ++ back)
-both-sized plan [] back f b = b
-both-sized plan (d ∷ front) back f b = (f.0, both-sized plan front back f.1 b)
+abbrev named_sizes : Named → CounterSizes
+named_sizes named = record { max = named.max; min = named.min }
 
-kinds-sized : (plan : Plan) (objects : ObjectKind → List Declaration) → ((kind : ObjectKind) → AreSized plan (objects kind)) → (kinds : List ObjectKind) → AreSized plan (flat_map objects kinds)
-kinds-sized plan objects sized [] = tt
-kinds-sized plan objects sized (kind ∷ kinds) = both-sized plan (objects kind) (flat_map objects kinds) (sized kind) (kinds-sized plan objects sized kinds)
+core-sized : (plan : Plan) (text : CoreText) → HasCounters plan text → (kind : ObjectKind) (i : ℕ) (object : Named) → slice_get (objects_in kind text) i ≡ Some object → IsSized plan (declaration (id_of text) kind (i, object)) kind
+core-sized plan text has ObjectKind.Counter i object is =
+    let here : slice_get (map counter_sizes text.counters) i ≡ Some (named_sizes object) = ap (λ (sizes : List CounterSizes). slice_get sizes i) (sym (map-map named_sizes numbered text.counters)) ∙ slice_get-map named_sizes (map numbered text.counters) i ∙ ap (option_map named_sizes) is in
+    let within = and_parts _ (list_all is_counter_within (map counter_sizes text.counters)) has.within in
+    let low : i ≤ 255 = omega (arith, leb-true _ 8 within.0, slice_get_within _ i (named_sizes object) here) in (
+      rw (byte-small i low, has.found) (sym (slice_get-map limits.counter_sizes has.core.counters i) ∙ ap (λ (sizes : List CounterSizes). slice_get sizes i) has.same ∙ here),
+      passes-at is_counter_within (map counter_sizes text.counters) i (named_sizes object) within.1 here,
+    )
+core-sized plan text has kind i object is = tt
 
--- no other object has numbers
-unsized : (plan : Plan) (id : CoreId) (kind : ObjectKind) → ((d : Declaration) → IsSized plan d kind) → (n : ℕ) (objects : List Named) → AreSized plan (map (declaration id kind) (enumerate_from n objects))
-unsized plan id kind each n [] = tt
-unsized plan id kind each n (object ∷ objects) = (each (declaration id kind (n, object)), unsized plan id kind each (n + 1) objects)
-
-module _ (plan : Plan) (text : CoreText) (has : HasCounters plan text) where
-  few : length text.counters ≤ 8
-  few = let within = has.within in omega (arith, leb-true (length (map counter_sizes text.counters)) 8 (grind arith), length-map text.counters counter_sizes)
-
-  counter-sized : (n : ℕ) (counter : CounterText) → slice_get text.counters n ≡ Some counter → n ≤ 255 → option_map limits.counter_sizes (counter_in plan (record { core = id_of text; index = byte_of (Some n) })) ≡ Some (counter_sizes counter)
-  counter-sized n counter is low =
-      rw (byte-small n low, has.found)
-      (sym (slice_get-map limits.counter_sizes has.core.counters n) ∙ ap (λ (sizes : List CounterSizes). slice_get sizes n) has.same ∙ slice_get-map counter_sizes text.counters n ∙ ap (option_map counter_sizes) is)
-
-  counters-sized : (n : ℕ) (counters : List CounterText) → ((k : ℕ) → slice_get text.counters (n + k) ≡ slice_get counters k) → n + length counters ≤ 8 → list_all is_counter_within (map counter_sizes counters) ≡ true
-      → AreSized plan (map (declaration (id_of text) ObjectKind.Counter) (enumerate_from n (map numbered counters)))
-  counters-sized n [] at low within = tt
-  counters-sized n (counter ∷ counters) at low within =
-      let first : n ≡ n + 0 = omega arith in
-      let here : slice_get text.counters n ≡ Some counter = ap (slice_get text.counters) first ∙ at 0 in
-      let next = λ (k : ℕ). let index : n + 1 + k ≡ n + suc k = omega arith in ap (slice_get text.counters) index ∙ at (suc k) in
-      ((counter-sized n counter here (omega arith), grind arith), counters-sized (n + 1) counters next (omega arith) (grind arith))
-
-  kind-sized : (kind : ObjectKind) → AreSized plan (declared_of text kind)
-  kind-sized ObjectKind.Counter =
-      let at = λ (k : ℕ). let index : 0 + k ≡ k = omega arith in ap (slice_get text.counters) index in
-      let fits = few in
-      counters-sized 0 text.counters at (omega arith) (and_parts _ (list_all is_counter_within (map counter_sizes text.counters)) has.within).1
-  kind-sized kind = unsized plan (id_of text) kind (λ d. tt) 0 (objects_in kind text)
-
-cores-sized : (plan : Plan) (cores : List CoreText) → AllByRecursion (HasCounters plan) cores → AreSized plan (flat_map declared_by cores)
-cores-sized plan [] has = tt
-cores-sized plan (core ∷ cores) has = both-sized plan (declared_by core) (flat_map declared_by cores) (kinds-sized plan (declared_of core) (kind-sized plan core has.0) KINDS) (cores-sized plan cores has.1)
-
--- and no counter is common to all cores
-common-sized : (plan : Plan) (t : ConfigText) (kind : ObjectKind) → AreSized plan (common_of t kind)
-common-sized plan t ObjectKind.Counter = tt
-common-sized plan t kind = unsized plan NOBODY kind (λ d. tt) 0 (common_in kind t)
+common-sized : (plan : Plan) (t : ConfigText) (kind : ObjectKind) (i : ℕ) (object : Named) → slice_get (common_in kind t) i ≡ Some object → IsSized plan (declaration NOBODY kind (i, object)) kind
+common-sized plan t ObjectKind.Counter i object is = cc
+common-sized plan t kind i object is = tt
 
 all-sized : (plan : Plan) (t : ConfigText) → AllByRecursion (HasCounters plan) t.cores → AreSized plan (declarations t)
-all-sized plan t has =
-    both-sized plan (flat_map (common_of t) COMMON) (flat_map declared_by t.cores)
-    (kinds-sized plan (common_of t) (common-sized plan t) COMMON) (cores-sized plan t.cores has)
+all-sized plan t has = all-are (λ (d : Declaration). IsSized plan d d.kind) (HasCounters plan) (core-sized plan) t (common-sized plan t) has
 
 -- ---- the counter of a name
-
-found-sized : (plan : Plan) (p : Declaration → Bool) (objects : List Declaration) (d : Declaration) → AreSized plan objects → find p objects ≡ Some d → IsSized plan d d.kind
-found-sized plan p [] d sized found = cc
-found-sized plan p (x ∷ xs) d sized found =
-    elim (cases_Bool (p x)) as (λ _. IsSized plan d d.kind) [
-      | inl here ↦ let first : Some x ≡ Some d = rw here at found in let same : x ≡ d = cc in subst (λ (y : Declaration). IsSized plan y y.kind) same sized.0
-      | inr other ↦ found-sized plan p xs d sized.1 (rw other at found)
-    ]
 
 -- The counter of a name, its numbers and its counter in the configuration.
 pub record NamedCounter (plan : Plan) (objects : List Declaration) (id : CoreId) (name : List ℕ) : Type 0 where
@@ -224,27 +198,12 @@ pub record NamedCounter (plan : Plan) (objects : List Declaration) (id : CoreId)
   pub planned : option_map limits.counter_sizes (counter_in plan (counter_ref objects id name)) ≡ Some sizes
   pub within : is_counter_within sizes ≡ true
 
-counter-if : (plan : Plan) (objects : List Declaration) (id : CoreId) (name : List ℕ) (d : Declaration) (b : Bool) → same_kind d.kind ObjectKind.Counter ≡ b → is_alone objects name ≡ true → find (has_name name) objects ≡ Some d → IsSized plan d d.kind
-    → is_some (place_of objects ObjectKind.Counter name) ≡ true → NamedCounter plan objects id name
-counter-if plan objects id name d true kind once found sized known =
-    let counter : IsSized plan d ObjectKind.Counter = subst (IsSized plan d) (same_kind-true d.kind ObjectKind.Counter kind) sized in
-    record {
-      sizes = declared_sizes d;
-      declared = rw (once, found, kind) refl;
-      planned = rw (found, kind) counter.0;
-      within = counter.1;
-    }
-counter-if plan objects id name d false kind once found sized known =
-    let none : is_some (place_of objects ObjectKind.Counter name) ≡ false = rw (found, kind) refl in
-    absurd (true≢false (sym known ∙ none))
-
-counter-by : (plan : Plan) (objects : List Declaration) (id : CoreId) (name : List ℕ) (o : Option Declaration) → find (has_name name) objects ≡ o → are_distinct (names_of objects) ≡ true → AreSized plan objects → is_some (place_of objects ObjectKind.Counter name) ≡ true → NamedCounter plan objects id name
-counter-by plan objects id name None found apart sized known =
-    let none : is_some (place_of objects ObjectKind.Counter name) ≡ false = rw found refl in
-    absurd (true≢false (sym known ∙ none))
-counter-by plan objects id name (Some d) found apart sized known =
-    counter-if plan objects id name d (same_kind d.kind ObjectKind.Counter) refl (alone objects name d apart found) found (found-sized plan (has_name name) objects d sized found) known
-
 pub named-counter : (plan : Plan) (t : ConfigText) (id : CoreId) (name : List ℕ) → are_distinct (names_of (declarations t)) ≡ true → AllByRecursion (HasCounters plan) t.cores → is_some (place_of (declarations t) ObjectKind.Counter name) ≡ true
     → NamedCounter plan (declarations t) id name
-named-counter plan t id name apart has known = counter-by plan (declarations t) id name (find (has_name name) (declarations t)) refl apart (all-sized plan t has) known
+named-counter plan t id name apart has known =
+    let objects = declarations t in
+    let d = declared-as objects ObjectKind.Counter name known in
+    let once = alone objects name d.0 apart d.1 in
+    let sized = found-is (λ (d : Declaration). IsSized plan d d.kind) (has_name name) objects d.0 (all-sized plan t has) d.1 in
+    let counter : IsSized plan d.0 ObjectKind.Counter = subst (IsSized plan d.0) (same_kind-true d.0.kind ObjectKind.Counter d.2) sized in
+    record { sizes = declared_sizes d.0; declared = rw (once, d.1, d.2) refl; planned = rw (d.1, d.2) counter.0; within = counter.1 }

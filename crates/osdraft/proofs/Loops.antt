@@ -1,11 +1,9 @@
 -- Making each part of the plan, as a loop does: what was made goes before what is still to make.
-use Rattle.std.proofs.Common.{◌≡◌, ◌&&◌, Bool, true, false, List, [], ◌∷◌, ◌++◌, map, None, refl, sym, ap, ◌∙◌, append_assoc, arith}
+use Rattle.std.proofs.Common.{inl, inr, ◌≡◌, ◌⊎◌, ◌&&◌, Bool, true, false, List, [], ◌∷◌, ◌++◌, map, None, refl, sym, ap, ◌∙◌, append_assoc, arith}
 use Rattle.std.specs.List.{list_all}
 use Rattle.std.proofs.lemmas.List.{append-nil}
-use Rattle.osplan.specs.declared.faults.ConfFault.{ConfFault}
-use Rattle.osplan.specs.Fault.{first_fault}
-use Rattle.oscheck.specs.declared.verdicts.Verdict.{Verdict}
-use Rattle.oscheck.specs.Verdict.{all_right, both, each}
+use Rattle.osplan.specs.{declared.faults.ConfFault.ConfFault, declared.faults.ConfFault.TheVariants.Limit, declared.faults.ConfFault.TheVariants.NoMemory, Fault.first_fault}
+use Rattle.oscheck.specs.{declared.verdicts.Verdict.Verdict, Verdict.all_right, Verdict.both, Verdict.each}
 
 both-right : (v : Verdict) → both v all_right ≡ v
 both-right v = grind arith
@@ -17,6 +15,11 @@ both-assoc a b c = grind arith
 pub no_fault : (faults : List ConfFault) → first_fault faults ≡ None → faults ≡ []
 no_fault [] e = refl
 no_fault (fault ∷ faults) e = cc
+
+-- What follows from a part that is too long, where a reading gives a fault up.
+pub if_long : {P Q : Type 0} {fault : ConfFault} → (P → Q) → (fault ≡ NoMemory) ⊎ ((fault ≡ Limit) × P) → (fault ≡ NoMemory) ⊎ ((fault ≡ Limit) × Q)
+if_long imply (inl wanting) = inl wanting
+if_long imply (inr long) = inr (long.0, imply long.1)
 
 pub always : {X : Type 0} (xs : List X) → list_all (λ (x : X). true) xs ≡ true
 always [] = refl

@@ -1,59 +1,35 @@
 -- What a text without a fault means is a configuration with the text's numbers: it keeps the limits, and a text can say it.
 use Rattle.std.proofs.Common.{◌≡◌, ℕ, ◌&&◌, Bool, true, cond, count_by, sum_by, List, [], ◌∷◌, map, Option, Some, None, is_some, option_and_then, option_map, unwrap_or, refl, sym, ap, ◌∙◌, arith, ◌≤◌, ◌-◌, nat_le, nat_lt, ◌||◌, length, not, false}
-use Rattle.std.proofs.lemmas.Bool.Decides.{nat_tests}
+use Rattle.std.proofs.{lemmas.Bool.Decides.nat_tests, lemmas.List.Sums.sum-map, Math.Path.fun_ext, lemmas.List.length-map, lemmas.List.map-append, lemmas.List.Folds.list_all-map, lemmas.List.Folds.flat_map-map, lemmas.Simd.map-map}
 use Rattle.std.specs.List.{find, list_all, sum, AllByRecursion}
 use Rattle.std.proofs.lemmas.Bool.{and_parts, leb-true, and_from, true≢false}
-use Rattle.oscheck.specs.Words.{Alarm, AlarmText, Core, CoreMode, CoreText, Declaration, ObjectKind, Op, Place, PointText, RemoteCall, TableText, AlarmStartText, ConfigText, CoreId, CounterText, Plan, ResourceText, Spinlock, SpinlockId, SpinlockText, Table, TableStart, TableStartText, TaskText, ModeId, Task, AlarmStart, ExpiryPoint, Isr, IsrText, Named}
-use Rattle.oscript.specs.Calls.{action_of_op}
-use Rattle.osforms.specs.Action.{is_action, is_action_op}
-use Rattle.osforms.specs.Operation.{op_meant, has_masks}
-use Rattle.osplan.specs.Expressible.{are_distinct, dont_care}
-use Rattle.osplan.specs.Objects.{greatest_of, names_in, table_actions}
-use Rattle.osplan.specs.Spinlocks.{are_links_ordered}
+use Rattle.oscheck.specs.Words.{Alarm, AlarmText, Core, CoreMode, CoreText, Declaration, ObjectKind, Op, Place, PointText, RemoteCall, TableText, AlarmStartText, ConfigText, CoreId, CounterText, Plan, ResourceText, Spinlock, SpinlockText, Table, TableStart, TableStartText, TaskText, ModeId, Task, AlarmStart, ExpiryPoint, Isr, IsrText, Named}
+use Rattle.oscript.specs.{declared.Op.TheVariants.Work, Rows.is_in_form}
+use Rattle.osforms.specs.{Action.is_action, Action.is_action_op, Operation.op_meant, Operation.has_masks}
+use Rattle.osplan.specs.{Expressible.are_distinct, Expressible.dont_care, Objects.greatest_of, Objects.names_in, Objects.table_actions, Spinlocks.are_links_ordered, View.core_of, View.counter_in, Fault.failing}
 use Rattle.osplan.proofs.Tests.{all-both, all-flat, any-find, any-mapped}
-use Rattle.osplan.proofs.ModeObjects.{mode-there, nobody}
-use Rattle.osplan.proofs.SpinlockObjects.{spinlock-there, stays}
-use Rattle.osplan.proofs.Found.{IsFound, each-found}
-use Rattle.osbase.specs.declared.objects.TheConstants.{NOBODY}
-use Rattle.std.specs.Str.{bytes_eq}
-use Rattle.oscheck.specs.Action.{action_of, any_action, is_action_known, is_action_masked}
+use Rattle.osplan.proofs.{ModeObjects.mode-there, ModeObjects.nobody, SpinlockObjects.spinlock-there, SpinlockObjects.stays, Found.IsFound, Found.each-found, Scripts.all_scripts, EveryKind.every-common, EveryKind.every-kind}
+use Rattle.osbase.specs.{declared.objects.TheConstants.NOBODY, Objects.counter_object, Objects.counter_of, Objects.mode_of, Objects.spinlock_of, History.same_core, Names.is_name}
+use Rattle.std.specs.{Str.bytes_eq, Option.option_map_or}
+use Rattle.oscheck.specs.Action.{action_of, is_action_known, is_action_masked}
 use Rattle.oscheck.specs.Check.{core_scripts, isr_sizes, is_isr_script, task_sizes, counter_sizes, start_sizes, alarm_sizes, point_sizes, table_sizes, core_sizes, sizes_of, numbers_of, is_core_timed, is_each_once, are_timed, is_core_known, is_core_mode_known, is_core_near, is_core_script, is_mode_known, is_operation_near, is_script_near, is_spinlock_known, is_task_script, is_text_within, is_unreserved, are_known, are_near, are_ordered, are_masks, are_operations, tests_of}
-use Rattle.osshape.specs.Declarations.{has_name, id_of, is_alone, mode_ref, spinlock_ref, place_alone, place_of, names_of, byte_of, number_id, word_of, declarations, counter_ref}
+use Rattle.osshape.specs.Declarations.{has_name, id_of, mode_ref, spinlock_ref, place_alone, place_of, names_of, number_id, declarations, counter_ref}
 use Rattle.osdraft.specs.Meaning.{alarm_plan, core_mode, core_plan, isr_plan, point_plan, spinlock_plan, table_plan, task_plan, resource_plan, counter_plan, start_plan, table_start_plan, plan_of}
 use Rattle.oscheck.specs.Posted.{greatest_posted, is_posting, posted_at, posted_at_once}
 use Rattle.osdraft.proofs.Alarms.{acted, action-meant, action-acts, action-passes, action-keeps}
-use Rattle.osshape.proofs.Alone.{alone}
+use Rattle.osshape.proofs.{Alone.alone, Naming.common-named, Naming.names-of-all, Naming.names-of-text}
 use Rattle.osdraft.proofs.Right.{alarm-parts, core-right, is_right, of-each, table-parts, three-parts}
-use Rattle.std.proofs.lemmas.List.Sums.{sum-map}
-use Rattle.std.proofs.Math.Path.{fun_ext}
 use Rattle.osshape.proofs.Lists.{map-same, list_all-by, map-back, all-apart, all-same, list_all-total, list_any-by}
-use Rattle.std.specs.Option.{option_map_or}
-use Rattle.osplan.proofs.Scripts.{all_scripts}
-use Rattle.std.proofs.lemmas.List.{length-map, map-append}
-use Rattle.std.proofs.lemmas.List.Folds.{list_all-map, flat_map-map}
 use Rattle.osplan.specs.Limits.{CounterSizes, IsrSizes, PointSizes, Sizes, StartSizes, TableSizes, TaskSizes, first_offset, is_cycle, is_start_by, is_start_within, is_table_start, most_activations, are_ascending, are_numbers_distinct, is_alarm_within, is_between, is_ceiling, is_counter_within, is_isr_within, is_point_within, is_start, is_table_start_within, is_timed_by, is_table_timed, is_table_within, is_task_within, is_core_within, is_within, last_offset, number_of, same_number, has_number}
-use Rattle.osplan.specs.View.{core_of, counter_in}
 use Rattle.oscheck.specs.Operation.{operations_of, op_of, is_operation}
-use Rattle.oscheck.proofs.Numbers.{most}
+use Rattle.oscheck.proofs.{Numbers.most, Numbers.offsets-low, Operations.stays-alike}
 use Rattle.osdraft.proofs.Found.{IsByte, IsWord, is-byte, is-word, is_inside, cores-inside, numbers-kept, bytes-equal, HasCounters, NamedCounter, named-counter, place-known}
-use Rattle.oscheck.proofs.Numbers.{offsets-low}
 use Rattle.osplan.specs.Objects as plans
 use Rattle.osplan.specs.Limits as limits
 use Rattle.oscheck.specs.Verdict.{action_verdict, alarm_verdict, core_verdict, each as each_verdict, point_verdict, table_verdict, isr_verdict, task_verdict}
-use Rattle.osforms.proofs.Alike.{named-same}
-use Rattle.oscheck.proofs.Operations.{stays-alike}
-use Rattle.osbase.specs.Objects.{counter_object}
-use Rattle.osbase.specs.History.{same_core}
-use Rattle.oscript.specs.declared.Op.TheVariants.{Work}
-use Rattle.osforms.proofs.Operations.{meant-passes, meant-in-form, meant_masks}
+use Rattle.osforms.proofs.{Alike.named-same, Operations.meant-passes, Operations.meant-in-form, Operations.meant_masks}
 use Rattle.osplan.specs.declared.faults.ConfFault.TheVariants.{Limit, DuplicateName, UnknownName, WrongCore, SpinOrder, BadMask, BadTable, BadScript}
-use Rattle.osplan.specs.Fault.{failing}
-use Rattle.std.proofs.lemmas.Simd.{map-map}
-use Rattle.oscript.specs.Rows.{is_in_form}
-use Rattle.osbase.specs.Names.{is_name}
-use Rattle.osplan.proofs.EveryKind.{every-common, every-kind}
 use Rattle.osshape.specs.Shape.{common_in, has_named_common, has_named_objects, is_named, numbered, objects_in, unnumbered}
-use Rattle.osshape.proofs.Naming.{common-named, names-of-all, names-of-text}
 use Rattle.oscript.specs.Rows as rows
 use Rattle.osplan.specs.Expressible as said
 use Rattle.osdraft.proofs.Loops.{always}
@@ -63,11 +39,8 @@ use Rattle.osdraft.proofs.Loops.{always}
 alone-everywhere : (objects : List Declaration) → are_distinct (names_of objects) ≡ true → place_alone objects ≡ place_of objects
 alone-everywhere objects apart = fun_ext (λ kind. fun_ext (λ name. by kind name (find (has_name name) objects) refl))
   where
-    none-if : (b : Bool) → cond {A = Option Place} b None None ≡ None
-    none-if b = grind arith
-
     by : (kind : ObjectKind) (name : List ℕ) (o : Option Declaration) → find (has_name name) objects ≡ o → place_alone objects kind name ≡ place_of objects kind name
-    by kind name None none = rw none (none-if (is_alone objects name))
+    by kind name None none = rw none (grind arith)
     by kind name (Some d) found = rw (alone objects name d apart found) refl
 
 -- ---- sums
@@ -78,10 +51,7 @@ sum-same f g h p same xs all = sym (sum-map g (map h xs)) ∙ ap sum (map-same g
 count-same : {X Y : Type 0} (f : X → Bool) (g : Y → Bool) (h : X → Y) (p : X → Bool) → ((x : X) → p x ≡ true → g (h x) ≡ f x) → (xs : List X) → list_all p xs ≡ true → count_by g (map h xs) ≡ count_by f xs
 count-same f g h p same = sum-same (λ x. cond (f x) 1 0) (λ y. cond (g y) 1 0) h p (λ x e. ap (λ b. cond b 1 0) (same x e))
 
--- ---- actions
-
-action-some : (op : Op) → is_action_op op ≡ true → action_of_op op ≡ Some (unwrap_or (action_of_op op) any_action)
-action-some op is = let a = acted op is in a.1 ∙ ap (λ (o : Option RemoteCall). Some (unwrap_or o any_action)) (sym a.1)
+-- ---- what actions post
 
 module _ (objects : List Declaration) (apart : are_distinct (names_of objects) ≡ true) (core : CoreText) where
   abbrev planned : Core
@@ -92,7 +62,7 @@ module _ (objects : List Declaration) (apart : are_distinct (names_of objects) �
       let parts = three-parts (is_action_known objects text) (is_action_masked text) (is_action text) h in
       let meant = action-meant objects text parts.2 parts.0 in
       let alike : op_meant (place_alone objects) text ≡ Some meant.0 = ap (λ place. op_meant place text) (alone-everywhere objects apart) ∙ meant.1 in
-      rw (alike, meant.1, action-some meant.0 meant.2) refl
+      rw (alike, meant.1, (acted meant.0 meant.2).1) refl
 
   point-same : (point : PointText) → is_right (point_verdict objects point) ≡ true → plans.posted_at planned (point_plan objects point) ≡ posted_at objects (id_of core) point
   point-same point h =
@@ -114,15 +84,10 @@ module _ (objects : List Declaration) (apart : are_distinct (names_of objects) �
 
 -- ---- numbers within their limits are bytes, or words of 32 bits
 
-few-activations : (extended : Bool) → most_activations extended ≤ 64
-few-activations extended = grind arith
-
 pub task-bytes : (s : TaskSizes) → is_task_within s ≡ true → IsByte s.priority × IsByte s.activations × IsWord s.budget
-task-bytes s h = (
-  is-byte 0 31 s.priority (grind arith) (omega arith),
-  is-byte 1 (most_activations s.extended) s.activations (grind arith) (omega (arith, few-activations s.extended)),
-  is-word 0 1000000000 s.budget (grind arith) (omega arith),
-)
+task-bytes s h =
+    let few : most_activations s.extended ≤ 64 = grind arith in
+    (is-byte 0 31 s.priority (grind arith) (omega arith), is-byte 1 (most_activations s.extended) s.activations (grind arith) (omega arith), is-word 0 1000000000 s.budget (grind arith) (omega arith))
 
 pub isr-bytes : (s : IsrSizes) → is_isr_within s ≡ true → IsByte s.level × IsWord s.budget
 isr-bytes s h = (is-byte 1 16 s.level (grind arith) (omega arith), is-word 0 1000000000 s.budget (grind arith) (omega arith))
@@ -178,9 +143,7 @@ start-numbers : (plan : Plan) (objects : List Declaration) (id : CoreId) (name :
 start-numbers plan objects id name None counter within = refl
 start-numbers plan objects id name (Some auto) counter within =
     let words = start-words (start_sizes objects name auto) counter.sizes counter.declared within counter.within in
-    let start : Some (word_of auto.start) ≡ auto.start = words.0 in
-    let cycle : Some (word_of auto.cycle) ≡ auto.cycle = words.1 in
-    rw (start, cycle, counter.planned, counter.declared) refl
+    rw (words.0, words.1, counter.planned, counter.declared) refl
 
 table-start-numbers : (objects : List Declaration) (s : TableSizes) (counter : CounterSizes) (auto : Option TableStartText) → s.counter ≡ Some counter → is_counter_within counter ≡ true → option_map_or (is_table_start_within s) (option_map (λ (auto : TableStartText). auto.offset) auto) true ≡ true
     → option_map (λ (auto : TableStart). Some auto.offset) (option_map (table_start_plan objects) auto) ≡ option_map (λ (auto : TableStartText). auto.offset) auto
@@ -197,19 +160,10 @@ Counters plan objects = (name : List ℕ) (id : CoreId) → is_some (place_of ob
 
 module _ (objects : List Declaration) where
   task-numbers : (task : TaskText) → is_task_within (task_sizes task) ≡ true → limits.task_sizes (task_plan objects task) ≡ task_sizes task
-  task-numbers task h =
-      let bytes = task-bytes (task_sizes task) h in
-      let priority : Some (byte_of task.prio) ≡ task.prio = bytes.0 in
-      let activations : Some (byte_of task.activations) ≡ task.activations = bytes.1 in
-      let budget : Some (word_of task.budget) ≡ task.budget = bytes.2 in
-      rw (priority, activations, budget) refl
+  task-numbers task h = let bytes = task-bytes (task_sizes task) h in rw (bytes.0, bytes.1, bytes.2) refl
 
   isr-numbers : (isr : IsrText) → is_isr_within (isr_sizes isr) ≡ true → limits.isr_sizes (isr_plan objects isr) ≡ isr_sizes isr
-  isr-numbers isr h =
-      let bytes = isr-bytes (isr_sizes isr) h in
-      let level : Some (byte_of isr.level) ≡ isr.level = bytes.0 in
-      let budget : Some (word_of isr.budget) ≡ isr.budget = bytes.1 in
-      rw (level, budget) refl
+  isr-numbers isr h = let bytes = isr-bytes (isr_sizes isr) h in rw (bytes.0, bytes.1) refl
 
   abbrev script_plan : List ℕ → List Op
   script_plan script = map (op_of objects) (operations_of script)
@@ -226,11 +180,7 @@ module _ (objects : List Declaration) where
   resource-numbers resource h = is-byte _ _ resource.ceiling h (omega arith)
 
   counter-numbers : (counter : CounterText) → is_counter_within (counter_sizes counter) ≡ true → limits.counter_sizes (counter_plan counter) ≡ counter_sizes counter
-  counter-numbers counter h =
-      let words = counter-words (counter_sizes counter) h in
-      let max : Some (word_of counter.max) ≡ counter.max = words.0 in
-      let min : Some (word_of counter.min) ≡ counter.min = words.1 in
-      rw (max, min) refl
+  counter-numbers counter h = let words = counter-words (counter_sizes counter) h in rw (words.0, words.1) refl
 
   counters-numbers : (core : CoreText) → is_inside objects core ≡ true → map limits.counter_sizes (map counter_plan core.counters) ≡ map counter_sizes core.counters
   counters-numbers core h =
@@ -238,9 +188,7 @@ module _ (objects : List Declaration) where
       (sym (list_all-map is_counter_within counter_sizes core.counters) ∙ grind arith)
 
   point-numbers : (point : PointText) → is_between 0 1000000000 point.offset ≡ true → limits.point_sizes (point_plan objects point) ≡ point_sizes point
-  point-numbers point h =
-      let offset : Some (word_of point.offset) ≡ point.offset = is-word 0 1000000000 point.offset h (omega arith) in
-      rw (offset, length-map point.actions (action_of objects)) refl
+  point-numbers point h = rw (is-word 0 1000000000 point.offset h (omega arith), length-map point.actions (action_of objects)) refl
 
   abbrev is_sound_table : CoreId → TableText → Bool
   is_sound_table id table = is_right (table_verdict objects id table) && is_table_within (table_sizes objects table) && is_table_timed (table_sizes objects table)
@@ -253,10 +201,9 @@ module _ (objects : List Declaration) where
 
   table-sized : (plan : Plan) (id : CoreId) (table : TableText) → NamedCounter plan objects id table.counter → TableLimits (table_sizes objects table) → limits.table_sizes (counter_in plan) (table_plan objects id table) ≡ table_sizes objects table
   table-sized plan id table named limit =
-      let duration : Some (word_of table.duration) ≡ table.duration = is-word 1 1000000000 table.duration limit.duration (omega arith) in
       let offsets = sym (list_all-map (λ (point : PointSizes). is_between 0 1000000000 point.offset) point_sizes table.points) ∙ limit.offsets in
       rw (
-        duration,
+        is-word 1 1000000000 table.duration limit.duration (omega arith),
         map-same limits.point_sizes (point_plan objects) point_sizes (λ (point : PointText). is_between 0 1000000000 point.offset) point-numbers table.points offsets,
         table-start-numbers objects (table_sizes objects table) named.sizes table.auto named.declared named.within limit.start,
         named.planned,
@@ -283,27 +230,24 @@ module _ (objects : List Declaration) where
         list_all-by (is_sound_table (id_of core)) (λ (table : Table). is_table_timed (limits.table_sizes (counter_in plan) table)) (table_plan objects (id_of core))
         (λ (table : TableText) (e : is_sound_table (id_of core) table ≡ true). ap is_table_timed (table-numbers (id_of core) table e) ∙ (and_parts _ (is_table_timed (table_sizes objects table)) e).1) core.tables (sound-tables core parts.0 parts.1 parts.2)
 
-    numbers-by : (core : CoreText) → is_inside objects core ≡ true → is_core_timed objects core ≡ true → is_right (core_verdict objects core) ≡ true → limits.core_sizes plan (core_plan objects core) ≡ core_sizes objects core
-    numbers-by core inside timed right =
-        let objects_right = core-right objects core right in
-        let number : Some (byte_of core.id) ≡ core.id = is-byte 0 7 core.id (grind arith) (omega arith) in
+    core-numbers : (core : CoreText) → is_sound objects core ≡ true → limits.core_sizes plan (core_plan objects core) ≡ core_sizes objects core
+    core-numbers core h =
+        let parts = three-parts (is_inside objects core) (is_core_timed objects core) (is_right (core_verdict objects core)) h in
+        let inside : is_inside objects core ≡ true = parts.0 in
         let within : list_all (λ (alarm : AlarmText). is_alarm_within (alarm_sizes objects alarm)) core.alarms ≡ true = sym (list_all-map is_alarm_within (alarm_sizes objects) core.alarms) ∙ grind arith in
         rw (
-          number,
+          is-byte 0 7 core.id (grind arith) (omega arith),
           map-back number_of number_id is_start (λ n low. is-byte _ _ n low (omega arith)) core.start (grind arith),
           map-same limits.task_sizes (task_plan objects) task_sizes (λ task. is_task_within (task_sizes task)) task-numbers core.tasks (sym (list_all-map is_task_within task_sizes core.tasks) ∙ grind arith),
           map-same limits.isr_sizes (isr_plan objects) isr_sizes (λ isr. is_isr_within (isr_sizes isr)) isr-numbers core.isrs (sym (list_all-map is_isr_within isr_sizes core.isrs) ∙ grind arith),
           map-same limits.ceiling_of resource_plan (λ (resource : ResourceText). resource.ceiling) (λ (resource : ResourceText). is_ceiling resource.ceiling) resource-numbers core.resources
               (sym (list_all-map is_ceiling (λ (resource : ResourceText). resource.ceiling) core.resources) ∙ grind arith),
           counters-numbers core inside,
-          map-same (limits.alarm_sizes (counter_in plan)) (alarm_plan objects (id_of core)) (alarm_sizes objects) (is_sound_alarm (id_of core)) (alarm-numbers (id_of core)) core.alarms (all-both _ _ core.alarms objects_right.alarms within),
-          map-same (limits.table_sizes (counter_in plan)) (table_plan objects (id_of core)) (table_sizes objects) (is_sound_table (id_of core)) (table-numbers (id_of core)) core.tables (sound-tables core inside timed right),
-          posted-same objects apart core right,
+          map-same (limits.alarm_sizes (counter_in plan)) (alarm_plan objects (id_of core)) (alarm_sizes objects) (is_sound_alarm (id_of core)) (alarm-numbers (id_of core)) core.alarms (all-both _ _ core.alarms (core-right objects core parts.2).alarms within),
+          map-same (limits.table_sizes (counter_in plan)) (table_plan objects (id_of core)) (table_sizes objects) (is_sound_table (id_of core)) (table-numbers (id_of core)) core.tables (sound-tables core inside parts.1 parts.2),
+          posted-same objects apart core parts.2,
           scripts-numbers core,
         ) refl
-
-    core-numbers : (core : CoreText) → is_sound objects core ≡ true → limits.core_sizes plan (core_plan objects core) ≡ core_sizes objects core
-    core-numbers core h = let parts = three-parts (is_inside objects core) (is_core_timed objects core) (is_right (core_verdict objects core)) h in numbers-by core parts.0 parts.1 parts.2
 
 -- each core of the text is one of the plan
 cores-have : (t : ConfigText) (cores : List CoreText) → AllByRecursion (IsFound (plan_of t).cores) (map (core_plan (declarations t)) cores) → list_all (is_inside (declarations t)) cores ≡ true → AllByRecursion (HasCounters (plan_of t)) cores
@@ -327,29 +271,25 @@ module _ (t : ConfigText) (tested : Tested t) where
   once : (are_numbers_distinct (numbers_of t.cores) ≡ true) × (are_distinct (names_of declared) ≡ true) × (list_all is_unreserved t.modes ≡ true)
   once = three-parts (are_numbers_distinct (numbers_of t.cores)) (are_distinct (names_of declared)) (list_all is_unreserved t.modes) tested.once
 
-  apart : are_distinct (names_of declared) ≡ true
-  apart = once.1
-
   pub distinct : are_numbers_distinct (limits.numbers_of (plan_of t).cores) ≡ true
   distinct = ap are_numbers_distinct (numbers-kept t tested.within) ∙ once.0
 
   named : Counters (plan_of t) declared
-  named name id known = named-counter (plan_of t) t id name apart (cores-have t t.cores (each-found (plan_of t).cores distinct) (cores-inside t tested.within)) known
+  named name id known = named-counter (plan_of t) t id name once.1 (cores-have t t.cores (each-found (plan_of t).cores distinct) (cores-inside t tested.within)) known
 
   sound : list_all (is_sound declared) t.cores ≡ true
   sound = all-both _ _ t.cores (all-both (is_inside declared) (is_core_timed declared) t.cores (cores-inside t tested.within) tested.timed) (of-each (core_verdict declared) t.cores tested.right)
 
   pub plan-numbers : limits.sizes_of (plan_of t) ≡ sizes_of t
   plan-numbers =
-      let cap : Some (byte_of t.cap) ≡ t.cap = cap-byte (sizes_of t) tested.within in
-      rw (cap, length-map t.spinlocks (spinlock_plan declared), map-same (limits.core_sizes (plan_of t)) (core_plan declared) (core_sizes declared) (is_sound declared) (core-numbers declared (plan_of t) apart named) t.cores sound) refl
+      rw (cap-byte (sizes_of t) tested.within, length-map t.spinlocks (spinlock_plan declared), map-same (limits.core_sizes (plan_of t)) (core_plan declared) (core_sizes declared) (is_sound declared) (core-numbers declared (plan_of t) once.1 named) t.cores sound) refl
 
   -- none of its cores has nobody's number
   pub by-nobody : core_of (plan_of t) NOBODY ≡ None
   by-nobody = nobody (plan_of t) (sym (list_all-map is_core_within (limits.core_sizes (plan_of t)) (plan_of t).cores) ∙ (and_parts _ (list_all is_core_within (limits.sizes_of (plan_of t)).cores) (ap is_within plan-numbers ∙ tested.within)).1)
 
   pub plan-timed : list_all (limits.is_core_timed (plan_of t)) (plan_of t).cores ≡ true
-  plan-timed = list_all-by (is_sound declared) (limits.is_core_timed (plan_of t)) (core_plan declared) (core-timed declared (plan_of t) apart named) t.cores sound
+  plan-timed = list_all-by (is_sound declared) (limits.is_core_timed (plan_of t)) (core_plan declared) (core-timed declared (plan_of t) once.1 named) t.cores sound
 
 -- ---- the scripts, the alarms and the tables of a text's plan stay on their cores as the text's do
 
@@ -411,12 +351,16 @@ module _ (t : ConfigText) (places : (kind : ObjectKind) (name : List ℕ) (place
   op-masked : (text : List ℕ) → has_masks text ≡ true → rows.has_masks (op_of objects text) ≡ true
   op-masked text h = op-passes text rows.has_masks refl (λ op e. meant_masks (place_of objects) text op e ∙ h)
 
-  mode-kept : (name : List ℕ) → is_mode_known objects name ≡ true → limits.is_mode plan (mode_ref objects name) ≡ true
-  mode-kept name known = by (place_of objects ObjectKind.Mode name) refl known
+  -- What a name with a place stands for.
+  place-kept : (kind : ObjectKind) (name : List ℕ) (p : Option Place → Bool) → ((place : Place) → limits.is_object plan (record { kind = kind; place = place }) ≡ true → p (Some place) ≡ true) → is_some (place_of objects kind name) ≡ true → p (place_of objects kind name) ≡ true
+  place-kept kind name p each = by (place_of objects kind name) refl
     where
-      by : (o : Option Place) → place_of objects ObjectKind.Mode name ≡ o → is_some o ≡ true → limits.is_mode plan (mode_ref objects name) ≡ true
+      by : (o : Option Place) → place_of objects kind name ≡ o → is_some o ≡ true → p o ≡ true
       by None found there = absurd (true≢false (sym there))
-      by (Some place) found there = rw found (mode-there plan place (places ObjectKind.Mode name place found)).1
+      by (Some place) found there = each place (places kind name place found)
+
+  mode-kept : (name : List ℕ) → is_mode_known objects name ≡ true → limits.is_mode plan (mode_ref objects name) ≡ true
+  mode-kept name = place-kept ObjectKind.Mode name (λ o. limits.is_mode plan (unwrap_or (option_map mode_of o) (record { index = 0 }))) (λ place there. (mode-there plan place there).1)
 
   -- of what starts by itself, where it does
   modes-kept : {X Y : Type 0} (modes : Y → List ModeId) (made : X → Y) (names : X → List (List ℕ)) → ((x : X) → modes (made x) ≡ map (mode_ref objects) (names x)) → (o : Option X) → list_all (is_mode_known objects) (option_map_or names o []) ≡ true
@@ -427,13 +371,9 @@ module _ (t : ConfigText) (places : (kind : ObjectKind) (name : List ℕ) (place
   spinlock-kept : (spinlock : SpinlockText) → is_spinlock_known objects spinlock ≡ true → limits.is_spinlock_known plan (spinlock_plan objects spinlock) ≡ true
   spinlock-kept spinlock known = of spinlock.next known
     where
-      by : (name : List ℕ) (o : Option Place) → place_of objects ObjectKind.Spinlock name ≡ o → is_some o ≡ true → option_map_or (limits.is_spinlock plan) (spinlock_ref objects name) true ≡ true
-      by name None found there = absurd (true≢false (sym there))
-      by name (Some place) found there = rw found (spinlock-there plan place (places ObjectKind.Spinlock name place found)).1
-
       of : (next : Option (List ℕ)) → option_map_or (λ (name : List ℕ). is_some (place_of objects ObjectKind.Spinlock name)) next true ≡ true → option_map_or (limits.is_spinlock plan) (option_and_then (spinlock_ref objects) next) true ≡ true
       of None known = refl
-      of (Some name) known = by name (place_of objects ObjectKind.Spinlock name) refl known
+      of (Some name) known = place-kept ObjectKind.Spinlock name (λ o. option_map_or (limits.is_spinlock plan) (option_map spinlock_of o) true) (λ place there. (spinlock-there plan place there).1) known
 
   core-mode-kept : (mode : Option (List ℕ)) → is_core_mode_known objects mode ≡ true → limits.is_core_mode plan (core_mode objects mode) ≡ true
   core-mode-kept None known = some
@@ -463,9 +403,8 @@ module _ (t : ConfigText) (places : (kind : ObjectKind) (name : List ℕ) (place
       ap (list_all (limits.is_script_known plan)) (scripts-planned objects core)
       ∙ list_all-total (limits.is_script_known plan) (script_plan objects) (λ script. list_all-total (limits.is_op_known plan) (op_of objects) op-known (operations_of script)) (core_scripts core)
 
-  counter-known : (id : CoreId) (name : List ℕ) (o : Option Place) → place_of objects ObjectKind.Counter name ≡ o → is_some o ≡ true → limits.is_object plan (counter_object (counter_ref objects id name)) ≡ true
-  counter-known id name None found there = absurd (true≢false (sym there))
-  counter-known id name (Some place) found there = rw found (places ObjectKind.Counter name place found)
+  counter-known : (id : CoreId) (name : List ℕ) → is_some (place_of objects ObjectKind.Counter name) ≡ true → limits.is_object plan (counter_object (counter_ref objects id name)) ≡ true
+  counter-known id name = place-kept ObjectKind.Counter name (λ o. limits.is_object plan (counter_object (unwrap_or (option_map counter_of o) (record { core = id; index = 0 })))) (λ place there. there)
 
   abbrev is_kept_action : RemoteCall → Bool
   is_kept_action action = limits.is_action_known plan action && said.is_action_expressible action
@@ -484,7 +423,7 @@ module _ (t : ConfigText) (places : (kind : ObjectKind) (name : List ℕ) (place
   alarm-kept id alarm h =
       let both = and_parts (is_name alarm.name) (is_right (alarm_verdict objects id alarm)) h in
       let parts = alarm-parts objects id alarm both.1 in
-      let counter = counter-known id alarm.counter (place_of objects ObjectKind.Counter alarm.counter) refl parts.0 in
+      let counter = counter-known id alarm.counter parts.0 in
       let modes = modes-kept (λ (auto : AlarmStart). auto.modes) (start_plan objects) (λ (auto : AlarmStartText). auto.modes) (λ auto. refl) alarm.auto parts.2 in
       acting-kept _ _ _ _ _ counter (action-kept alarm.action parts.1) modes both.0
 
@@ -495,7 +434,7 @@ module _ (t : ConfigText) (places : (kind : ObjectKind) (name : List ℕ) (place
   table-kept id table h =
       let both = and_parts (is_name table.name) (is_right (table_verdict objects id table)) h in
       let parts = table-parts objects id table both.1 in
-      let counter = counter-known id table.counter (place_of objects ObjectKind.Counter table.counter) refl parts.0 in
+      let counter = counter-known id table.counter parts.0 in
       let points = list_all-by (λ (point : PointText). is_right (point_verdict objects point)) (λ (point : ExpiryPoint). list_all is_kept_action point.actions) (point_plan objects) point-kept table.points parts.1 in
       let actions = all-apart (limits.is_action_known plan) said.is_action_expressible (table_actions (table_plan objects id table)) (all-flat is_kept_action (λ (point : ExpiryPoint). point.actions) (map (point_plan objects) table.points) points) in
       let modes = modes-kept (λ (auto : TableStart). auto.modes) (table_start_plan objects) (λ (auto : TableStartText). auto.modes) (λ auto. refl) table.auto parts.2 in

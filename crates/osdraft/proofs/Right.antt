@@ -2,8 +2,7 @@
 use Rattle.std.proofs.Common.{◌≡◌, ◌&&◌, Bool, true, is_some, List, [], ◌∷◌, refl, sym, ◌∙◌, arith}
 use Rattle.std.specs.List.{list_all}
 use Rattle.oscheck.specs.Words.{AlarmText, CoreId, CoreText, Declaration, IsrText, ObjectKind, PointText, TableText, TaskText}
-use Rattle.oscheck.specs.declared.verdicts.Verdict.{Verdict}
-use Rattle.oscheck.specs.Action.{is_action_known, is_action_masked}
+use Rattle.oscheck.specs.{declared.verdicts.Verdict.Verdict, Action.is_action_known, Action.is_action_masked}
 use Rattle.oscheck.specs.Check.{alarm_modes, is_core_mode_known, is_mode_known, is_point_known, is_table_acting, is_table_masked, table_modes}
 use Rattle.oscheck.specs.Verdict.{action_verdict, alarm_verdict, core_verdict, each, isr_verdict, point_verdict, table_verdict, task_verdict}
 use Rattle.osforms.specs.Action.{is_action}

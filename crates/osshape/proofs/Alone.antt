@@ -1,14 +1,11 @@
 -- A name that stands once.
 use Rattle.std.proofs.Common.{inl, inr, ◌≡◌, ℕ, ◌+◌, Bool, true, false, not, cond, count_by, List, [], ◌∷◌, map, Option, Some, None, is_some, refl, sym, ap, ◌∙◌}
-use Rattle.std.specs.List.{list_any, find}
-use Rattle.std.specs.Str.{bytes_eq}
+use Rattle.std.specs.{List.list_any, List.find, Str.bytes_eq}
 use Rattle.std.proofs.lemmas.Bool.{and_parts, cases_Bool, not-true, or_parts, true≢false}
-use Rattle.std.proofs.lemmas.List.Sums.{sum_by-cons}
-use Rattle.std.proofs.lemmas.Slice.Eq.{bytes_eq-Decides}
+use Rattle.std.proofs.{lemmas.List.Sums.sum_by-cons, lemmas.Slice.Eq.bytes_eq-Decides}
 use Rattle.osplan.specs.Expressible.{are_distinct}
 use Rattle.osplan.proofs.Tests.{any-mapped}
-use Rattle.osshape.specs.declared.declarations.Declaration.{Declaration}
-use Rattle.osshape.specs.Declarations.{has_name, is_alone, names_of}
+use Rattle.osshape.specs.{declared.declarations.Declaration.Declaration, Declarations.has_name, Declarations.is_alone, Declarations.names_of}
 
 module _ {X : Type 0} (p : X → Bool) where
   count-cons : (x : X) (xs : List X) → count_by p (x ∷ xs) ≡ cond (p x) 1 0 + count_by p xs

@@ -1,17 +1,11 @@
 -- Making an index, from the last object on.
 use Rattle.std.proofs.Common.{◌≡◌, ℕ, ◌+◌, ◌<◌, ◌&&◌, Bool, true, false, not, cond, List, ◌∷◌, length, map, drop, get_or, Some, is_some, option_and_then, refl, sym, ap, subst, ◌∙◌}
-use Rattle.std.specs.List.{find, list_any, slice_get}
-use Rattle.std.specs.Borrow.{Bor}
-use Rattle.std.specs.HashMap.{HashMap}
-use Rattle.std.specs.Map.{update}
-use Rattle.std.specs.Str.{bytes_eq}
+use Rattle.std.specs.{List.find, List.list_any, List.slice_get, Borrow.Bor, HashMap.HashMap, Map.update, Str.bytes_eq}
 use Rattle.osplan.specs.Expressible.{are_distinct}
 use Rattle.std.proofs.lemmas.Option.{slice_get-get_or}
 use Rattle.osplan.proofs.Tests.{any-find, any-mapped}
 use Rattle.osread.proofs.Each.{drop-here}
-use Rattle.osshape.specs.declared.declarations.Declaration.{Declaration}
-use Rattle.osshape.specs.Declarations.{has_name}
-use Rattle.osshape.specs.Index.{index_in, Indexes}
+use Rattle.osshape.specs.{declared.declarations.Declaration.Declaration, Declarations.has_name, Index.index_in, Index.Indexes}
 
 -- whether a name stands among those of objects
 pub among : (name : List ℕ) (objects : List Declaration) → list_any (λ later. bytes_eq later name) (map (λ (d : Declaration). d.name) objects) ≡ is_some (find (has_name name) objects)

@@ -2,28 +2,12 @@
 use Rattle.std.proofs.Common.{◌≡◌, ℕ, ◌+◌, true, List, [], ◌∷◌, ◌++◌, map, Option, Some, None, refl, sym, ap, ◌∙◌, arith}
 use Rattle.std.specs.List.{list_all, enumerate_from, find, flat_map}
 use Rattle.std.specs.Option.{IfSome}
-use Rattle.std.proofs.lemmas.Bool.{and_from, and_parts}
-use Rattle.std.proofs.lemmas.List.{map-append, map-id}
-use Rattle.std.proofs.lemmas.List.Folds.{list_all-append}
-use Rattle.std.proofs.lemmas.Simd.{map-map}
-use Rattle.std.proofs.lemmas.Slice.Eq.{bytes_eq-Decides}
-use Rattle.osbase.specs.declared.objects.ObjectKind.{ObjectKind}
-use Rattle.osbase.specs.declared.objects.Place.{Place}
-use Rattle.osbase.specs.declared.objects.TheConstants.{NOBODY}
-use Rattle.osbase.specs.declared.references.CoreId.{CoreId}
-use Rattle.osbase.specs.Names.{is_name}
-use Rattle.osplan.specs.declared.plans.Core.{Core}
-use Rattle.osplan.specs.declared.plans.Plan.{Plan}
-use Rattle.osplan.specs.declared.plans.Spinlock.{Spinlock}
-use Rattle.osplan.specs.declared.plans.TheConstants.{COMMON, KINDS}
-use Rattle.osplan.specs.Expressible.{declared_names, object_names}
+use Rattle.std.proofs.{lemmas.Bool.and_from, lemmas.Bool.and_parts, lemmas.List.map-append, lemmas.List.map-id, lemmas.List.Folds.list_all-append, lemmas.Simd.map-map, lemmas.Slice.Eq.bytes_eq-Decides}
+use Rattle.osbase.specs.{declared.objects.ObjectKind.ObjectKind, declared.objects.Place.Place, declared.objects.TheConstants.NOBODY, declared.references.CoreId.CoreId, Names.is_name}
+use Rattle.osplan.specs.{declared.plans.Core.Core, declared.plans.Plan.Plan, declared.plans.Spinlock.Spinlock, declared.plans.TheConstants.COMMON, declared.plans.TheConstants.KINDS, Expressible.declared_names, Expressible.object_names}
 use Rattle.osplan.specs.Objects.{common_names, names_in}
 use Rattle.osplan.proofs.Tests.{all-flat, all-weaker, find-holds, find-passes}
-use Rattle.osshape.specs.declared.shapes.ConfigText.{ConfigText}
-use Rattle.osshape.specs.declared.shapes.CoreText.{CoreText}
-use Rattle.osshape.specs.declared.shapes.Named.{Named}
-use Rattle.osshape.specs.declared.shapes.SpinlockText.{SpinlockText}
-use Rattle.osshape.specs.declared.declarations.Declaration.{Declaration}
+use Rattle.osshape.specs.{declared.shapes.ConfigText.ConfigText, declared.shapes.CoreText.CoreText, declared.shapes.Named.Named, declared.shapes.SpinlockText.SpinlockText, declared.declarations.Declaration.Declaration}
 use Rattle.osshape.specs.Shape.{common_in, has_named_common, has_named_objects, is_named, objects_in, unnumbered}
 use Rattle.osshape.specs.Declarations.{common_of, declaration, declarations, declared_as, declared_by, has_name, id_of, names_of}
 

@@ -1,11 +1,9 @@
 -- The data of a configuration has no float, and does not nest deeply.
 use Rattle.std.proofs.Common.{◌≡◌, ℕ, ◌-◌, ◌≤◌, ◌&&◌, Bool, true, false, not, nat_lt, Option, Some, None, List, [], ◌∷◌, map, refl, ap, arith}
-use Rattle.std.specs.List.{list_all}
-use Rattle.std.specs.Option.{option_map_or}
+use Rattle.std.specs.{List.list_all, Option.option_map_or}
 use Rattle.std.proofs.lemmas.Bool.{and_parts, ltb-true, not-true}
 use Rattle.serde_json.specs.Data.{Data, Items, Members, null, boolean, number, string, array, object, no_items, item, no_members, member, depth, items_depth, members_depth}
-use Rattle.serde_json.specs.View.{items_of}
-use Rattle.serde_json.specs.Written.{has_float, items_have_float, members_have_float}
+use Rattle.serde_json.specs.{View.items_of, Written.has_float, Written.items_have_float, Written.members_have_float}
 use Rattle.oscheck.specs.Words.{Plan}
 use Rattle.osdraft.proofs.Loops.{always}
 use Rattle.oswrite.specs.Writing.{config_data, or_null_data}

@@ -1,9 +1,7 @@
 -- Texts that are joined by a byte, and cut at it again.
 use Rattle.std.proofs.Common.{◌≡◌, ℕ, true, not, ◌==◌, List, [], ◌∷◌, ◌++◌, length, map, Result, Ok, Err, IfOk, refl, sym, ap, ◌∙◌}
 use Rattle.std.specs.List.{list_all, slice_split, join_by, join_with_byte, flat_map}
-use Rattle.std.proofs.lemmas.Bool.{and_parts, not-true}
-use Rattle.std.proofs.lemmas.List.{append-nil}
-use Rattle.std.proofs.lemmas.List.Folds.{flat_map-map, list_all-map}
+use Rattle.std.proofs.{lemmas.Bool.and_parts, lemmas.Bool.not-true, lemmas.List.append-nil, lemmas.List.Folds.flat_map-map, lemmas.List.Folds.list_all-map}
 use Rattle.osforms.proofs.Joining.{has_none, split-joined, some-more}
 use Rattle.osread.specs.Reading.{parts_of}
 

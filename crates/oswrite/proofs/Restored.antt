@@ -1,70 +1,46 @@
 -- The data of a configuration has the shape of one. So its text has no fault, and means the configuration.
 use Rattle.std.proofs.Common.{◌≡◌, ℕ, ◌&&◌, Bool, true, List, [], ◌∷◌, map, Option, Some, None, option_map, IsTrue, refl, sym, ap, ◌∙◌, arith, ◌<◌, is_some, unwrap_or, length, option_and_then, not}
-use Rattle.std.specs.List.{list_all, AllByRecursion}
-use Rattle.std.specs.Option.{option_map_or}
-use Rattle.std.proofs.lemmas.Bool.{and_parts, and_from, or_right}
-use Rattle.std.specs.Str.{bytes_eq}
-use Rattle.serde_json.specs.Data.{Data, string}
-use Rattle.serde_json.specs.View.{items_of}
+use Rattle.std.specs.{List.list_all, List.AllByRecursion, Option.option_map_or, Str.bytes_eq}
+use Rattle.std.proofs.{lemmas.Bool.and_parts, lemmas.Bool.and_from, lemmas.Bool.or_right, lemmas.List.Folds.list_all-map, lemmas.Simd.map-map, lemmas.List.length-map, lemmas.List.map-append, lemmas.List.map-id}
+use Rattle.serde_json.specs.{Data.Data, Data.string, View.items_of, Find.as_str, Read.read}
 use Rattle.osbase.specs.Objects.{counter_object, counter_place, mode_object, mode_place, object_of_call, spinlock_object, spinlock_of, spinlock_place}
-use Rattle.osbase.specs.declared.objects.TheConstants.{NOBODY}
+use Rattle.osbase.specs.{declared.objects.TheConstants.NOBODY, Names.is_name, History.same_core, declared.items.CoreMode.TheVariants.Named, declared.items.CoreMode.TheVariants.DontCare}
 use Rattle.oscheck.specs.Words.{Alarm, AlarmStart, Core, Counter, CounterRef, ExpiryPoint, Isr, IsrText, ModeId, Plan, RemoteCall, Resource, Table, TableStart, Task, CoreId, CoreMode, Declaration, Object, ObjectKind, Op, AlarmStartText, ResourceText, Spinlock, SpinlockId, SpinlockText, TableStartText, TableText}
-use Rattle.osbase.specs.Names.{is_name}
 use Rattle.osplan.specs.Limits as limits
 use Rattle.osplan.specs.Limits.{number_of, CoreSizes, CounterSizes, PointSizes, TableSizes, are_counters_within, is_alarm_within, is_between, is_start, is_table_start_within, is_table_timed, is_table_within, is_task_within, is_isr_within, is_core_within, same_number, has_number, are_numbers_distinct}
 use Rattle.osplan.specs.Expressible.{dont_care, is_mode_expressible, is_task_expressible, is_isr_expressible, is_resource_expressible, is_counter_expressible, is_action_expressible, is_alarm_expressible, is_spinlock_expressible, is_table_expressible, is_core_expressible, is_expressible}
 use Rattle.osread.specs.Reading.{each}
 use Rattle.osread.specs.Json.{elements, whole_of, name_of as read_name, or_null}
-use Rattle.serde_json.specs.Find.{as_str}
 use Rattle.osshape.specs.Shape.{mode_shape, task_shape, isr_shape, resource_shape, counter_shape, alarm_start_shape, alarm_shape, point_shape, spinlock_shape, table_start_shape, table_shape, core_shape, config_shape}
-use Rattle.osplan.specs.Names.{name_of_mode, name_of, spinlock_name}
+use Rattle.osplan.specs.{Names.name_of_mode, Names.name_of, Names.spinlock_name, Spinlocks.are_links_ordered, Protection.protection_named, Protection.protection_word, declared.protection.Protection.Protection}
 use Rattle.osplan.specs.Objects.{alarm_modes, table_actions, table_modes, posted_at_once}
 use Rattle.osplan.specs.Objects as plans
-use Rattle.osplan.specs.Spinlocks.{are_links_ordered}
-use Rattle.osplan.specs.Protection.{protection_named, protection_word}
-use Rattle.osplan.specs.declared.protection.Protection.{Protection}
-use Rattle.osplan.proofs.Scripts.{all_scripts}
+use Rattle.osplan.proofs.{Scripts.all_scripts, SpinlockObjects.there-spinlock, Found.IsFound, Found.each-found, Starting.master-low}
 use Rattle.osplan.proofs.Tests.{all-both, all-weaker, each-flat, any-find, any-mapped}
 use Rattle.osplan.proofs.Within.{limit-parts, text-parts, core-text-parts, TextParts, LimitParts}
 use Rattle.osdraft.proofs.Loops.{always}
 use Rattle.osdraft.proofs.Right.{three-parts, acting-right, each-right, is_right}
 use Rattle.oswrite.specs.Writing.{core_mode_word, name_data, id_data, mode_data, task_data, isr_data, resource_data, counter_data, start_data, or_null_data, alarm_data, action_data, point_data, spinlock_data, spinlock_name_data, table_start_data, table_data, core_data, config_data, op_text, script_text}
 use Rattle.osread.proofs.Contents.{elements-items_of}
-use Rattle.oswrite.proofs.Placed.{found, names-said, placed}
+use Rattle.oswrite.proofs.{Placed.found, Placed.names-said, Placed.placed, Joining.parts-pieces}
 use Rattle.oswrite.proofs.Said.{task_said, isr_said, resource_said, counter_said, start_said, counter_name, action_said, alarm_said, point_said, spinlock_said, table_start_said, table_said, core_said, config_said}
-use Rattle.std.proofs.lemmas.List.Folds.{list_all-map}
-use Rattle.std.proofs.lemmas.Simd.{map-map}
-use Rattle.osbase.specs.History.{same_core}
-use Rattle.oscript.specs.declared.Op.TheVariants.{Work}
-use Rattle.oscript.specs.Calls.{action_of_op, is_action, op_of_call}
-use Rattle.oscript.specs.Rows.{has_masks, is_in_form}
+use Rattle.oscript.specs.{declared.Op.TheVariants.Work, Calls.action_of_op, Calls.is_action, Calls.op_of_call, Rows.has_masks, Rows.is_in_form}
 use Rattle.oscript.proofs.Acting.{action-back as action-of, call-objects}
-use Rattle.osforms.specs.Operation.{op_meant, has_masks as text_has_masks}
-use Rattle.osforms.proofs.Joining.{has_none}
+use Rattle.osforms.specs.{Operation.op_meant, Operation.has_masks as text_has_masks, Action.is_action as is_action_text}
+use Rattle.osforms.proofs.{Joining.has_none, ActionTexts.meant_action}
 use Rattle.osforms.proofs.Operations.{IsNamed, text-meant, text-none, text-some, meant-known, meant_masks}
-use Rattle.osbase.specs.declared.items.CoreMode.TheVariants.{Named, DontCare}
-use Rattle.osplan.specs.View.{core_of, counter_in}
+use Rattle.osplan.specs.{View.core_of, View.counter_in, Fault.if_faultless, Fault.failing}
 use Rattle.osplan.specs.Expressible as said
 use Rattle.osplan.proofs.ModeObjects.{mode-named, mode-said, nobody, there-mode}
-use Rattle.osplan.proofs.SpinlockObjects.{there-spinlock}
-use Rattle.osplan.proofs.Found.{IsFound, each-found}
-use Rattle.osplan.proofs.Starting.{master-low}
-use Rattle.oscheck.specs.Action.{action_of, any_action}
+use Rattle.oscheck.specs.{Action.action_of, Action.any_action, declared.verdicts.Verdict.Verdict}
 use Rattle.oscheck.specs.Check.{core_scripts, counter_sizes, isr_sizes, task_sizes, start_sizes, alarm_sizes, point_sizes, table_sizes, core_sizes, sizes_of, numbers_of, is_text_within, is_unreserved, is_each_once, is_core_mode_known, is_mode_known, is_spinlock_known, are_known, are_near, are_ordered, links_of, successor, is_core_timed, are_timed, are_masks, are_operations, tests_of}
 use Rattle.osshape.specs.Declarations.{counter_ref, mode_ref, number_id, declarations, place_of, names_of, counter_declared, declared_sizes, id_of, spinlock_ref}
 use Rattle.oscheck.specs.Operation.{is_operation, is_operation_known, operations_of, op_of}
 use Rattle.osdraft.specs.Meaning.{core_mode, task_plan, isr_plan, resource_plan, counter_plan, start_plan, alarm_plan, point_plan, spinlock_plan, table_start_plan, table_plan, core_plan, plan_of, config_of, config_of_shape}
 use Rattle.osshape.proofs.Lists.{map-back, list_all-by, map-same}
 use Rattle.osdraft.proofs.Found.{IsByte, byte-small, is-byte, is-word, HasCounters, NamedCounter, named-counter}
-use Rattle.oswrite.proofs.Joining.{parts-pieces}
-use Rattle.std.proofs.lemmas.List.{length-map, map-append, map-id}
-use Rattle.osforms.proofs.ActionTexts.{meant_action}
-use Rattle.serde_json.specs.Read.{read}
-use Rattle.osplan.specs.Fault.{if_faultless, failing}
-use Rattle.oscheck.specs.declared.verdicts.Verdict.{Verdict}
 use Rattle.oscheck.specs.Verdict.{action_verdict, alarm_verdict, both, core_verdict, each as each_verdict, isr_verdict, op_verdict, point_verdict, table_verdict, task_verdict, with_names}
 use Rattle.osdraft.proofs.Meant.{near_kept, TableLimits, table-limits, cap-byte, counter-words, isr-bytes, posted-same, start-words, table-start-word, task-bytes}
-use Rattle.osforms.specs.Action.{is_action as is_action_text}
 
 -- ---- lists
 
@@ -203,8 +179,8 @@ kept-cores plan inside sayable =
     let within = limit-parts plan inside in
     all-both _ _ plan.cores (all-both _ _ plan.cores (all-both _ _ plan.cores within.cores within.known) within.timed) (text-parts plan sayable).cores
 
-right-of-four : (a b c d : Verdict) → is_right a ≡ true → is_right b ≡ true → is_right c ≡ true → is_right d ≡ true → is_right (both (both (both a b) c) d) ≡ true
-right-of-four a b c d first second third fourth = grind arith
+right-of-core : (mode : Bool) (a b c d : Verdict) → mode ≡ true → is_right a ≡ true → is_right b ≡ true → is_right c ≡ true → is_right d ≡ true → is_right (with_names mode (both (both (both a b) c) d)) ≡ true
+right-of-core mode a b c d known first second third fourth = rw known (grind arith)
 
 right-of-each : {X Y : Type 0} (p : X → Bool) (g : X → Y) (f : Y → Verdict) → ((x : X) → p x ≡ true → is_right (f (g x)) ≡ true) → (xs : List X) → list_all p xs ≡ true → is_right (each_verdict f (map g xs)) ≡ true
 right-of-each p g f right xs all = each-right f (map g xs) ∙ list_all-by p (λ y. is_right (f y)) g right xs all
@@ -296,17 +272,13 @@ module _ (plan : Plan) (inside : IsTrue (limits.is_within_limits plan)) (sayable
   auto-shape modes shape write text_of each None h = refl
   auto-shape modes shape write text_of each (Some x) h = each x h
 
-  -- its counter's name is in form, since the counter is one of the configuration
-  counter-formed : (counter : CounterRef) → limits.is_object plan (counter_object counter) ≡ true → is_name (counter_name plan counter) ≡ true
-  counter-formed counter known = (object-named (counter_object counter) known).in_form
-
   alarm-shape : (alarm : Alarm) → (is_alarm_expressible alarm && limits.is_alarm_known plan alarm) ≡ true → alarm_shape (alarm_data plan alarm) ≡ Some (alarm_said plan alarm)
   unfolding alarm_shape
   alarm-shape alarm h =
       let both = and_parts (is_alarm_expressible alarm) (limits.is_alarm_known plan alarm) h in
       let says = and_parts (is_name alarm.name) (is_action_expressible alarm.action) both.0 in
       let known = three-parts (limits.is_object plan (counter_object alarm.counter)) (limits.is_action_known plan alarm.action) (list_all (limits.is_mode plan) (alarm_modes alarm)) both.1 in
-      rw (says.0, counter-formed alarm.counter known.0, auto-shape (λ (auto : AlarmStart). auto.modes) alarm_start_shape (start_data plan) (start_said plan) (λ auto e. rw (start-shape auto e) refl) alarm.auto known.2) refl
+      rw (says.0, (object-named (counter_object alarm.counter) known.0).in_form, auto-shape (λ (auto : AlarmStart). auto.modes) alarm_start_shape (start_data plan) (start_said plan) (λ auto e. rw (start-shape auto e) refl) alarm.auto known.2) refl
 
   point-shape : (point : ExpiryPoint) → point_shape (point_data plan point) ≡ Some (point_said plan point)
   unfolding point_shape
@@ -320,7 +292,7 @@ module _ (plan : Plan) (inside : IsTrue (limits.is_within_limits plan)) (sayable
       let known = three-parts (limits.is_object plan (counter_object table.counter)) (list_all (limits.is_action_known plan) (table_actions table)) (list_all (limits.is_mode plan) (table_modes table)) both.1 in
       rw (
         says.0,
-        counter-formed table.counter known.0,
+        (object-named (counter_object table.counter) known.0).in_form,
         each-items point_shape (point_data plan) (point_said plan) (λ (point : ExpiryPoint). true) (λ point e. point-shape point) table.points (always table.points),
         auto-shape (λ (auto : TableStart). auto.modes) table_start_shape (table_start_data plan) (table_start_said plan) (λ auto e. rw (table-start-shape auto e) refl) table.auto known.2,
       ) refl
@@ -429,16 +401,13 @@ module _ (plan : Plan) (inside : IsTrue (limits.is_within_limits plan)) (sayable
       (core-has core parts.0 found.0, cores-have cores parts.1 found.1)
 
   -- The name of a counter of the configuration stands for it,
-  counter-placed : (counter : CounterRef) → limits.is_object plan (counter_object counter) ≡ true → place_of objects ObjectKind.Counter (counter_name plan counter) ≡ Some (counter_place counter)
-  counter-placed counter known = (object-named (counter_object counter) known).found
-
   counter-ref-back : (id : CoreId) (counter : CounterRef) → limits.is_object plan (counter_object counter) ≡ true → counter_ref objects id (counter_name plan counter) ≡ counter
-  counter-ref-back id counter known = rw (counter-placed counter known) refl
+  counter-ref-back id counter known = rw (object-named (counter_object counter) known).found refl
 
   -- and its numbers are the counter's.
   counter-named : (id : CoreId) (counter : CounterRef) → limits.is_object plan (counter_object counter) ≡ true → NamedCounter plan objects id (counter_name plan counter)
   counter-named id counter known =
-      named-counter plan (config_said plan) id (counter_name plan counter) apart (cores-have plan.cores cores (each-found plan.cores bounds.distinct)) (ap is_some (counter-placed counter known))
+      named-counter plan (config_said plan) id (counter_name plan counter) apart (cores-have plan.cores cores (each-found plan.cores bounds.distinct)) (ap is_some (object-named (counter_object counter) known).found)
 
   -- The numbers of a counter, as its name finds them in the text.
   counter-sized : (id : CoreId) (counter : CounterRef) (known : limits.is_object plan (counter_object counter) ≡ true) → option_map limits.counter_sizes (counter_in plan counter) ≡ Some (counter-named id counter known).sizes
@@ -502,16 +471,13 @@ module _ (plan : Plan) (inside : IsTrue (limits.is_within_limits plan)) (sayable
       ) refl
 
   -- The name of a spinlock's successor stands for it.
-  spinlock-placed : (spinlock : SpinlockId) → limits.is_spinlock plan spinlock ≡ true → place_of objects ObjectKind.Spinlock (spinlock_name plan spinlock) ≡ Some (spinlock_place spinlock)
-  spinlock-placed spinlock h = (object-named (spinlock_object spinlock) (there-spinlock plan none spinlock h)).found
-
   next-back : (next : Option SpinlockId) → option_map_or (limits.is_spinlock plan) next true ≡ true → option_and_then (spinlock_ref objects) (option_map (spinlock_name plan) next) ≡ next
   next-back None h = refl
-  next-back (Some spinlock) h = rw (spinlock-placed spinlock h) refl
+  next-back (Some spinlock) h = rw (object-named (spinlock_object spinlock) (there-spinlock plan none spinlock h)).found refl
 
   next-known : (next : Option SpinlockId) → option_map_or (limits.is_spinlock plan) next true ≡ true → option_map_or (λ (name : List ℕ). is_some (place_of objects ObjectKind.Spinlock name)) (option_map (spinlock_name plan) next) true ≡ true
   next-known None h = refl
-  next-known (Some spinlock) h = rw (spinlock-placed spinlock h) refl
+  next-known (Some spinlock) h = rw (object-named (spinlock_object spinlock) (there-spinlock plan none spinlock h)).found refl
 
   spinlock-back : (spinlock : Spinlock) → limits.is_spinlock_known plan spinlock ≡ true → spinlock_plan objects (spinlock_said plan spinlock) ≡ spinlock
   spinlock-back spinlock h = rw (next-back spinlock.next h) refl
@@ -582,7 +548,7 @@ module _ (plan : Plan) (inside : IsTrue (limits.is_within_limits plan)) (sayable
   alarm-right : (id : CoreId) (alarm : Alarm) → is_kept_alarm plan alarm ≡ true → is_right (alarm_verdict objects id (alarm_said plan alarm)) ≡ true
   alarm-right id alarm h =
       let parts = alarm-parts plan alarm h in
-      acting-right _ _ _ _ _ (ap is_some (counter-placed alarm.counter parts.1)) (action-right alarm.action (kept-action plan alarm.action parts.2)) (auto-known (λ (auto : AlarmStart). auto.modes) (λ (auto : AlarmStartText). auto.modes) (start_said plan) (λ auto. refl) alarm.auto parts.3)
+      acting-right _ _ _ _ _ (ap is_some (object-named (counter_object alarm.counter) parts.1).found) (action-right alarm.action (kept-action plan alarm.action parts.2)) (auto-known (λ (auto : AlarmStart). auto.modes) (λ (auto : AlarmStartText). auto.modes) (start_said plan) (λ auto. refl) alarm.auto parts.3)
 
   point-right : (point : ExpiryPoint) → is_kept_point plan point ≡ true → is_right (point_verdict objects (point_said plan point)) ≡ true
   point-right point h = right-of-each (is_kept_action plan) (action_said plan) (action_verdict objects) action-right point.actions (and_parts (is_between 0 1000000000 (Some point.offset)) (list_all (is_kept_action plan) point.actions) h).1
@@ -591,15 +557,14 @@ module _ (plan : Plan) (inside : IsTrue (limits.is_within_limits plan)) (sayable
   table-right id table h =
       let parts = table-parts plan table h in
       let points = right-of-each (is_kept_point plan) (point_said plan) (point_verdict objects) point-right table.points (kept-points plan table h) in
-      acting-right _ _ _ _ _ (ap is_some (counter-placed table.counter parts.1)) points (auto-known (λ (auto : TableStart). auto.modes) (λ (auto : TableStartText). auto.modes) (table_start_said plan) (λ auto. refl) table.auto parts.3)
+      acting-right _ _ _ _ _ (ap is_some (object-named (counter_object table.counter) parts.1).found) points (auto-known (λ (auto : TableStart). auto.modes) (λ (auto : TableStartText). auto.modes) (table_start_said plan) (λ auto. refl) table.auto parts.3)
 
   core-right : (core : Core) → is_kept_core plan core ≡ true → is_right (core_verdict objects (core_said plan core)) ≡ true
   core-right core h =
       let kept = kept-core plan core h in
       let id = id_of (core_said plan core) in
-      let four = both (both (both (each_verdict (task_verdict objects id) (map (task_said plan) core.tasks)) (each_verdict (λ (isr : IsrText). isr_verdict objects id isr.script) (map (isr_said plan) core.isrs))) (each_verdict (alarm_verdict objects id) (map (alarm_said plan) core.alarms))) (each_verdict (table_verdict objects id) (map (table_said plan) core.tables)) in
-      ap (λ known. is_right (with_names known four)) (core-mode-known core.mode kept.mode)
-      ∙ right-of-four (each_verdict (task_verdict objects id) (map (task_said plan) core.tasks)) (each_verdict (λ (isr : IsrText). isr_verdict objects id isr.script) (map (isr_said plan) core.isrs)) (each_verdict (alarm_verdict objects id) (map (alarm_said plan) core.alarms)) (each_verdict (table_verdict objects id) (map (table_said plan) core.tables))
+      right-of-core _ (each_verdict (task_verdict objects id) (map (task_said plan) core.tasks)) (each_verdict (λ (isr : IsrText). isr_verdict objects id isr.script) (map (isr_said plan) core.isrs)) (each_verdict (alarm_verdict objects id) (map (alarm_said plan) core.alarms)) (each_verdict (table_verdict objects id) (map (table_said plan) core.tables))
+      (core-mode-known core.mode kept.mode)
       (right-of-each (is_kept_task plan) (task_said plan) (task_verdict objects id) (task-right id) core.tasks kept.tasks)
       (right-of-each (is_kept_isr plan) (isr_said plan) (λ (isr : IsrText). isr_verdict objects id isr.script) (isr-right id) core.isrs kept.isrs)
       (right-of-each (is_kept_alarm plan) (alarm_said plan) (alarm_verdict objects id) (alarm-right id) core.alarms kept.alarms)
@@ -662,8 +627,7 @@ module _ (plan : Plan) (inside : IsTrue (limits.is_within_limits plan)) (sayable
   points-numbers (point ∷ points) = rw (length-map point.actions (action_said plan), points-numbers points) refl
 
   table-auto-numbers : (auto : Option TableStart) → option_map (λ (auto : TableStartText). auto.offset) (option_map (table_start_said plan) auto) ≡ option_map (λ (auto : TableStart). Some auto.offset) auto
-  table-auto-numbers None = refl
-  table-auto-numbers (Some auto) = refl
+  table-auto-numbers auto = grind arith
 
   table-numbers : (id : CoreId) (table : Table) → is_kept_table plan table ≡ true → table_sizes objects (table_said plan table) ≡ limits.table_sizes (counter_in plan) table
   table-numbers id table h = rw (points-numbers table.points, table-auto-numbers table.auto, counter-numbers id table.counter (table-parts plan table h).1) refl
@@ -682,12 +646,10 @@ module _ (plan : Plan) (inside : IsTrue (limits.is_within_limits plan)) (sayable
         scripts-numbers core k,
       ) refl
 
-  plan-numbers : sizes_of (config_said plan) ≡ limits.sizes_of plan
-  plan-numbers =
-      rw (length-map plan.spinlocks (spinlock_said plan), map-same (core_sizes objects) (core_said plan) (limits.core_sizes plan) (is_kept_core plan) core-numbers plan.cores cores) refl
-
   within : is_text_within (config_said plan) ≡ true
-  within = and_from _ _ refl (ap limits.is_within plan-numbers ∙ bounds.sizes)
+  within =
+      let numbers : sizes_of (config_said plan) ≡ limits.sizes_of plan = rw (length-map plan.spinlocks (spinlock_said plan), map-same (core_sizes objects) (core_said plan) (limits.core_sizes plan) (is_kept_core plan) core-numbers plan.cores cores) refl in
+      and_from _ _ refl (ap limits.is_within numbers ∙ bounds.sizes)
 
   -- ---- tables
 

@@ -3,8 +3,7 @@ use Rattle.std.proofs.Common.{ℕ, List, map, Some, option_map}
 use Rattle.osbase.specs.Objects.{counter_place}
 use Rattle.oscheck.specs.Words.{Alarm, AlarmStart, AlarmStartText, AlarmText, ConfigText, Core, CoreText, Counter, CounterRef, CounterText, ExpiryPoint, Isr, IsrText, ObjectKind, Plan, PointText, RemoteCall, Resource, ResourceText, Spinlock, SpinlockText, Table, TableStart, TableStartText, TableText, Task, TaskText}
 use Rattle.oscript.specs.Calls.{op_of_call}
-use Rattle.osplan.specs.Limits.{ceiling_of, number_of}
-use Rattle.osplan.specs.Names.{name_of, name_of_mode, spinlock_name}
+use Rattle.osplan.specs.{Limits.ceiling_of, Limits.number_of, Names.name_of, Names.name_of_mode, Names.spinlock_name}
 use Rattle.oswrite.specs.Writing.{core_mode_word, op_text, script_text}
 
 abbrev pub task_said : Plan → Task → TaskText

@@ -1,6 +1,5 @@
 use Rattle.std.proofs.Common.{◌≡◌, inr, map, refl}
-use Rattle.std.proofs.lemmas.List.Folds.{list_all-map}
-use Rattle.std.proofs.lemmas.Simd.{map-map}
+use Rattle.std.proofs.{lemmas.List.Folds.list_all-map, lemmas.Simd.map-map}
 use Rattle.oscheck.specs.Operation.{op_of, operations_of}
 use Rattle.oscheck.proofs.Operations.{judged-none, judged-some}
 use Rattle.oscheck.proofs.judging.judge_parts.Goals as goal

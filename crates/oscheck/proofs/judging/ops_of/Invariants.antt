@@ -1,6 +1,5 @@
 use Rattle.std.proofs.Common.{◌≡◌, map, take}
-use Rattle.oscheck.specs.Words.{Op}
-use Rattle.oscheck.specs.declared.verdicts.Judged.{Judged}
+use Rattle.oscheck.specs.{Words.Op, declared.verdicts.Judged.Judged}
 use Rattle.oscheck.proofs.judging.ops_of.Given as goal
 
 abbrev pub invariant-loop-part : goal.invariant-loop-part

@@ -1,10 +1,8 @@
 use Rattle.std.proofs.Common.{◌≡◌, ◌∙◌, nat_le, true, rules, length, refl}
 use Rattle.std.specs.List.{list_all}
-use Rattle.std.proofs.lemmas.List.{length-map}
-use Rattle.std.proofs.lemmas.List.Folds.{list_all-map}
+use Rattle.std.proofs.{lemmas.List.length-map, lemmas.List.Folds.list_all-map}
 use Rattle.osplan.specs.Limits.{is_between, is_point_within}
-use Rattle.oscheck.specs.Check.{point_sizes}
-use Rattle.oscheck.specs.Words.{PointText}
+use Rattle.oscheck.specs.{Check.point_sizes, Words.PointText}
 use Rattle.oscheck.proofs.table_checks.is_table_within.Goals as goal
 
 pub returns-then-is_each_point_within : goal.returns-then-is_each_point_within

@@ -1,5 +1,4 @@
-use Rattle.std.proofs.Common.{◌∙◌, ap}
-use Rattle.std.proofs.lemmas.Simd.{map-map}
+use Rattle.std.proofs.{Common.◌∙◌, Common.ap, lemmas.Simd.map-map}
 use Rattle.oscheck.specs.Words.{Plan, Spinlock}
 use Rattle.osplan.specs.Spinlocks.{links_of}
 use Rattle.osshape.specs.Declarations.{declarations}

@@ -1,9 +1,7 @@
 use Rattle.std.proofs.Common.{◌≡◌, ◌∙◌, [], ◌∷◌, ap, sym, subst, List}
 use Rattle.std.proofs.lemmas.Result.{err_from_is_err_and}
 use Rattle.std.specs.Option.{option_map_or}
-use Rattle.osplan.specs.declared.faults.ConfFault.{ConfFault}
-use Rattle.osplan.specs.declared.faults.ConfFault.TheVariants.{NotJson, Shape}
-use Rattle.osplan.specs.Fault.{failing, IsLeast}
+use Rattle.osplan.specs.{declared.faults.ConfFault.ConfFault, declared.faults.ConfFault.TheVariants.NotJson, declared.faults.ConfFault.TheVariants.Shape, Fault.failing, Fault.IsLeast}
 use Rattle.oscheck.specs.Check.{tests_of}
 use Rattle.osdraft.specs.Meaning.{faults_of, faults_of_data}
 use Rattle.oscheck.proofs.Least.{least-tests_of}

@@ -1,7 +1,6 @@
 use Rattle.std.proofs.Common.{◌≡◌, ℕ, ◌+◌, ◌-◌, ◌<◌, length, drop, not, is_some, ap, sym, subst, ◌∙◌, arith}
 use Rattle.std.proofs.lemmas.Map.Text.{hash_map_updates_str}
-use Rattle.osshape.specs.declared.declarations.Declaration.{Declaration}
-use Rattle.osshape.specs.Index.{Indexes, index_in}
+use Rattle.osshape.specs.{declared.declarations.Declaration.Declaration, Index.Indexes, Index.index_in}
 use Rattle.osshape.proofs.Indexing.{one_more}
 use Rattle.osshape.proofs.places.index_of.Goals as goal
 

@@ -1,9 +1,7 @@
 use Rattle.std.proofs.Common.{◌≡◌, ◌∙◌, Some, ap}
-use Rattle.serde_json.specs.Written.{has_float, compact_text}
-use Rattle.serde_json.specs.View.{view}
+use Rattle.serde_json.specs.{Written.has_float, Written.compact_text, View.view}
 use Rattle.oswrite.specs.Writing.{config_data}
-use Rattle.oswrite.proofs.Flat.{config-fits}
-use Rattle.oswrite.proofs.Restored.{config-back}
+use Rattle.oswrite.proofs.{Flat.config-fits, Restored.config-back}
 use Rattle.oswrite.proofs.texts.config_text.Goals as goal
 
 pub returns-clause-text : goal.returns-clause-text
