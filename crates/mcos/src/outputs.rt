@@ -1,6 +1,6 @@
 //! Where a job's text is printed to.
 
-ghost use Rattle.std.specs.Prelude.{◌≡◌, ◌≤◌, ◌^◌, ℕ, List, Option, Some};
+ghost use Rattle.std.specs.Prelude.{◌≤◌, ◌^◌, ℕ, List, Option, Some};
 ghost use Rattle.std.specs.Io.Buffered.{writer_inner};
 ghost use Rattle.mcos.specs.Outputs.{Sends};
 

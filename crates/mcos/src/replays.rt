@@ -3,7 +3,6 @@
 ghost use Rattle.std.specs.Prelude.{◌≡◌, ◌<◌, ◌≤◌, ◌^◌, IfErr, IsSome, Ok, Result, length, max};
 ghost use Rattle.ostext.specs.Trace.{block_of};
 ghost use Rattle.osplan.specs.View.{core_of};
-ghost use Rattle.osreplay.specs.Replays.{IsReplayed};
 ghost use Rattle.mcos.specs.Performs.{Comes, Prints};
 ghost use Rattle.mcos.specs.Replays.{HasNoReplay, IsReplayOutput, Replays};
 ghost use Rattle.mcos.specs.Runs.{StopsAtFaults};

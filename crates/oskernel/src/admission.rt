@@ -7,7 +7,6 @@ ghost use Rattle.osbase.specs.Sets.{core_ids, has_core};
 ghost use Rattle.osbase.specs.Spins.{newest_owed, same_spinlock};
 ghost use Rattle.osplan.specs.View.{is_configured};
 ghost use Rattle.osstate.specs.Readings.{next_start};
-ghost use Rattle.oscall.specs.Border.{is_served};
 ghost use Rattle.oskernel.specs.Admission.{admits, answers_value, are_started_cores, is_agreement, is_awaited, is_for, is_front_for, is_next_from, is_reply_to, is_start_answer, is_started_now_or_before, is_unknown_core, asks_halt, awaits_get, awaits_try, has_asked_halt, is_get_of, is_next_release, is_release_of, is_try_of, may_halt};
 
 use crate::free::{is_settled, may_go_on, may_look_halt};

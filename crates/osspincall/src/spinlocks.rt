@@ -1,7 +1,6 @@
 //! The services of spinlocks.
 
-ghost use Rattle.std.specs.Prelude.{◌≡◌, IsTrue, if◌then◌else◌};
-ghost use Rattle.osjobs.specs.Priorities.{is_own_runner};
+ghost use Rattle.std.specs.Prelude.{◌≡◌, IsTrue};
 ghost use Rattle.osstate.specs.Does.{Effects, Reads, service_entries, service_marks};
 ghost use Rattle.osstate.specs.Sound.{is_awaited_known, is_lock_known};
 ghost use Rattle.osact.specs.Terms.{MayAct, Offered};

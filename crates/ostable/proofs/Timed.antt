@@ -9,7 +9,7 @@ use Rattle.osplan.specs.declared.plans.Core.{Core}
 use Rattle.osplan.specs.declared.plans.ExpiryPoint.{ExpiryPoint}
 use Rattle.osplan.specs.declared.plans.Table.{Table as TablePlan}
 use Rattle.osplan.specs.Clocked.{are_clocks_within, own_table_sizes}
-use Rattle.osplan.specs.Limits.{PointSizes, is_between, is_point_within, is_table_timed, is_table_within, last_offset, point_sizes}
+use Rattle.osplan.specs.Limits.{is_between, is_point_within, is_table_timed, is_table_within, last_offset, point_sizes}
 use Rattle.osplan.specs.Limits as limits
 use Rattle.osplan.specs.View.{own_table}
 use Rattle.osplan.proofs.Clocked.{clock-parts}

@@ -1,5 +1,5 @@
 -- A configured core fits the largest kernel.
-use Rattle.std.proofs.Common.{◌≡◌, ◌≤◌, ◌+◌, true, IsTrue, Option, Some, None, IsSome, refl, arith, lit≤, nat_lt, sum_by, unwrap_or}
+use Rattle.std.proofs.Common.{◌≡◌, ◌≤◌, true, IsTrue, Option, Some, None, IsSome, refl, arith, lit≤, nat_lt, sum_by, unwrap_or}
 use Rattle.std.specs.List.{list_all}
 use Rattle.osbase.specs.declared.references.CoreId.{CoreId}
 use Rattle.osplan.specs.declared.plans.Plan.{Plan}

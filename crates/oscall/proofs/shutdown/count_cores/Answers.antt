@@ -1,4 +1,4 @@
-use Rattle.std.proofs.Common.{ℕ, ℤ, ◌<◌, ◌^◌, w64, pos, ap, sym, ◌∙◌, lit≤, arith}
+use Rattle.std.proofs.Common.{ℤ, ◌<◌, ◌^◌, w64, pos, ap, sym, ◌∙◌, lit≤, arith}
 use Rattle.std.proofs.lemmas.Int.{to_z_pos}
 use Rattle.osbase.specs.declared.items.CoreSet.{CoreSet}
 use Rattle.osstate.specs.State.{KernelState}

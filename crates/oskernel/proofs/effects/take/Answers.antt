@@ -1,5 +1,4 @@
-use Rattle.std.proofs.Common.{◌≡◌, ◌+◌, ◌<◌, ◌≤◌, ◌^◌, ◌∷◌, [], IsTrue, false, length, vec_len, vec_capacity, rules, refl, ap, subst, sym, arith}
-use Rattle.osbase.specs.declared.items.Item.{Item}
+use Rattle.std.proofs.Common.{◌≡◌, ◌+◌, ◌<◌, ◌≤◌, ◌^◌, ◌∷◌, [], IsTrue, false, length, vec_len, vec_capacity, rules, ap, subst, sym, arith}
 use Rattle.osbase.specs.History.{Took}
 use Rattle.osbase.specs.Phases.{is_before_live, is_past_first_gate}
 use Rattle.osplan.specs.Objects.{outbox_needed}

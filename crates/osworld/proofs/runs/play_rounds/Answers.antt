@@ -1,4 +1,4 @@
-use Rattle.std.proofs.Common.{◌≤◌, ◌^◌, refl, ap, sym, ◌∙◌, arith, Bor}
+use Rattle.std.proofs.Common.{◌≤◌, ◌^◌, refl, ap, ◌∙◌, arith, Bor}
 use Rattle.osplan.specs.declared.plans.Plan.{Plan}
 use Rattle.osworld.specs.Runs.{round_by}
 use Rattle.osworld.proofs.Turned.{on_err}
