@@ -4,7 +4,7 @@ use Rattle.std.specs.List.{list_all, list_any, flat_map}
 use Rattle.std.specs.Option.{option_map_or}
 use Rattle.std.proofs.lemmas.List.{append_assoc, append-nil}
 use Rattle.std.proofs.lemmas.List.Folds.{list_any-append}
-use Rattle.std.proofs.lemmas.Bool.{and_parts, and_from, or_from, or_parts, or_left, or_right, not-true, not-false, not_from_false, eq-eqb}
+use Rattle.std.proofs.lemmas.Bool.{and_parts, and_from, or_from, or_parts, or_left, or_right, not-true, not-false, not_from_false, not_from_true, eq-eqb}
 use Rattle.osbase.specs.declared.limits.TheConstants.{MAILBOX}
 use Rattle.osbase.specs.declared.references.CoreId.{CoreId}
 use Rattle.osbase.specs.declared.references.CounterRef.{CounterRef}
@@ -12,7 +12,7 @@ use Rattle.osbase.specs.declared.objects.Object.{Object}
 use Rattle.osbase.specs.declared.objects.ObjectKind.{ObjectKind}
 use Rattle.osbase.specs.Objects.{counter_object, object_of_call}
 use Rattle.osbase.specs.History.{same_core}
-use Rattle.osbase.proofs.Same.{same_core-true, same_core-refl}
+use Rattle.osbase.proofs.Same.{same_core-comm, same_core-refl, same_core-true}
 use Rattle.oscript.specs.declared.Op.{Op}
 use Rattle.oscript.specs.Calls.{is_action}
 use Rattle.oscript.specs.Rows.{halts_all, objects_of}
@@ -29,8 +29,8 @@ use Rattle.osplan.specs.Limits.{CoreSizes, StartSizes, TableSizes, core_sizes, s
 use Rattle.osplan.specs.Expressible.{all_common_names, is_core_expressible, is_expressible, are_distinct, object_names}
 use Rattle.osplan.specs.Separate.{agree, alone_of, halts_somewhere, has_operation, is_agreed_mode, is_named_elsewhere, is_off, is_on, is_separate, is_separate_core, is_started, names_other}
 use Rattle.osplan.proofs.Distinct.{distinct-kept, distinct-front, distinct-back}
-use Rattle.osplan.proofs.Alarming.{known-parts, own-sizes, own-tables, own-timed}
-use Rattle.osplan.proofs.Tests.{all-both, all-not, all-weaker, find-fails, find-holds, find-passes}
+use Rattle.osplan.proofs.Alarming.{known-named, known-parts, own-sizes, own-tables, own-timed}
+use Rattle.osplan.proofs.Tests.{all-both, all-without, any-flat, find-fails, find-holds, find-passes}
 use Rattle.osplan.proofs.Within.{LimitParts, NearParts, TextParts, limit-parts, near-parts, text-parts}
 use Rattle.osplan.proofs.Separating.{SeparateParts, any-acting, separate-parts}
 
@@ -44,164 +44,124 @@ each-distinct : (cores : List Core) → are_distinct (flat_map object_names core
 each-distinct [] h = refl
 each-distinct (c ∷ cs) h = and_from _ _ (distinct-front (object_names c) (flat_map object_names cs) h) (each-distinct cs (distinct-back (object_names c) (flat_map object_names cs) h))
 
-none-in-each : (p : List ℕ → Bool) (cores : List Core) → list_any p (flat_map object_names cores) ≡ false → list_all (λ (c : Core). not (list_any p (object_names c))) cores ≡ true
-none-in-each p [] h = refl
-none-in-each p (c ∷ cs) h =
-    let absent = or_parts _ _ (sym (list_any-append p (object_names c) (flat_map object_names cs)) ∙ h) in
-    and_from _ _ (not_from_false _ absent.0) (none-in-each p cs absent.1)
-
 -- ---- the limits
 
 module _ (plan : Plan) (id : CoreId) (core : Core) (found : core_of plan id ≡ Some core) (same : core.id ≡ id) where
   mine : same_core core.id id ≡ true
   mine = ap (same_core core.id) (sym same) ∙ same_core-refl core.id
 
+  here : core_of plan core.id ≡ Some core
+  here = ap (core_of plan) same ∙ found
+
+  abbrev alone : Plan
+  alone = alone_of plan id core
+
   -- an object that stands on no other core is one of the core's own
-  own-object : (object : Object) → (is_object plan object && not (not (is_on core.id object))) ≡ true → is_object (alone_of plan id core) object ≡ true
-  own-object object h =
-      let parts = and_parts (is_object plan object) (not (not (is_on core.id object))) h in
-      let own : object.place.core ≡ core.id = same_core-true object.place.core core.id (not-false _ (not-true _ parts.1)) in
-      let here : core_of plan object.place.core ≡ Some core = ap (core_of plan) (own ∙ same) ∙ found in
-      let index : nat_lt object.place.index (object_count object.kind core) ≡ true = sym (ap (λ (o : Option Core). option_map_or (λ (c : Core). nat_lt object.place.index (object_count object.kind c)) o (is_common plan object)) here) ∙ parts.0 in
-      let at_home : same_core core.id object.place.core ≡ true = ap (same_core core.id) own ∙ same_core-refl core.id in
-      rw at_home index
+  own-object : (object : Object) → is_object plan object ≡ true → is_off core.id object ≡ false → is_object alone object ≡ true
+  own-object object known inward =
+      let own = not-false (is_on core.id object) inward in
+      let at_home : same_core core.id object.place.core ≡ true = same_core-comm core.id object.place.core ∙ own in
+      rw at_home (rw own at (known-named plan core here object known))
 
-  own-operation : (op : Op) → (is_op_known plan op && not (names_other core.id op)) ≡ true → is_op_known (alone_of plan id core) op ≡ true
-  own-operation op h =
-      let parts = and_parts (is_op_known plan op) (not (names_other core.id op)) h in
-      all-weaker (λ object. is_object plan object && not (not (is_on core.id object))) (is_object (alone_of plan id core)) own-object (objects_of op)
-      (all-both (is_object plan) (λ object. not (not (is_on core.id object))) (objects_of op) parts.0 (all-not (λ object. not (is_on core.id object)) (objects_of op) (not-true _ parts.1)))
+  own-operation : (op : Op) → is_op_known plan op ≡ true → names_other core.id op ≡ false → is_op_known alone op ≡ true
+  own-operation op = all-without (is_object plan) (is_off core.id) (is_object alone) own-object (objects_of op)
 
-  own-script : (script : List Op) → (is_script_known plan script && not (list_any (names_other core.id) script)) ≡ true → is_script_known (alone_of plan id core) script ≡ true
-  own-script script h =
-      let parts = and_parts (is_script_known plan script) _ h in
-      all-weaker (λ op. is_op_known plan op && not (names_other core.id op)) (is_op_known (alone_of plan id core)) own-operation script
-      (all-both (is_op_known plan) (λ op. not (names_other core.id op)) script parts.0 (all-not (names_other core.id) script (not-true _ parts.1)))
-
-  own-scripts : list_all (is_script_known plan) (core_scripts core) ≡ true → has_operation (names_other core.id) core ≡ false → list_all (is_script_known (alone_of plan id core)) (core_scripts core) ≡ true
-  own-scripts known inside =
-      all-weaker (λ (script : List Op). is_script_known plan script && not (list_any (names_other core.id) script)) (is_script_known (alone_of plan id core)) own-script (core_scripts core)
-      (all-both (is_script_known plan) (λ (script : List Op). not (list_any (names_other core.id) script)) (core_scripts core) known (all-not (list_any (names_other core.id)) (core_scripts core) inside))
+  own-script : (script : List Op) → is_script_known plan script ≡ true → list_any (names_other core.id) script ≡ false → is_script_known alone script ≡ true
+  own-script script = all-without (is_op_known plan) (names_other core.id) (is_op_known alone) own-operation script
 
   -- an action of this core is for an object of it
-  own-action : (action : RemoteCall) → (is_action_known plan action && not (is_off core.id (object_of_call action))) ≡ true → is_action_known (alone_of plan id core) action ≡ true
-  own-action action h =
-      let parts = and_parts (is_action_known plan action) (not (is_off core.id (object_of_call action))) h in
-      let known = and_parts (is_action action) (is_object plan (object_of_call action)) parts.0 in
-      and_from _ _ known.0 (own-object (object_of_call action) (and_from _ _ known.1 parts.1))
+  abbrev leaves : RemoteCall → Bool
+  leaves action = is_off core.id (object_of_call action)
 
-  own-actions : (actions : List RemoteCall) → list_all (is_action_known plan) actions ≡ true → list_any (λ (action : RemoteCall). is_off core.id (object_of_call action)) actions ≡ false → list_all (is_action_known (alone_of plan id core)) actions ≡ true
-  own-actions actions known acting =
-      all-weaker (λ (action : RemoteCall). is_action_known plan action && not (is_off core.id (object_of_call action))) (is_action_known (alone_of plan id core)) own-action actions
-      (all-both (is_action_known plan) (λ (action : RemoteCall). not (is_off core.id (object_of_call action))) actions known
-      (all-not (λ (action : RemoteCall). is_off core.id (object_of_call action)) actions acting))
-
-  own-counter : (counter : CounterRef) → is_object plan (counter_object counter) ≡ true → is_on core.id (counter_object counter) ≡ true → is_object (alone_of plan id core) (counter_object counter) ≡ true
-  own-counter counter known here = own-object (counter_object counter) (and_from _ _ known (ap (λ b. not (not b)) here))
+  own-action : (action : RemoteCall) → is_action_known plan action ≡ true → leaves action ≡ false → is_action_known alone action ≡ true
+  own-action action known inward =
+      let parts = and_parts (is_action action) (is_object plan (object_of_call action)) known in
+      and_from _ _ parts.0 (own-object (object_of_call action) parts.1 inward)
 
   -- an alarm names its counter, of this core, and an object that its action is for
-  abbrev stands-here : Alarm → Bool
-  stands-here alarm = is_alarm_near core.id alarm && not (is_off core.id (object_of_call alarm.action))
-
-  own-alarm : (alarm : Alarm) → (is_alarm_known plan alarm && stands-here alarm) ≡ true → is_alarm_known (alone_of plan id core) alarm ≡ true
-  own-alarm alarm h =
-      let parts = and_parts (is_alarm_known plan alarm) (stands-here alarm) h in
-      let here = and_parts (is_alarm_near core.id alarm) (not (is_off core.id (object_of_call alarm.action))) parts.1 in
+  own-alarm : (alarm : Alarm) → (is_alarm_known plan alarm && is_alarm_near core.id alarm) ≡ true → leaves alarm.action ≡ false → is_alarm_known alone alarm ≡ true
+  own-alarm alarm h inward =
+      let parts = and_parts (is_alarm_known plan alarm) (is_alarm_near core.id alarm) h in
       let known = and_parts _ (list_all (is_mode plan) (alarm_modes alarm)) parts.0 in
       let objects = and_parts (is_object plan (counter_object alarm.counter)) (is_action_known plan alarm.action) known.0 in
-      and_from _ _ (and_from _ _ (own-counter alarm.counter objects.0 here.0) (own-action alarm.action (and_from _ _ objects.1 here.1))) known.1
-
-  own-alarms : list_all (is_alarm_known plan) core.alarms ≡ true → list_all (is_alarm_near core.id) core.alarms ≡ true → list_any (λ (alarm : Alarm). is_off core.id (object_of_call alarm.action)) core.alarms ≡ false → list_all (is_alarm_known (alone_of plan id core)) core.alarms ≡ true
-  own-alarms known near acting =
-      all-weaker (λ (alarm : Alarm). is_alarm_known plan alarm && stands-here alarm) (is_alarm_known (alone_of plan id core)) own-alarm core.alarms
-      (all-both (is_alarm_known plan) stands-here core.alarms known
-      (all-both (is_alarm_near core.id) (λ (alarm : Alarm). not (is_off core.id (object_of_call alarm.action))) core.alarms near
-      (all-not (λ (alarm : Alarm). is_off core.id (object_of_call alarm.action)) core.alarms acting)))
+      and_from _ _ (and_from _ _ (own-object (counter_object alarm.counter) objects.0 (not_from_true _ parts.1)) (own-action alarm.action objects.1 inward)) known.1
 
   -- and so does a table
-  abbrev lies-here : Table → Bool
-  lies-here table = is_table_near core.id table && not (list_any (λ (action : RemoteCall). is_off core.id (object_of_call action)) (table_actions table))
-
-  own-table : (table : Table) → (is_table_known plan table && lies-here table) ≡ true → is_table_known (alone_of plan id core) table ≡ true
-  own-table table h =
-      let parts = and_parts (is_table_known plan table) (lies-here table) h in
-      let here = and_parts (is_table_near core.id table) _ parts.1 in
+  own-table : (table : Table) → (is_table_known plan table && is_table_near core.id table) ≡ true → list_any leaves (table_actions table) ≡ false → is_table_known alone table ≡ true
+  own-table table h inward =
+      let parts = and_parts (is_table_known plan table) (is_table_near core.id table) h in
       let known = and_parts _ (list_all (is_mode plan) (table_modes table)) parts.0 in
       let objects = and_parts (is_object plan (counter_object table.counter)) (list_all (is_action_known plan) (table_actions table)) known.0 in
-      and_from _ _ (and_from _ _ (own-counter table.counter objects.0 here.0) (own-actions (table_actions table) objects.1 (not-true _ here.1))) known.1
+      let actions = all-without (is_action_known plan) leaves (is_action_known alone) own-action (table_actions table) objects.1 inward in
+      and_from _ _ (and_from _ _ (own-object (counter_object table.counter) objects.0 (not_from_true _ parts.1)) actions) known.1
 
-  own-tables-known : list_all (is_table_known plan) core.tables ≡ true → list_all (is_table_near core.id) core.tables ≡ true → list_any (λ (table : Table). list_any (λ (action : RemoteCall). is_off core.id (object_of_call action)) (table_actions table)) core.tables ≡ false → list_all (is_table_known (alone_of plan id core)) core.tables ≡ true
-  own-tables-known known near acting =
-      all-weaker (λ (table : Table). is_table_known plan table && lies-here table) (is_table_known (alone_of plan id core)) own-table core.tables
-      (all-both (is_table_known plan) lies-here core.tables known
-      (all-both (is_table_near core.id) (λ (table : Table). not (list_any (λ (action : RemoteCall). is_off core.id (object_of_call action)) (table_actions table))) core.tables near
-      (all-not (λ (table : Table). list_any (λ (action : RemoteCall). is_off core.id (object_of_call action)) (table_actions table)) core.tables acting)))
-
-  core-alone : is_core_known plan core ≡ true → NearParts core → SeparateParts plan core → is_core_known (alone_of plan id core) core ≡ true
+  core-alone : is_core_known plan core ≡ true → NearParts core → SeparateParts plan core → is_core_known alone core ≡ true
   core-alone known near separate =
-      let parts = known-parts plan core (ap (core_of plan) same ∙ found) known in
+      let parts = known-parts plan core here known in
       let acting = or_parts _ _ (sym (any-acting (is_off core.id) core) ∙ separate.acting) in
       let mode : is_core_mode plan core.mode ≡ true = grind arith in
-      and_from _ _ (and_from _ _ (and_from _ _ (and_from _ _ mode (own-scripts parts.scripts separate.inward)) parts.tasks) (own-alarms parts.alarms near.alarms acting.0)) (own-tables-known parts.tables near.tables acting.1)
+      let scripts = all-without (is_script_known plan) (list_any (names_other core.id)) (is_script_known alone) own-script (core_scripts core) parts.scripts separate.inward in
+      let alarms = all-without (λ (alarm : Alarm). is_alarm_known plan alarm && is_alarm_near core.id alarm) (λ (alarm : Alarm). leaves alarm.action) (is_alarm_known alone) own-alarm core.alarms
+      (all-both (is_alarm_known plan) (is_alarm_near core.id) core.alarms parts.alarms near.alarms) acting.0 in
+      let tables = all-without (λ (table : Table). is_table_known plan table && is_table_near core.id table) (λ (table : Table). list_any leaves (table_actions table)) (is_table_known alone) own-table core.tables
+      (all-both (is_table_known plan) (is_table_near core.id) core.tables parts.tables near.tables) acting.1 in
+      and_from _ _ (and_from _ _ (and_from _ _ (and_from _ _ mode scripts) parts.tasks) alarms) tables
 
   -- its alarms' and its tables' counters are its own, in the whole as alone
-  by-itself : core_of (alone_of plan id core) core.id ≡ Some core
+  by-itself : core_of alone core.id ≡ Some core
   by-itself = rw (same_core-refl core.id) refl
 
-  same-sizes : NearParts core → core_sizes plan core ≡ core_sizes (alone_of plan id core) core
+  same-sizes : NearParts core → core_sizes plan core ≡ core_sizes alone core
   same-sizes near =
-      let mine-too : core_of plan core.id ≡ Some core = ap (core_of plan) same ∙ found in
       ap (λ (alarms : List (Option StartSizes)). let sizes : CoreSizes = record (core_sizes plan core) { alarms = alarms } in sizes)
-      (own-sizes plan core mine-too near.alarms ∙ sym (own-sizes (alone_of plan id core) core by-itself near.alarms))
-      ∙ ap (λ (tables : List TableSizes). let sizes : CoreSizes = record (core_sizes (alone_of plan id core) core) { tables = tables } in sizes)
-      (own-tables plan core mine-too near.tables ∙ sym (own-tables (alone_of plan id core) core by-itself near.tables))
+      (own-sizes plan core here near.alarms ∙ sym (own-sizes alone core by-itself near.alarms))
+      ∙ ap (λ (tables : List TableSizes). let sizes : CoreSizes = record (core_sizes alone core) { tables = tables } in sizes)
+      (own-tables plan core here near.tables ∙ sym (own-tables alone core by-itself near.tables))
 
-  timed-alone : NearParts core → is_core_timed plan core ≡ true → is_core_timed (alone_of plan id core) core ≡ true
-  timed-alone near timed = own-timed (alone_of plan id core) core by-itself near.tables ∙ sym (own-timed plan core (ap (core_of plan) same ∙ found) near.tables) ∙ timed
+  timed-alone : NearParts core → is_core_timed plan core ≡ true → is_core_timed alone core ≡ true
+  timed-alone near timed = own-timed alone core by-itself near.tables ∙ sym (own-timed plan core here near.tables) ∙ timed
 
   -- the modes and the mailboxes stay, and there is no spinlock
-  sizes-alone : is_within (sizes_of plan) ≡ true → is_core_within (core_sizes (alone_of plan id core) core) ≡ true → is_within (sizes_of (alone_of plan id core)) ≡ true
+  sizes-alone : is_within (sizes_of plan) ≡ true → is_core_within (core_sizes alone core) ≡ true → is_within (sizes_of alone) ≡ true
   sizes-alone whole one =
       let few = and_parts _ (is_between 1 most_cores (Some (length (sizes_of plan).cores))) (and_parts _ (list_all is_core_within (sizes_of plan).cores) whole).0 in
       let cap = and_parts _ (is_between 1 MAILBOX (Some plan.cap)) few.0 in
       let modes = and_parts (is_between 1 (most_of ObjectKind.Mode) (Some (length plan.modes))) (nat_le (length plan.spinlocks) (most_of ObjectKind.Spinlock)) cap.0 in
       and_from _ _ (and_from _ _ (and_from _ _ (and_from _ _ modes.0 refl) cap.1) refl) (and_from _ _ one refl)
 
-  plan-alone : LimitParts plan → is_core_within (core_sizes plan core) ≡ true → is_core_known plan core ≡ true → is_core_near core ≡ true → is_core_timed plan core ≡ true → SeparateParts plan core → is_within_limits (alone_of plan id core) ≡ true
+  plan-alone : LimitParts plan → is_core_within (core_sizes plan core) ≡ true → is_core_known plan core ≡ true → is_core_near core ≡ true → is_core_timed plan core ≡ true → SeparateParts plan core → is_within_limits alone ≡ true
   plan-alone limits within known near timed separate =
       let parts = near-parts core near in
       let sizes = sizes-alone limits.sizes (subst (λ (s : CoreSizes). is_core_within s ≡ true) (same-sizes parts) within) in
       and_from _ _ (and_from _ _ (and_from _ _ (and_from _ _ (and_from _ _ (and_from _ _ (and_from _ _ sizes refl) (rw mine refl)) (and_from _ _ (core-alone known parts separate) refl)) (and_from _ _ near refl)) (and_from _ _ (timed-alone parts timed) refl)) refl) refl
 
   -- ---- what a text can say
-  expressible-alone : TextParts plan → is_core_expressible core ≡ true → are_distinct (object_names core) ≡ true → is_expressible (alone_of plan id core) ≡ true
+  expressible-alone : TextParts plan → is_core_expressible core ≡ true → are_distinct (object_names core) ≡ true → is_expressible alone ≡ true
   expressible-alone said one distinct =
       let spinlocks : List (List ℕ) = common_names ObjectKind.Spinlock plan ++ [] in
       let rest : List (List ℕ) = flat_map object_names plan.cores in
-      let none : (p : List ℕ → Bool) → list_any p (spinlocks ++ rest) ≡ false → list_any p (object_names core ++ []) ≡ false =
-      λ p h. ap (list_any p) (append-nil (object_names core)) ∙ not-true _ (find-passes (λ (c : Core). same_core c.id id) (λ (c : Core). not (list_any p (object_names c))) plan.cores core
-      (none-in-each p plan.cores (or_parts _ _ (sym (list_any-append p spinlocks rest) ∙ h)).1) found) in
-      let names = distinct-kept plan.modes (spinlocks ++ rest) (object_names core ++ []) none (ap are_distinct (append-nil (object_names core)) ∙ distinct) (ap are_distinct (sym (append_assoc plan.modes spinlocks rest)) ∙ said.names) in
-      and_from _ _ (and_from _ _ (and_from _ _ said.modes refl) (and_from _ _ one refl))
-      (ap (λ (modes : List (List ℕ)). are_distinct (modes ++ (object_names core ++ []))) (append-nil plan.modes) ∙ names)
+      let none : (p : List ℕ → Bool) → list_any p (spinlocks ++ rest) ≡ false → list_any p (object_names core) ≡ false =
+      λ p h. find-fails (λ (c : Core). same_core c.id id) (λ (c : Core). list_any p (object_names c)) plan.cores core (sym (any-flat p object_names plan.cores) ∙ (or_parts _ _ (sym (list_any-append p spinlocks rest) ∙ h)).1) found in
+      let names = distinct-kept plan.modes (spinlocks ++ rest) (object_names core) none distinct (ap are_distinct (sym (append_assoc plan.modes spinlocks rest)) ∙ said.names) in
+      and_from _ _ (and_from _ _ (and_from _ _ said.modes refl) (and_from _ _ one refl)) (simp append-nil (simp append-nil at names))
 
   -- ---- the core alone is separate again
   self : same_core core.id core.id ≡ true
   self = same_core-refl core.id
 
-  started-alone : is_started (alone_of plan id core) core.id ≡ true
+  started-alone : is_started alone core.id ≡ true
   started-alone = rw (mine, self) (or_left _ _ self)
 
-  agreed-alone : is_agreed_mode (alone_of plan id core) core.mode ≡ true
-  agreed-alone = and_from _ _ (or_right (not (is_started (alone_of plan id core) core.id)) _ (agree-self core.mode)) refl
+  agreed-alone : is_agreed_mode alone core.mode ≡ true
+  agreed-alone = and_from _ _ (or_right (not (is_started alone core.id)) _ (agree-self core.mode)) refl
 
-  unnamed-alone : not (is_named_elsewhere (alone_of plan id core) core.id) ≡ true
+  unnamed-alone : not (is_named_elsewhere alone core.id) ≡ true
   unnamed-alone = rw self refl
 
-  unhalted-alone : SeparateParts plan core → halts_somewhere (alone_of plan id core) ≡ false
+  unhalted-alone : SeparateParts plan core → halts_somewhere alone ≡ false
   unhalted-alone parts = or_from _ _ (find-fails (λ (c : Core). same_core c.id id) (has_operation halts_all) plan.cores core parts.unhalted found) refl
 
-  separate-alone : SeparateParts plan core → is_separate (alone_of plan id core) id ≡ true
+  separate-alone : SeparateParts plan core → is_separate alone id ≡ true
   separate-alone parts =
       let objects = and_from _ _ (and_from _ _ (and_from _ _ (and_from _ _ (and_from _ _ started-alone parts.names) agreed-alone)
       (ap (λ (cores : List CoreId). nat_eq (length cores) 0) parts.no_start)) (not_from_false _ (or_from _ _ parts.inward parts.acting))) unnamed-alone in

@@ -1,4 +1,5 @@
 pub mod Tests
+pub mod Rounds
 pub mod Distinct
 pub mod Within
 pub mod Scripts

@@ -1,5 +1,5 @@
 -- What a separate core's test says, part by part.
-use Rattle.std.proofs.Common.{◌≡◌, Bool, true, false, not, ◌||◌, nat_eq, [], flat_map, length, map, ap, ◌∙◌}
+use Rattle.std.proofs.Common.{◌≡◌, Bool, true, false, not, ◌||◌, nat_eq, [], flat_map, length, map, refl, ◌∙◌}
 use Rattle.std.specs.List.{list_any}
 use Rattle.std.proofs.lemmas.List.Folds.{list_any-append}
 use Rattle.std.proofs.lemmas.Bool.{and_parts, not-true, or_parts}
@@ -14,7 +14,7 @@ use Rattle.osbase.specs.declared.messages.RemoteCall.{RemoteCall}
 use Rattle.osbase.specs.Objects.{object_of_call}
 use Rattle.osplan.specs.Objects.{table_actions}
 use Rattle.osplan.specs.Separate.{acts_on, halts_somewhere, has_operation, is_agreed_mode, is_named_elsewhere, is_off, is_separate_core, is_started, names_mode, names_object, names_other}
-use Rattle.osplan.proofs.Tests.{any-by, any-flat, any-mapped, none-from}
+use Rattle.osplan.proofs.Tests.{any-flat, any-mapped, none-from}
 
 -- The core names a mode, which no started core contradicts; it starts no core; its scripts, its alarms and its tables name no
 -- other core's objects, and no other core names its own; its scripts ask for nothing that all cores share, and none shuts all down.
@@ -56,12 +56,7 @@ module _ (test : Object → Bool) where
   pub any-acting : (core : Core) → acts_on test core ≡ (list_any (λ (alarm : Alarm). acts alarm.action) core.alarms || list_any (λ (table : Table). list_any acts (table_actions table)) core.tables)
   any-acting core =
       list_any-append acts (map (λ (alarm : Alarm). alarm.action) core.alarms) (flat_map table_actions core.tables)
-      ∙ ap (λ (b : Bool). b || list_any acts (flat_map table_actions core.tables)) (any-mapped acts (λ (alarm : Alarm). alarm.action) core.alarms)
-      ∙ ap (λ (b : Bool). list_any (λ (alarm : Alarm). acts alarm.action) core.alarms || b) (any-flat acts table_actions core.tables)
+      ∙ rw (any-mapped acts (λ (alarm : Alarm). alarm.action) core.alarms, any-flat acts table_actions core.tables) refl
 
   pub any_pointed : (core : Core) → acts_on test core ≡ (list_any (λ (alarm : Alarm). acts alarm.action) core.alarms || list_any (λ (table : Table). list_any (λ (point : ExpiryPoint). list_any acts point.actions) table.points) core.tables)
-  any_pointed core =
-      any-acting core
-      ∙ ap (λ (b : Bool). list_any (λ (alarm : Alarm). acts alarm.action) core.alarms || b)
-      (any-by (λ (table : Table). list_any acts (table_actions table)) (λ (table : Table). list_any (λ (point : ExpiryPoint). list_any acts point.actions) table.points)
-      (λ table. any-flat acts (λ (point : ExpiryPoint). point.actions) table.points) core.tables)
+  any_pointed core = any-acting core ∙ simp any-flat

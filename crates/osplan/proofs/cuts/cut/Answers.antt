@@ -17,11 +17,12 @@ whole : (plan config : Plan) (id : CoreId) (o : Option (Bor Core)) (own : Bor Co
 whole plan config id o own separate same limits expressible found is test passes =
     whole-alone plan id own.now (rw same limits) (rw same expressible) (sym found ∙ ap option_copied is) (sym test ∙ passes)
 
-pub new-requires-clause-limits : goal.new-requires-clause-limits
-new-requires-clause-limits c = rw c.in_ok-alone.ensures ((whole c.plan-plan.result.now c.args.config.now c.args.core c.core.result c.in-Some.own c.is_separate_core.result c.plan-plan.ensures.value c.plan-plan.ensures.limits c.plan-plan.ensures.expressible c.core.ensures c.in-Some.is c.is_separate_core.ensures c.if-not-is_separate_core.false).limits)
-
-pub new-requires-clause-expressible : goal.new-requires-clause-expressible
-new-requires-clause-expressible c = rw c.in_ok-alone.ensures ((whole c.plan-plan.result.now c.args.config.now c.args.core c.core.result c.in-Some.own c.is_separate_core.result c.plan-plan.ensures.value c.plan-plan.ensures.limits c.plan-plan.ensures.expressible c.core.ensures c.in-Some.is c.is_separate_core.ensures c.if-not-is_separate_core.false).expressible)
+pub new-requires : goal.new-requires
+new-requires c =
+    let own = whole _ _ _ _ _ _ c.plan-plan.ensures.value c.plan-plan.ensures.limits c.plan-plan.ensures.expressible c.core.ensures c.in-Some.is c.is_separate_core.ensures c.if-not-is_separate_core.false in
+    record { limits = rw c.in_ok-alone.ensures own.limits; expressible = rw c.in_ok-alone.ensures own.expressible }
 
 pub returns-clause-again : goal.returns-clause-again
-returns-clause-again c = rw (c.new.ensures, c.in_ok-alone.ensures) ((whole c.plan-plan.result.now c.args.config.now c.args.core c.core.result c.in-Some.own c.is_separate_core.result c.plan-plan.ensures.value c.plan-plan.ensures.limits c.plan-plan.ensures.expressible c.core.ensures c.in-Some.is c.is_separate_core.ensures c.if-not-is_separate_core.false).separate)
+returns-clause-again c =
+    let own = whole _ _ _ _ _ _ c.plan-plan.ensures.value c.plan-plan.ensures.limits c.plan-plan.ensures.expressible c.core.ensures c.in-Some.is c.is_separate_core.ensures c.if-not-is_separate_core.false in
+    rw (c.new.ensures, c.in_ok-alone.ensures) own.separate

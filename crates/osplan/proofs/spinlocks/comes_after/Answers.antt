@@ -1,9 +1,8 @@
-use Rattle.std.proofs.Common.{◌≡◌, ℕ, suc, ◌+◌, ◌-◌, ◌<◌, List, length, sym, ◌∙◌, arith}
+use Rattle.std.proofs.Common.{◌≡◌, ℕ, suc, ◌+◌, ◌-◌, ◌<◌, List, length, arith}
 use Rattle.std.proofs.lemmas.Bool.{eq-eqb, ne_eqb}
 use Rattle.std.proofs.lemmas.List.{length-map}
 use Rattle.osplan.specs.declared.plans.Spinlock.{Spinlock}
 use Rattle.osplan.specs.Spinlocks.{links_of}
-use Rattle.osplan.proofs.Linked.{here-linked, later-linked, no-link}
 use Rattle.osplan.proofs.spinlocks.comes_after.Goals as goal
 
 links-many : (spinlocks : List Spinlock) → length (links_of spinlocks) ≡ length spinlocks
@@ -14,21 +13,16 @@ left : (spinlocks : List Spinlock) (k : ℕ) → k < length spinlocks → suc (l
 left spinlocks k inside = omega (arith, inside, links-many spinlocks)
 
 pub returns-in_default : goal.returns-in_default
-returns-in_default c =
-    let n = length c.args.spinlocks.now - suc c.loop-link._link in
-    sym (no-link (links_of c.args.spinlocks.now) n c.loop-link.at c.args.to (sym c.next_of.ensures ∙ c.in_default.is))
-    ∙ c.loop-link.invariant (suc n) (left c.args.spinlocks.now c.loop-link._link c.loop-link-test.true)
+returns-in_default c = rw (← c.next_of.ensures, c.in_default.is) at (c.loop-link.invariant _ (left c.args.spinlocks.now c.loop-link._link c.loop-link-test.true))
 
 pub returns-then-next-to : goal.returns-then-next-to
 returns-then-next-to c =
-    let n = length c.args.spinlocks.now - suc c.loop-link._link in
-    sym (here-linked (links_of c.args.spinlocks.now) n c.loop-link.at c.args.to c.in-Some.next (sym c.next_of.ensures ∙ c.in-Some.is) (eq-eqb c.in-Some.next.index c.args.to.index c.if-next-to.true))
-    ∙ c.loop-link.invariant (suc n) (left c.args.spinlocks.now c.loop-link._link c.loop-link-test.true)
+    rw (← c.next_of.ensures, c.in-Some.is, eq-eqb c.in-Some.next.index c.args.to.index c.if-next-to.true)
+    at (c.loop-link.invariant _ (left c.args.spinlocks.now c.loop-link._link c.loop-link-test.true))
 
 pub loop-link-preserved : goal.loop-link-preserved
 loop-link-preserved c n many =
-    sym (later-linked (links_of c.args.spinlocks.now) n c.loop-link.at c.args.to c.in-Some.next (sym c.next_of.ensures ∙ c.in-Some.is) (ne_eqb c.in-Some.next.index c.args.to.index c.if-next-to.false))
-    ∙ c.loop-link.invariant (suc n) (omega (arith, many))
+    rw (← c.next_of.ensures, c.in-Some.is, ne_eqb c.in-Some.next.index c.args.to.index c.if-next-to.false) at (c.loop-link.invariant (suc n) (omega (arith, many)))
 
 pub returns : goal.returns
 returns c = c.loop-link.invariant 0 (omega (arith, links-many c.args.spinlocks.now))
