@@ -1,23 +1,21 @@
 -- Of a configured core: what it may name of what a configuration names, and its alarms with the counters that they go by.
-use Rattle.std.proofs.Common.{◌≡◌, Bool, true, false, not, ◌&&◌, ◌||◌, Some, Option, List, flat_map, map, slice_get, option_and_then, refl, ap, sym, subst, ◌∙◌, arith}
+use Rattle.std.proofs.Common.{◌≡◌, true, ◌&&◌, Some, Option, List, flat_map, map, slice_get, option_and_then, refl, ap, sym, subst, ◌∙◌, arith}
 use Rattle.std.specs.List.{list_all}
 use Rattle.std.specs.Option.{option_map_or}
-use Rattle.std.proofs.lemmas.Bool.{and_parts, and_from}
 use Rattle.std.proofs.lemmas.List.Folds.{list_all-map}
 use Rattle.osbase.specs.declared.references.CounterRef.{CounterRef}
 use Rattle.osbase.specs.declared.objects.Object.{Object}
 use Rattle.osbase.specs.History.{same_core}
 use Rattle.osbase.specs.Objects.{counter_object, object_of_call}
 use Rattle.osbase.proofs.Same.{same_core-true}
-use Rattle.oscript.specs.Calls.{is_action}
 use Rattle.osplan.specs.declared.plans.Alarm.{Alarm}
 use Rattle.osplan.specs.declared.plans.Core.{Core}
 use Rattle.osplan.specs.declared.plans.Plan.{Plan}
 use Rattle.osplan.specs.declared.plans.Table.{Table}
 use Rattle.osbase.specs.declared.messages.RemoteCall.{RemoteCall}
 use Rattle.osplan.specs.Clocked.{is_alarm_attached, is_table_attached}
-use Rattle.osplan.specs.Limits.{alarm_sizes, is_action_known, is_alarm_known, is_alarm_near, is_core_known, is_core_timed, is_mode, is_object, is_table_known, is_table_near, is_table_timed, is_script_known, is_task_known, table_sizes}
-use Rattle.osplan.specs.Objects.{alarm_modes, core_actions, core_scripts, has_index, is_common, may_act, may_name, table_actions, table_modes}
+use Rattle.osplan.specs.Limits.{alarm_sizes, is_action_known, is_alarm_known, is_alarm_near, is_core_known, is_core_timed, is_object, is_table_known, is_table_near, is_table_timed, is_script_known, is_task_known, table_sizes}
+use Rattle.osplan.specs.Objects.{core_actions, core_scripts, has_index, is_common, may_act, may_name, table_actions}
 use Rattle.osplan.specs.View.{core_of, counter_in, own_counter}
 use Rattle.osplan.proofs.Tests.{all-append, all-both, all-flat, all-weaker, map-where}
 
@@ -30,11 +28,7 @@ module _ (plan : Plan) (core : Core) (found : core_of plan core.id ≡ Some core
 
   -- An object of the configuration is one that the core may name.
   pub known-named : (object : Object) → is_object plan object ≡ true → may_name core object ≡ true
-  known-named object there = by (same_core object.place.core core.id) (own-index object there)
-    where
-      by : (b : Bool) → (b ≡ true → has_index core object ≡ true) → (not b || (b && has_index core object)) ≡ true
-      by false index = refl
-      by true index = index refl
+  known-named object there = grind (arith, own-index object there)
 
   -- What its scripts, its tasks, its alarms and its tables name is known.
   pub record KnownParts : Type 0 where
@@ -44,33 +38,25 @@ module _ (plan : Plan) (core : Core) (found : core_of plan core.id ≡ Some core
     pub tables : list_all (is_table_known plan) core.tables ≡ true
 
   pub known-parts : is_core_known plan core ≡ true → KnownParts
-  known-parts known = record { scripts = grind arith; tasks = grind arith; alarms = grind arith; tables = grind arith }
+  known-parts known = grind arith
 
   acts-each : (actions : List RemoteCall) → list_all (is_action_known plan) actions ≡ true → list_all (may_act core) actions ≡ true
-  acts-each =
-      all-weaker (is_action_known plan) (may_act core)
-      (λ action h. let parts = and_parts (is_action action) (is_object plan (object_of_call action)) h in and_from _ _ parts.0 (known-named (object_of_call action) parts.1))
+  acts-each = all-weaker (is_action_known plan) (may_act core) (λ action h. grind (arith, known-named (object_of_call action)))
 
   -- What its alarms and tables do are actions, and the core may name what these are for.
   pub known-actions : is_core_known plan core ≡ true → list_all (may_act core) (core_actions core) ≡ true
   known-actions known =
       let parts = known-parts known in
+      let alarms = all-weaker _ (λ (alarm : Alarm). is_action_known plan alarm.action) (λ alarm h. grind arith) core.alarms parts.alarms in
+      let tables = all-weaker _ (λ (table : Table). list_all (is_action_known plan) (table_actions table)) (λ table h. grind arith) core.tables parts.tables in
       acts-each (core_actions core) (all-append (is_action_known plan) (map (λ (alarm : Alarm). alarm.action) core.alarms) (flat_map table_actions core.tables)
-      (list_all-map (is_action_known plan) (λ (alarm : Alarm). alarm.action) core.alarms
-      ∙ all-weaker (is_alarm_known plan) (λ (alarm : Alarm). is_action_known plan alarm.action)
-      (λ alarm h. (and_parts (is_object plan (counter_object alarm.counter)) _ (and_parts _ (list_all (is_mode plan) (alarm_modes alarm)) h).0).1) core.alarms parts.alarms)
-      (all-flat (is_action_known plan) table_actions core.tables
-      (all-weaker (is_table_known plan) (λ (table : Table). list_all (is_action_known plan) (table_actions table))
-      (λ table h. (and_parts (is_object plan (counter_object table.counter)) _ (and_parts _ (list_all (is_mode plan) (table_modes table)) h).0).1) core.tables parts.tables)))
+      (list_all-map (is_action_known plan) (λ (alarm : Alarm). alarm.action) core.alarms ∙ alarms) (all-flat (is_action_known plan) table_actions core.tables tables))
 
   -- Each alarm is attached to a counter of the core, where that counter is there and no other core's.
   pub attached : list_all (is_alarm_known plan) core.alarms ≡ true → list_all (is_alarm_near core.id) core.alarms ≡ true → list_all (is_alarm_attached core) core.alarms ≡ true
   attached known near =
       all-weaker (λ (alarm : Alarm). is_alarm_known plan alarm && is_alarm_near core.id alarm) (is_alarm_attached core)
-      (λ alarm h. let parts = and_parts (is_alarm_known plan alarm) (is_alarm_near core.id alarm) h in
-      let there = and_parts (is_object plan (counter_object alarm.counter)) _ (and_parts _ _ parts.0).0 in
-      and_from _ _ parts.1 (own-index (counter_object alarm.counter) there.0 parts.1))
-      core.alarms (all-both (is_alarm_known plan) (is_alarm_near core.id) core.alarms known near)
+      (λ alarm h. grind (arith, own-index (counter_object alarm.counter))) core.alarms (all-both _ _ core.alarms known near)
 
   own-is : (c : CounterRef) → same_core c.core core.id ≡ true → counter_in plan c ≡ own_counter core c
   own-is c here =
@@ -79,24 +65,16 @@ module _ (plan : Plan) (core : Core) (found : core_of plan core.id ≡ Some core
 
   -- The sizes of such alarms are seen on the core itself.
   pub own-sizes : list_all (is_alarm_near core.id) core.alarms ≡ true → map (alarm_sizes (counter_in plan)) core.alarms ≡ map (alarm_sizes (own_counter core)) core.alarms
-  own-sizes near =
-      map-where (alarm_sizes (counter_in plan)) (alarm_sizes (own_counter core)) (is_alarm_near core.id)
-      (λ alarm h. rw (own-is alarm.counter h) refl) core.alarms near
+  own-sizes near = map-where (alarm_sizes (counter_in plan)) (alarm_sizes (own_counter core)) (is_alarm_near core.id) (λ alarm h. rw (own-is alarm.counter h) refl) core.alarms near
 
   -- So it is with tables.
   pub tables-attached : list_all (is_table_known plan) core.tables ≡ true → list_all (is_table_near core.id) core.tables ≡ true → list_all (is_table_attached core) core.tables ≡ true
   tables-attached known near =
       all-weaker (λ (table : Table). is_table_known plan table && is_table_near core.id table) (is_table_attached core)
-      (λ table h. let parts = and_parts (is_table_known plan table) (is_table_near core.id table) h in
-      let there = and_parts (is_object plan (counter_object table.counter)) _ (and_parts _ (list_all (is_mode plan) (table_modes table)) parts.0).0 in
-      and_from _ _ parts.1 (own-index (counter_object table.counter) there.0 parts.1))
-      core.tables (all-both (is_table_known plan) (is_table_near core.id) core.tables known near)
-
-  own-timing : (table : Table) → is_table_near core.id table ≡ true → table_sizes (counter_in plan) table ≡ table_sizes (own_counter core) table
-  own-timing table near = rw (own-is table.counter near) refl
+      (λ table h. grind (arith, own-index (counter_object table.counter))) core.tables (all-both _ _ core.tables known near)
 
   pub own-tables : list_all (is_table_near core.id) core.tables ≡ true → map (table_sizes (counter_in plan)) core.tables ≡ map (table_sizes (own_counter core)) core.tables
-  own-tables near = map-where (table_sizes (counter_in plan)) (table_sizes (own_counter core)) (is_table_near core.id) own-timing core.tables near
+  own-tables near = map-where (table_sizes (counter_in plan)) (table_sizes (own_counter core)) (is_table_near core.id) (λ table h. rw (own-is table.counter h) refl) core.tables near
 
   pub own-timed : list_all (is_table_near core.id) core.tables ≡ true → is_core_timed plan core ≡ list_all (λ (table : Table). is_table_timed (table_sizes (own_counter core) table)) core.tables
   own-timed near =

@@ -1,8 +1,8 @@
 -- The objects that all cores have in common, the application modes: they stand under a number that no configured core has.
-use Rattle.std.proofs.Common.{IsTrue, List, None, Option, Some, [], ap, arith, codes, false, length, nat_lt, refl, slice_get, suc, true, unwrap_or, zero, ℕ, ◌<◌, ◌∙◌, ◌∷◌, ◌≡◌}
+use Rattle.std.proofs.Common.{IsTrue, List, None, Option, Some, [], arith, codes, false, length, nat_lt, refl, slice_get, suc, true, unwrap_or, zero, ℕ, ◌<◌, ◌∷◌, ◌≡◌}
 use Rattle.std.specs.List.{list_all}
 use Rattle.std.specs.Option.{option_map_or}
-use Rattle.std.proofs.lemmas.Bool.{and_parts, eqb-true, ltb-true, not-true, or_parts}
+use Rattle.std.proofs.lemmas.Bool.{and_parts, eqb-true, ltb-true}
 use Rattle.std.specs.Str.{bytes_eq}
 use Rattle.osbase.specs.History.{same_core}
 use Rattle.osbase.specs.Names.{is_name}
@@ -16,8 +16,8 @@ use Rattle.osplan.specs.declared.plans.Core.{Core}
 use Rattle.osplan.specs.declared.plans.Plan.{Plan}
 use Rattle.osplan.specs.Expressible.{dont_care, is_expressible, is_mode_expressible}
 use Rattle.osplan.specs.Limits.{core_sizes, is_core_within, is_mode, is_object}
-use Rattle.osplan.specs.Names.{common_name, name_in, name_of, name_of_mode}
-use Rattle.osplan.specs.Objects.{has_index, is_common}
+use Rattle.osplan.specs.Names.{name_of, name_of_mode}
+use Rattle.osplan.specs.Objects.{common_names, has_index, is_common, object_count}
 use Rattle.osplan.specs.View.{core_of}
 use Rattle.osplan.proofs.Tests.{find-holds, find-passes}
 use Rattle.osplan.proofs.Within.{fits, text-parts}
@@ -31,21 +31,26 @@ nobody plan within = by (core_of plan NOBODY) refl
         let low : core.id.number < 16 = ltb-true core.id.number 16 (fits plan core (find-passes (λ (c : Core). same_core c.id NOBODY) (λ (c : Core). is_core_within (core_sizes plan c)) plan.cores core within e)).number in
         absurd (omega (arith, low, eqb-true core.id.number 255 (find-holds (λ (c : Core). same_core c.id NOBODY) plan.cores core e)))
 
+-- An object of the configuration, of a kind of which no core has one, has no core's number, and is one of those that all cores have in common.
+pub common-there : (plan : Plan) (kind : ObjectKind) (place : Place) → ((core : Core) → object_count kind core ≡ 0) → is_object plan (object_at kind place) ≡ true
+    → (place.core ≡ NOBODY) × (nat_lt place.index (length (common_names kind plan)) ≡ true)
+common-there plan kind place none is = by (core_of plan place.core) is
+  where
+    by : (o : Option Core) → option_map_or (λ (c : Core). has_index c (object_at kind place)) o (is_common plan (object_at kind place)) ≡ true → (place.core ≡ NOBODY) × (nat_lt place.index (length (common_names kind plan)) ≡ true)
+    by None there = let parts = and_parts (same_core place.core NOBODY) (nat_lt place.index (length (common_names kind plan))) there in (same_core-true place.core NOBODY parts.0, parts.1)
+    by (Some core) there = absurd (omega (arith, none core, ltb-true place.index (object_count kind core) there))
+
 -- A mode is one of the configuration as an object if its number is below theirs,
 pub mode-there : (plan : Plan) (place : Place) → is_object plan (object_at ObjectKind.Mode place) ≡ true → (place.core ≡ NOBODY) × (is_mode plan (mode_of place) ≡ true)
-mode-there plan place is = by (core_of plan place.core) is
-  where
-    by : (o : Option Core) → option_map_or (λ (c : Core). has_index c (object_at ObjectKind.Mode place)) o (is_common plan (object_at ObjectKind.Mode place)) ≡ true → (place.core ≡ NOBODY) × (is_mode plan (mode_of place) ≡ true)
-    by None there = let parts = and_parts (same_core place.core NOBODY) (nat_lt place.index (length plan.modes)) there in (same_core-true place.core NOBODY parts.0, parts.1)
-    by (Some core) there = absurd (omega (arith, ltb-true place.index 0 there))
+mode-there plan place is = common-there plan ObjectKind.Mode place (λ core. refl) is
 
 -- and has the mode's name.
 module _ (plan : Plan) (alone : core_of plan NOBODY ≡ None) where
   pub there-mode : (mode : ModeId) → is_mode plan mode ≡ true → is_object plan (mode_object mode) ≡ true
-  there-mode mode is = ap (λ (o : Option Core). option_map_or (λ (c : Core). has_index c (mode_object mode)) o (is_common plan (mode_object mode))) alone ∙ is
+  there-mode mode is = rw alone is
 
   pub mode-named : (mode : ModeId) → name_of plan ObjectKind.Mode (mode_place mode) ≡ name_of_mode plan mode
-  mode-named mode = ap (λ (o : Option Core). option_map_or (λ (c : Core). name_in ObjectKind.Mode c mode.index) o (common_name plan ObjectKind.Mode (mode_place mode))) alone
+  mode-named mode = rw alone refl
 
 -- ---- the name of a mode is in form, and stands for nothing else
 
@@ -62,8 +67,5 @@ name-at (name ∷ names) (suc i) all lt = name-at names i (and_parts (is_mode_ex
 
 pub mode-said : (plan : Plan) → IsTrue (is_expressible plan) → (mode : ModeId) → is_mode plan mode ≡ true → ModeNamed (name_of_mode plan mode)
 mode-said plan said mode is =
-    let name = name_of_mode plan mode in
-    let parts = and_parts (is_name name) _ (name-at plan.modes mode.index (text-parts plan said).modes (ltb-true mode.index (length plan.modes) is)) in
-    let none = or_parts _ (bytes_eq name (codes "none")) (not-true _ parts.1) in
-    let conflict = or_parts (bytes_eq name dont_care) (bytes_eq name (codes "conflict")) none.0 in
-    record { in_form = parts.0; not_any = conflict.0; not_conflict = conflict.1; not_none = none.1 }
+    let told = name-at plan.modes mode.index (text-parts plan said).modes (ltb-true mode.index (length plan.modes) is) in
+    grind arith
