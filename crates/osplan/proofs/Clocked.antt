@@ -1,25 +1,14 @@
 -- A kernel has room for the counters, alarms and tables of each configured core, and what that says of them, by name.
 use Rattle.std.proofs.Common.{◌≡◌, ℕ, ◌≤◌, true, ◌&&◌, nat_le, Bool, length, Some, IsTrue, sym, ap, ◌∙◌, arith}
 use Rattle.std.specs.List.{list_all}
-use Rattle.std.proofs.lemmas.Bool.{and_parts}
-use Rattle.std.proofs.lemmas.Bool.Decides.{nat_tests}
-use Rattle.std.proofs.lemmas.List.{length-map}
-use Rattle.std.proofs.lemmas.List.Folds.{list_all-map}
-use Rattle.osbase.specs.declared.references.CoreId.{CoreId}
-use Rattle.osbase.specs.History.{same_core}
+use Rattle.std.proofs.{lemmas.Bool.and_parts, lemmas.Bool.Decides.nat_tests, lemmas.List.length-map, lemmas.List.Folds.list_all-map}
+use Rattle.osbase.specs.{declared.references.CoreId.CoreId, History.same_core}
 use Rattle.osbase.proofs.Same.{same_core-true}
-use Rattle.osplan.specs.declared.plans.Alarm.{Alarm}
-use Rattle.osplan.specs.declared.plans.AlarmStart.{AlarmStart}
-use Rattle.osplan.specs.declared.plans.Core.{Core}
-use Rattle.osplan.specs.declared.plans.Counter.{Counter}
-use Rattle.osplan.specs.declared.plans.Plan.{Plan}
-use Rattle.osplan.specs.declared.plans.Table.{Table}
-use Rattle.osplan.specs.Clocked.{are_clocks_within, is_alarm_attached, is_table_attached, own_table_sizes}
+use Rattle.osplan.specs.{declared.plans.Alarm.Alarm, declared.plans.AlarmStart.AlarmStart, declared.plans.Core.Core, declared.plans.Counter.Counter, declared.plans.Plan.Plan}
+use Rattle.osplan.specs.{declared.plans.Table.Table, Clocked.are_clocks_within, Clocked.is_alarm_attached, Clocked.is_table_attached, Clocked.own_table_sizes, View.core_of, View.own_counter}
 use Rattle.osplan.specs.Limits.{alarm_sizes, is_core_timed, is_table_timed, is_table_within, is_cycle, core_sizes, counter_sizes, is_alarm_within, is_core_known, is_core_near, is_core_within, is_counter_within, is_within_limits}
-use Rattle.osplan.specs.View.{core_of, own_counter}
-use Rattle.osplan.proofs.Alarming.{attached, known-parts, own-sizes, own-tables, own-timed, tables-attached}
+use Rattle.osplan.proofs.{Alarming.attached, Alarming.known-parts, Alarming.own-sizes, Alarming.own-tables, Alarming.own-timed, Alarming.tables-attached, Within.limit-parts, Within.near-parts}
 use Rattle.osplan.proofs.Tests.{all-weaker, find-holds, find-passes}
-use Rattle.osplan.proofs.Within.{limit-parts, near-parts}
 
 pub clocks_within : (plan : Plan) (id : CoreId) (core : Core) → IsTrue (is_within_limits plan) → core_of plan id ≡ Some core → are_clocks_within core ≡ true
 clocks_within plan id core limits found =

@@ -1,14 +1,9 @@
 -- A core's own counters, by place.
 use Rattle.std.proofs.Common.{◌≡◌, ℕ, ◌<◌, true, false, length}
 use Rattle.std.specs.List.{slice_get}
-use Rattle.osbase.specs.declared.references.CounterRef.{CounterRef}
-use Rattle.osbase.specs.Counting.{same_counter}
-use Rattle.osbase.specs.Objects.{counter_object, counter_place}
+use Rattle.osbase.specs.{declared.references.CounterRef.CounterRef, Counting.same_counter, Objects.counter_object, Objects.counter_place}
 use Rattle.osbase.proofs.Places.{CounterPlace, apart, elsewhere, own-at, place-of-counter, there}
-use Rattle.osplan.specs.declared.plans.Core.{Core}
-use Rattle.osplan.specs.Counters.{counter_ref}
-use Rattle.osplan.specs.Objects.{is_own_object}
-use Rattle.osplan.specs.View.{own_counter}
+use Rattle.osplan.specs.{declared.plans.Core.Core, Counters.counter_ref, Objects.is_own_object, View.own_counter}
 
 pub counter-place : (core : Core) (c : CounterRef) → is_own_object core (counter_object c) ≡ true → CounterPlace core.id (length core.counters) c
 counter-place core c own = place-of-counter core.id (length core.counters) c own

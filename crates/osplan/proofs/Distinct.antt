@@ -1,9 +1,7 @@
 -- Names of which each stands once.
 use Rattle.std.proofs.Common.{◌≡◌, ℕ, Bool, true, false, not, List, [], ◌∷◌, ◌++◌, refl, sym, ◌∙◌}
-use Rattle.std.specs.List.{list_any}
-use Rattle.std.specs.Str.{bytes_eq}
-use Rattle.std.proofs.lemmas.Bool.{and_parts, and_from, or_from, or_parts, not-true, not_from_false}
-use Rattle.std.proofs.lemmas.List.Folds.{list_any-append}
+use Rattle.std.specs.{List.list_any, Str.bytes_eq}
+use Rattle.std.proofs.{lemmas.Bool.and_parts, lemmas.Bool.and_from, lemmas.Bool.or_from, lemmas.Bool.or_parts, lemmas.Bool.not-true, lemmas.Bool.not_from_false, lemmas.List.Folds.list_any-append}
 use Rattle.osplan.specs.Expressible.{are_distinct}
 
 -- Names stay distinct where those at the end are replaced by distinct ones of them.

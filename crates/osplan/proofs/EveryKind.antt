@@ -1,8 +1,7 @@
 -- What holds of every kind of objects that cores have, and of every kind that they have in common: none is missing in their lists.
 use Rattle.std.proofs.Common.{◌≡◌, Bool, true, arith}
 use Rattle.std.specs.List.{list_all, list_any}
-use Rattle.osbase.specs.declared.objects.ObjectKind.{ObjectKind}
-use Rattle.osbase.specs.Objects.{same_kind}
+use Rattle.osbase.specs.{declared.objects.ObjectKind.ObjectKind, Objects.same_kind}
 use Rattle.osplan.specs.declared.plans.TheConstants.{COMMON, KINDS}
 
 -- The kind is one of those that cores have, or that they have in common.

@@ -4,8 +4,7 @@ use Rattle.std.specs.List.{AllByRecursion}
 use Rattle.std.proofs.lemmas.Bool.{and_parts, not-true, or_parts}
 use Rattle.osbase.specs.History.{same_core}
 use Rattle.osbase.proofs.Same.{same_core-comm, same_core-refl}
-use Rattle.osplan.specs.declared.plans.Core.{Core}
-use Rattle.osplan.specs.Limits.{are_numbers_distinct, has_number, number_of, numbers_of}
+use Rattle.osplan.specs.{declared.plans.Core.Core, Limits.are_numbers_distinct, Limits.has_number, Limits.number_of, Limits.numbers_of}
 
 abbrev pub IsFound : List Core → Core → Type 0
 IsFound cores core = find (λ (c : Core). same_core c.id core.id) cores ≡ Some core

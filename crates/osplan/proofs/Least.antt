@@ -1,7 +1,6 @@
 -- In a table of ascending faults the first that fails is the least.
 use Rattle.std.proofs.Common.{◌≡◌, ℕ, zero, suc, ◌<◌, Bool, true, false, cond, List, [], ◌∷◌, length, get_or, Some, sym, ap, arith}
-use Rattle.osplan.specs.declared.faults.ConfFault.{ConfFault}
-use Rattle.osplan.specs.Fault.{IsLeast, Tests, failing, fault_number, first_fault}
+use Rattle.osplan.specs.{declared.faults.ConfFault.ConfFault, Fault.IsLeast, Fault.Tests, Fault.failing, Fault.fault_number, Fault.first_fault}
 
 abbrev AreAbove : ℕ → Tests → Type 0
 AreAbove n [] = Unit {0}

@@ -1,16 +1,11 @@
 -- Of spinlocks that come after others: as many links as there are spinlocks are enough, and in a configuration within its limits none
 -- comes after itself.
 use Rattle.std.proofs.Common.{◌≡◌, ℕ, zero, suc, Bool, true, false, ◌||◌, Option, Some, None, List, [], ◌∷◌, length, slice_get, unwrap_or, inl, inr, refl, sym, ap, subst, ◌∙◌}
-use Rattle.std.specs.List.{AllByRecursion, list_all}
-use Rattle.std.specs.Option.{option_map_or}
+use Rattle.std.specs.{List.AllByRecursion, List.list_all, Option.option_map_or}
 use Rattle.std.proofs.lemmas.Bool.{eqb-true, false_from_ne_true, false≢true, not-true, or_cases, or_left, or_right}
-use Rattle.std.proofs.lemmas.List.Elements.{recursion_from_All}
-use Rattle.std.proofs.lemmas.List.Folds.{list_all-map}
-use Rattle.std.proofs.lemmas.List.Sums.{AllPass-from_list_all}
-use Rattle.osbase.specs.declared.references.SpinlockId.{SpinlockId}
-use Rattle.osbase.specs.Spins.{same_spinlock}
-use Rattle.osplan.specs.declared.plans.Spinlock.{Spinlock}
-use Rattle.osplan.specs.Spinlocks.{are_links_ordered, comes_after, is_link_ordered, links_of, next_in}
+use Rattle.std.proofs.{lemmas.List.Elements.recursion_from_All, lemmas.List.Folds.list_all-map, lemmas.List.Sums.AllPass-from_list_all}
+use Rattle.osbase.specs.{declared.references.SpinlockId.SpinlockId, Spins.same_spinlock}
+use Rattle.osplan.specs.{declared.plans.Spinlock.Spinlock, Spinlocks.are_links_ordered, Spinlocks.comes_after, Spinlocks.is_link_ordered, Spinlocks.links_of, Spinlocks.next_in}
 use Rattle.osplan.proofs.Rounds.{Stays, settled}
 
 -- What is so of each link, and of none, is so of the link of any spinlock.

@@ -1,26 +1,13 @@
 -- The objects that all cores have in common, the application modes: they stand under a number that no configured core has.
 use Rattle.std.proofs.Common.{IsTrue, List, None, Option, Some, [], arith, codes, false, length, nat_lt, refl, slice_get, suc, true, unwrap_or, zero, ℕ, ◌<◌, ◌∷◌, ◌≡◌}
-use Rattle.std.specs.List.{list_all}
-use Rattle.std.specs.Option.{option_map_or}
+use Rattle.std.specs.{List.list_all, Option.option_map_or, Str.bytes_eq}
 use Rattle.std.proofs.lemmas.Bool.{and_parts, eqb-true, ltb-true}
-use Rattle.std.specs.Str.{bytes_eq}
-use Rattle.osbase.specs.History.{same_core}
-use Rattle.osbase.specs.Names.{is_name}
-use Rattle.osbase.specs.Objects.{mode_object, mode_of, mode_place, object_at}
-use Rattle.osbase.specs.declared.objects.ObjectKind.{ObjectKind}
-use Rattle.osbase.specs.declared.objects.Place.{Place}
-use Rattle.osbase.specs.declared.objects.TheConstants.{NOBODY}
-use Rattle.osbase.specs.declared.references.ModeId.{ModeId}
+use Rattle.osbase.specs.{History.same_core, Names.is_name, Objects.mode_object, Objects.mode_of, Objects.mode_place, Objects.object_at, declared.objects.ObjectKind.ObjectKind}
+use Rattle.osbase.specs.{declared.objects.Place.Place, declared.objects.TheConstants.NOBODY, declared.references.ModeId.ModeId}
 use Rattle.osbase.proofs.Same.{same_core-true}
-use Rattle.osplan.specs.declared.plans.Core.{Core}
-use Rattle.osplan.specs.declared.plans.Plan.{Plan}
-use Rattle.osplan.specs.Expressible.{dont_care, is_expressible, is_mode_expressible}
-use Rattle.osplan.specs.Limits.{core_sizes, is_core_within, is_mode, is_object}
-use Rattle.osplan.specs.Names.{name_of, name_of_mode}
-use Rattle.osplan.specs.Objects.{common_names, has_index, is_common, object_count}
-use Rattle.osplan.specs.View.{core_of}
-use Rattle.osplan.proofs.Tests.{find-holds, find-passes}
-use Rattle.osplan.proofs.Within.{fits, text-parts}
+use Rattle.osplan.specs.{declared.plans.Core.Core, declared.plans.Plan.Plan, Expressible.dont_care, Expressible.is_expressible, Expressible.is_mode_expressible, Names.name_of, Names.name_of_mode}
+use Rattle.osplan.specs.{Limits.core_sizes, Limits.is_core_within, Limits.is_mode, Limits.is_object, Objects.common_names, Objects.has_index, Objects.is_common, Objects.object_count, View.core_of}
+use Rattle.osplan.proofs.{Tests.find-holds, Tests.find-passes, Within.fits, Within.text-parts}
 
 pub nobody : (plan : Plan) → list_all (λ (c : Core). is_core_within (core_sizes plan c)) plan.cores ≡ true → core_of plan NOBODY ≡ None
 nobody plan within = by (core_of plan NOBODY) refl

@@ -1,20 +1,13 @@
 -- The started cores are closed under start lists: as many rounds as there are cores are enough.
 use Rattle.std.proofs.Common.{◌≡◌, ℕ, zero, suc, Bool, true, ◌&&◌, ◌||◌, Some, List, [], ◌∷◌, length, map, is_some, refl, sym, ap, subst, ◌∙◌}
 use Rattle.std.specs.List.{AllByRecursion, list_any}
-use Rattle.std.proofs.lemmas.Bool.{and_parts, and_from, or_left, or_right}
-use Rattle.std.proofs.lemmas.List.{length-map}
-use Rattle.std.proofs.lemmas.List.Elements.{All-from_recursion}
+use Rattle.std.proofs.{lemmas.Bool.and_parts, lemmas.Bool.and_from, lemmas.Bool.or_left, lemmas.Bool.or_right, lemmas.List.length-map, lemmas.List.Elements.All-from_recursion}
 use Rattle.std.proofs.lemmas.List.Folds.{Any-from_list_any}
-use Rattle.osbase.specs.declared.references.CoreId.{CoreId}
-use Rattle.osbase.specs.History.{same_core}
+use Rattle.osbase.specs.{declared.references.CoreId.CoreId, History.same_core}
 use Rattle.osbase.proofs.Same.{same_core-true, same_core-refl}
-use Rattle.osplan.specs.declared.plans.Plan.{Plan}
-use Rattle.osplan.specs.declared.plans.Core.{Core}
-use Rattle.osplan.specs.View.{core_of}
+use Rattle.osplan.specs.{declared.plans.Plan.Plan, declared.plans.Core.Core, View.core_of}
 use Rattle.osplan.specs.Separate.{configured_ids, is_among, is_named_by, is_started, started_within}
-use Rattle.osplan.proofs.Tests.{any-found, find-holds}
-use Rattle.osplan.proofs.Starting.{among-configured, kept}
-use Rattle.osplan.proofs.Rounds.{Stays, settled}
+use Rattle.osplan.proofs.{Tests.any-found, Tests.find-holds, Starting.among-configured, Starting.kept, Rounds.Stays, Rounds.settled}
 
 module _ (plan : Plan) where
   abbrev ids : List CoreId

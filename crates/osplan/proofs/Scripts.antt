@@ -1,14 +1,9 @@
 -- What is said of all scripts of a core is said of those of its tasks and of those of its ISRs.
 use Rattle.std.proofs.Common.{◌≡◌, ◌&&◌, ◌||◌, Bool, false, List, map, refl, sym, ◌∙◌}
 use Rattle.std.specs.List.{list_all, list_any}
-use Rattle.std.proofs.lemmas.Bool.{or_parts}
-use Rattle.std.proofs.lemmas.List.Folds.{list_all-append, list_all-map, list_any-append}
+use Rattle.std.proofs.{lemmas.Bool.or_parts, lemmas.List.Folds.list_all-append, lemmas.List.Folds.list_all-map, lemmas.List.Folds.list_any-append}
 use Rattle.oscript.specs.declared.Op.{Op}
-use Rattle.osplan.specs.declared.plans.Core.{Core}
-use Rattle.osplan.specs.declared.plans.Isr.{Isr}
-use Rattle.osplan.specs.declared.plans.Task.{Task}
-use Rattle.osplan.specs.Objects.{core_scripts}
-use Rattle.osplan.specs.Separate.{has_operation}
+use Rattle.osplan.specs.{declared.plans.Core.Core, declared.plans.Isr.Isr, declared.plans.Task.Task, Objects.core_scripts, Separate.has_operation}
 use Rattle.osplan.proofs.Tests.{any-mapped}
 
 pub all_scripts : (p : List Op → Bool) (core : Core) → list_all p (core_scripts core) ≡ (list_all (λ (task : Task). p task.script) core.tasks && list_all (λ (isr : Isr). p isr.script) core.isrs)

@@ -1,18 +1,10 @@
 -- What a separate core's test says, part by part.
 use Rattle.std.proofs.Common.{◌≡◌, Bool, true, false, not, ◌||◌, nat_eq, [], flat_map, length, map, refl, ◌∙◌}
 use Rattle.std.specs.List.{list_any}
-use Rattle.std.proofs.lemmas.List.Folds.{list_any-append}
-use Rattle.std.proofs.lemmas.Bool.{and_parts, not-true, or_parts}
-use Rattle.osbase.specs.declared.objects.Object.{Object}
+use Rattle.std.proofs.{lemmas.List.Folds.list_any-append, lemmas.Bool.and_parts, lemmas.Bool.not-true, lemmas.Bool.or_parts}
+use Rattle.osbase.specs.{declared.objects.Object.Object, declared.messages.RemoteCall.RemoteCall, Objects.object_of_call}
 use Rattle.oscript.specs.Rows.{asks_shared}
-use Rattle.osplan.specs.declared.plans.Alarm.{Alarm}
-use Rattle.osplan.specs.declared.plans.ExpiryPoint.{ExpiryPoint}
-use Rattle.osplan.specs.declared.plans.Plan.{Plan}
-use Rattle.osplan.specs.declared.plans.Core.{Core}
-use Rattle.osplan.specs.declared.plans.Table.{Table}
-use Rattle.osbase.specs.declared.messages.RemoteCall.{RemoteCall}
-use Rattle.osbase.specs.Objects.{object_of_call}
-use Rattle.osplan.specs.Objects.{table_actions}
+use Rattle.osplan.specs.{declared.plans.Alarm.Alarm, declared.plans.ExpiryPoint.ExpiryPoint, declared.plans.Plan.Plan, declared.plans.Core.Core, declared.plans.Table.Table, Objects.table_actions}
 use Rattle.osplan.specs.Separate.{acts_on, halts_somewhere, has_operation, is_agreed_mode, is_named_elsewhere, is_off, is_separate_core, is_started, names_mode, names_object, names_other}
 use Rattle.osplan.proofs.Tests.{any-flat, any-mapped, none-from}
 

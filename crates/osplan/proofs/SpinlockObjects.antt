@@ -1,17 +1,10 @@
 -- The spinlocks of a configuration as objects, and where objects stand.
 use Rattle.std.proofs.Common.{None, ap, refl, sym, true, ◌≡◌}
 use Rattle.std.proofs.lemmas.List.{length-map}
-use Rattle.osbase.specs.Objects.{object_at, place_on, spinlock_object, spinlock_of}
-use Rattle.osbase.specs.declared.objects.Object.{Object}
-use Rattle.osbase.specs.declared.objects.ObjectKind.{ObjectKind}
-use Rattle.osbase.specs.declared.objects.Place.{Place}
-use Rattle.osbase.specs.declared.objects.TheConstants.{NOBODY}
-use Rattle.osbase.specs.declared.references.CoreId.{CoreId}
-use Rattle.osbase.specs.declared.references.SpinlockId.{SpinlockId}
+use Rattle.osbase.specs.{Objects.object_at, Objects.place_on, Objects.spinlock_object, Objects.spinlock_of, declared.objects.Object.Object, declared.objects.ObjectKind.ObjectKind}
+use Rattle.osbase.specs.{declared.objects.Place.Place, declared.objects.TheConstants.NOBODY, declared.references.CoreId.CoreId, declared.references.SpinlockId.SpinlockId}
 use Rattle.oscript.proofs.Homes.{home}
-use Rattle.osplan.specs.declared.plans.Plan.{Plan}
-use Rattle.osplan.specs.Limits.{is_object, is_spinlock}
-use Rattle.osplan.specs.View.{core_of}
+use Rattle.osplan.specs.{declared.plans.Plan.Plan, Limits.is_object, Limits.is_spinlock, View.core_of}
 use Rattle.osplan.proofs.ModeObjects.{common-there, mode-there}
 
 -- A spinlock is one of the configuration as an object if its number is below theirs.

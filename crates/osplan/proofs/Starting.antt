@@ -1,23 +1,13 @@
 -- The flags of the code are those of the started cores.
 use Rattle.std.proofs.Common.{◌≡◌, ◌≢◌, ℕ, zero, suc, ◌+◌, ◌<◌, Bool, true, false, ◌&&◌, ◌||◌, nat_eq, nat_lt, List, [], ◌∷◌, length, map, filter, get_or, set, replicate, is_some, slice_get, IsTrue, inl, inr, refl, sym, ap, ◌∙◌, get_or-set_same, get_or-set_other, below_more, add-one, arith}
-use Rattle.std.specs.List.{list_all, list_any}
-use Rattle.std.specs.Option.{option_map_or}
+use Rattle.std.specs.{List.list_all, List.list_any, Option.option_map_or}
 use Rattle.std.proofs.lemmas.Bool.{and_parts, and_from, and_right, or_right, or_cases, ltb-true, lt-ltb, eqb-true, eq-eqb, ne_eqb, cases_eq}
-use Rattle.std.proofs.lemmas.List.{length-replicate}
-use Rattle.std.proofs.lemmas.Map.Views.{any-filter_same}
-use Rattle.osbase.specs.declared.references.CoreId.{CoreId}
-use Rattle.osbase.specs.declared.items.CoreSet.{CoreSet}
-use Rattle.osbase.specs.History.{same_core}
-use Rattle.osbase.specs.Sets.{has_core}
+use Rattle.std.proofs.{lemmas.List.length-replicate, lemmas.Map.Views.any-filter_same}
+use Rattle.osbase.specs.{declared.references.CoreId.CoreId, declared.items.CoreSet.CoreSet, History.same_core, Sets.has_core}
 use Rattle.osbase.proofs.Same.{same_core-true, same_core-refl}
-use Rattle.osplan.specs.declared.plans.Plan.{Plan}
-use Rattle.osplan.specs.declared.plans.Core.{Core}
-use Rattle.osplan.specs.View.{core_of}
-use Rattle.osplan.specs.Limits.{is_within_limits}
-use Rattle.osplan.specs.Flags.{is_named_by_one_of, is_next, AreStarted}
+use Rattle.osplan.specs.{declared.plans.Plan.Plan, declared.plans.Core.Core, View.core_of, Limits.is_within_limits, Flags.is_named_by_one_of, Flags.is_next, Flags.AreStarted}
 use Rattle.osplan.specs.Separate.{configured_ids, is_among, is_named_by, is_started, started_within}
-use Rattle.osplan.proofs.Tests.{all-weaker, all-both, any-same, any-find}
-use Rattle.osplan.proofs.Within.{limit-parts, fits}
+use Rattle.osplan.proofs.{Tests.all-weaker, Tests.all-both, Tests.any-same, Tests.any-find, Within.limit-parts, Within.fits}
 
 -- ---- a set's flags
 

@@ -1,12 +1,8 @@
 -- Tests over lists.
 use Rattle.std.proofs.Common.{◌≡◌, ℕ, ◌≤◌, Bool, true, false, not, ◌&&◌, ◌||◌, nat_eq, List, [], ◌∷◌, ◌++◌, flat_map, length, filter, map, Option, Some, None, is_some, refl, sym, ap, ◌∙◌}
-use Rattle.std.specs.List.{list_all, list_any, find, position_or_len, slice_get}
-use Rattle.std.specs.Option.{option_copied}
-use Rattle.std.specs.Borrow.{Bor}
+use Rattle.std.specs.{List.list_all, List.list_any, List.find, List.position_or_len, List.slice_get, Option.option_copied, Borrow.Bor}
 use Rattle.std.proofs.lemmas.Bool.{and_parts, and_from, cond_both, eqb-true, false≢true, not-true, not_from_false, or_left, or_parts, true_from_ne_false}
-use Rattle.std.proofs.lemmas.List.{nil_from_length}
-use Rattle.std.proofs.lemmas.List.Elements.{All-filter}
-use Rattle.std.proofs.lemmas.List.Folds.{find_at, list_all-append, list_any-append}
+use Rattle.std.proofs.{lemmas.List.nil_from_length, lemmas.List.Elements.All-filter, lemmas.List.Folds.find_at, lemmas.List.Folds.list_all-append, lemmas.List.Folds.list_any-append}
 use Rattle.std.proofs.lemmas.List.Sums.{AllPass-from_list_all, count_by-le-length, length-filter, list_all-from_AllPass, passes_at_first}
 use Rattle.std.proofs.lemmas.Option.{get_or_from_slice_get, slice_get-map, slice_get_within}
 use Rattle.osbase.proofs.Places.{passes-at}

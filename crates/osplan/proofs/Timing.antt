@@ -1,26 +1,14 @@
 -- What the limits say of the tables of a core, by name: their numbers, their points, and what their counter admits.
 use Rattle.std.proofs.Common.{◌≡◌, ℕ, is_some, ◌-◌, ◌≤◌, Bool, true, not, ◌&&◌, ◌||◌, nat_le, nat_lt, List, [], ◌∷◌, length, map, Option, Some, None, refl, sym, ap, subst, ◌∙◌, arith}
 use Rattle.std.specs.List.{list_all, slice_get}
-use Rattle.std.proofs.lemmas.Bool.{and_parts, and_from, false≢true, leb-true, le-leb, ltb-true}
-use Rattle.std.proofs.lemmas.List.{length-map}
+use Rattle.std.proofs.{lemmas.Bool.and_parts, lemmas.Bool.and_from, lemmas.Bool.false≢true, lemmas.Bool.leb-true, lemmas.Bool.le-leb, lemmas.Bool.ltb-true, lemmas.List.length-map}
 use Rattle.std.proofs.lemmas.List.Folds.{list_all-map}
-use Rattle.osbase.specs.declared.references.CounterRef.{CounterRef}
-use Rattle.osbase.specs.declared.references.TableRef.{TableRef}
-use Rattle.osbase.specs.History.{same_core}
-use Rattle.osbase.specs.Objects.{counter_object}
-use Rattle.osplan.specs.declared.plans.Core.{Core}
-use Rattle.osplan.specs.declared.plans.Counter.{Counter}
-use Rattle.osplan.specs.declared.plans.ExpiryPoint.{ExpiryPoint}
-use Rattle.osplan.specs.declared.plans.Table.{Table}
-use Rattle.osplan.specs.declared.plans.TableStart.{TableStart}
-use Rattle.osplan.specs.Clocked.{are_clocks_within, is_table_attached, own_table_sizes}
+use Rattle.osbase.specs.{declared.references.CounterRef.CounterRef, declared.references.TableRef.TableRef, History.same_core, Objects.counter_object}
+use Rattle.osplan.specs.{declared.plans.Core.Core, declared.plans.Counter.Counter, declared.plans.ExpiryPoint.ExpiryPoint, declared.plans.Table.Table, declared.plans.TableStart.TableStart}
+use Rattle.osplan.specs.{Clocked.are_clocks_within, Clocked.is_table_attached, Clocked.own_table_sizes, Objects.is_own_object, View.own_counter, View.own_table}
 use Rattle.osplan.specs.Limits.{TableSizes, are_ascending, counter_sizes, delays, final_delay, first_offset, is_counter_within, is_delay, is_initial, is_point_within, is_table_timed, is_table_within, is_timed_by, last_offset, point_sizes, table_sizes}
-use Rattle.osplan.specs.Objects.{is_own_object}
-use Rattle.osplan.specs.View.{own_counter, own_table}
-use Rattle.osplan.proofs.Clocked.{clock-parts}
-use Rattle.osplan.proofs.Counters.{counter-is, counter-place}
+use Rattle.osplan.proofs.{Clocked.clock-parts, Counters.counter-is, Counters.counter-place, Within.between}
 use Rattle.osbase.proofs.Places.{own-passes, passes-at, some-at}
-use Rattle.osplan.proofs.Within.{between}
 
 -- ---- what all of a core's tables pass, each does
 

@@ -1,25 +1,11 @@
 -- What the tests of a configuration say, by name, and what a kernel needs of a core.
 use Rattle.std.proofs.Common.{◌≡◌, ℕ, ◌≤◌, Bool, true, nat_le, nat_lt, List, length, map, Some, is_some, IsTrue, refl, sym, ◌∙◌, arith, sum_by}
 use Rattle.std.specs.List.{list_all}
-use Rattle.std.proofs.lemmas.Bool.{and_parts, leb-true}
-use Rattle.std.proofs.lemmas.Bool.Decides.{nat_tests}
-use Rattle.std.proofs.lemmas.List.{length-map}
-use Rattle.std.proofs.lemmas.List.Folds.{fold-map, list_all-map}
-use Rattle.osbase.specs.declared.references.CoreId.{CoreId}
-use Rattle.osbase.specs.declared.objects.ObjectKind.{ObjectKind}
-use Rattle.osbase.specs.History.{same_core}
-use Rattle.osbase.specs.Names.{is_name}
-use Rattle.osplan.specs.declared.plans.Plan.{Plan}
-use Rattle.osplan.specs.declared.plans.Alarm.{Alarm}
-use Rattle.osplan.specs.declared.plans.Core.{Core}
-use Rattle.osplan.specs.declared.plans.Counter.{Counter}
-use Rattle.osplan.specs.declared.plans.Isr.{Isr}
-use Rattle.osplan.specs.declared.plans.Resource.{Resource}
-use Rattle.osplan.specs.declared.plans.Table.{Table}
-use Rattle.osplan.specs.declared.plans.Task.{Task}
-use Rattle.osplan.specs.Objects.{core_scripts, names_in, object_count, posted_at_once}
+use Rattle.std.proofs.{lemmas.Bool.and_parts, lemmas.Bool.leb-true, lemmas.Bool.Decides.nat_tests, lemmas.List.length-map, lemmas.List.Folds.fold-map, lemmas.List.Folds.list_all-map}
+use Rattle.osbase.specs.{declared.references.CoreId.CoreId, declared.objects.ObjectKind.ObjectKind, History.same_core, Names.is_name}
+use Rattle.osplan.specs.{declared.plans.Plan.Plan, declared.plans.Alarm.Alarm, declared.plans.Core.Core, declared.plans.Counter.Counter, declared.plans.Isr.Isr, declared.plans.Resource.Resource}
+use Rattle.osplan.specs.{declared.plans.Table.Table, declared.plans.Task.Task, Objects.core_scripts, Objects.names_in, Objects.object_count, Objects.posted_at_once, View.core_of}
 use Rattle.osplan.specs.Spinlocks.{are_links_ordered, links_of}
-use Rattle.osplan.specs.View.{core_of}
 use Rattle.osplan.specs.Limits.{CoreSizes, Sizes, count_in, most_of, is_between, is_core_numbered, task_sizes, core_sizes, sizes_of, is_task_within, is_alarm_near, is_core_timed, is_table_near, stays_on, is_core_within, is_within, is_ceiling, ceiling_of, is_core_known, is_core_near, is_spinlock_known, numbers_of, are_numbers_distinct, is_within_limits}
 use Rattle.osplan.specs.Expressible.{is_isr_expressible, is_mode_expressible, is_spinlock_expressible, are_distinct, declared_names, is_task_expressible, is_resource_expressible, is_counter_expressible, is_alarm_expressible, is_table_expressible, is_core_expressible, is_expressible}
 use Rattle.osplan.proofs.Tests.{all-weaker, find-passes}

@@ -1,13 +1,7 @@
 use Rattle.std.proofs.Common.{◌≡◌, ◌∙◌, Bool, true, Option, Some, IsTrue, sym, ap}
-use Rattle.std.specs.Option.{option_copied}
-use Rattle.std.specs.Borrow.{Bor}
+use Rattle.std.specs.{Option.option_copied, Borrow.Bor}
 use Rattle.osbase.specs.declared.references.CoreId.{CoreId}
-use Rattle.osplan.specs.declared.plans.Plan.{Plan}
-use Rattle.osplan.specs.declared.plans.Core.{Core}
-use Rattle.osplan.specs.View.{core_of}
-use Rattle.osplan.specs.Limits.{is_within_limits}
-use Rattle.osplan.specs.Expressible.{is_expressible}
-use Rattle.osplan.specs.Separate.{is_separate_core}
+use Rattle.osplan.specs.{declared.plans.Plan.Plan, declared.plans.Core.Core, View.core_of, Limits.is_within_limits, Expressible.is_expressible, Separate.is_separate_core}
 use Rattle.osplan.proofs.Cutting.{IsWhole, whole-alone}
 use Rattle.osplan.proofs.cuts.cut.Goals as goal
 

@@ -1,7 +1,6 @@
 use Rattle.std.proofs.Common.{◌≡◌, ◌∙◌, sym, ap, is_some}
 use Rattle.osplan.specs.View.{core_of}
-use Rattle.osplan.proofs.Starting.{unstarted}
-use Rattle.osplan.proofs.Tests.{is_some-copied}
+use Rattle.osplan.proofs.{Starting.unstarted, Tests.is_some-copied}
 use Rattle.osplan.proofs.separate.is_started.Goals as goal
 
 pub returns-then-is_some : goal.returns-then-is_some

@@ -1,8 +1,6 @@
 use Rattle.std.proofs.Common.{◌≡◌, ℕ, suc, ◌+◌, ◌-◌, ◌<◌, List, length, arith}
-use Rattle.std.proofs.lemmas.Bool.{eq-eqb, ne_eqb}
-use Rattle.std.proofs.lemmas.List.{length-map}
-use Rattle.osplan.specs.declared.plans.Spinlock.{Spinlock}
-use Rattle.osplan.specs.Spinlocks.{links_of}
+use Rattle.std.proofs.{lemmas.Bool.eq-eqb, lemmas.Bool.ne_eqb, lemmas.List.length-map}
+use Rattle.osplan.specs.{declared.plans.Spinlock.Spinlock, Spinlocks.links_of}
 use Rattle.osplan.proofs.spinlocks.comes_after.Goals as goal
 
 links-many : (spinlocks : List Spinlock) → length (links_of spinlocks) ≡ length spinlocks

@@ -1,9 +1,7 @@
 use Rattle.std.proofs.Common.{◌≡◌, ◌∙◌, Bool, false, length, ap, subst}
 use Rattle.osbase.specs.declared.references.SpinlockId.{SpinlockId}
-use Rattle.osplan.specs.declared.plans.Plan.{Plan}
-use Rattle.osplan.specs.Spinlocks.{comes_after, links_of}
-use Rattle.osplan.proofs.Linked.{enough, never-itself}
-use Rattle.osplan.proofs.Within.{limit-parts}
+use Rattle.osplan.specs.{declared.plans.Plan.Plan, Spinlocks.comes_after, Spinlocks.links_of}
+use Rattle.osplan.proofs.{Linked.enough, Linked.never-itself, Within.limit-parts}
 use Rattle.osplan.proofs.spinlocks.order_ok.Goals as goal
 
 abbrev is_after : SpinlockId → SpinlockId → Plan → Bool
