@@ -109,8 +109,15 @@ fits plan core h =
     let tasks : list_all (λ (t : Task). is_task_within (task_sizes t)) core.tasks ≡ true = grind arith in
     let ceilings : list_all (λ (r : Resource). is_ceiling (ceiling_of r)) core.resources ≡ true = grind arith in
     record {
-      number = grind arith; posted = grind arith; activations = grind arith;
-      tasks = grind arith; isrs = grind arith; resources = grind arith; counters = grind arith; alarms = grind arith; tables = grind arith;
+      number = grind arith;
+      posted = grind arith;
+      activations = grind arith;
+      tasks = grind arith;
+      isrs = grind arith;
+      resources = grind arith;
+      counters = grind arith;
+      alarms = grind arith;
+      tables = grind arith;
       priorities = all-weaker _ _ (λ t h. (task-fits t h).0) core.tasks tasks;
       some = all-weaker _ _ (λ t h. (task-fits t h).1) core.tasks tasks;
       ceilings = all-weaker _ _ (λ r h. grind (arith, nat_tests)) core.resources ceilings;
