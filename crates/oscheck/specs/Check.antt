@@ -4,55 +4,42 @@ use Rattle.std.specs.Prelude.{ℕ, ◌&&◌, ◌||◌, not, true, Bool, Option, 
 use Rattle.std.specs.List.{list_all}
 use Rattle.std.specs.Option.{option_map_or}
 use Rattle.std.specs.Str.{bytes_eq}
-use Rattle.oscheck.specs.Words.{AlarmStartText, AlarmText, ConfigText, CoreId, CoreText, CounterText, Declaration, IsrText, PointText, ResourceText, SpinlockId, SpinlockText, TableStartText, TableText, TaskText}
+use Rattle.oscheck.specs.Words.{AlarmStartText, AlarmText, ConfigText, CoreId, CoreText, Declaration, IsrText, PointText, SpinlockId, SpinlockText, TableStartText, TableText, TaskText}
 use Rattle.osbase.specs.declared.objects.ObjectKind.TheVariants.{Counter, Mode, Spinlock}
 use Rattle.osbase.specs.History.{same_core}
 use Rattle.osforms.specs.Action.{is_action}
 use Rattle.osforms.specs.Operation.{has_masks}
 use Rattle.osplan.specs.Expressible.{are_distinct, dont_care, is_free_of_resources, is_jumping_within, is_reserved}
-use Rattle.osplan.specs.Limits.{TaskSizes, IsrSizes, CounterSizes, StartSizes, PointSizes, TableSizes, CoreSizes, Sizes, is_between, is_by, is_core_numbered, is_short, is_within, is_table_timed, has_number, are_numbers_distinct, stays_on}
+use Rattle.osplan.specs.Limits.{CounterSizes, StartSizes, TableSizes, CoreSizes, Sizes, is_between, is_by, is_core_numbered, is_short, is_within, is_table_timed, has_number, are_numbers_distinct, stays_on}
 use Rattle.osplan.specs.Spinlocks.{are_links_ordered}
 use Rattle.osplan.specs.declared.faults.ConfFault.TheVariants.{Limit, DuplicateName, UnknownName, WrongCore, SpinOrder, BadMask, BadTable, BadScript}
 use Rattle.osplan.specs.Fault.{Tests}
 use Rattle.oscheck.specs.Action.{is_action_known, is_action_masked}
 use Rattle.osshape.specs.Declarations.{counter_declared, counter_ref, declarations, declared_sizes, id_of, names_of, place_of, spinlock_ref}
+pub use Rattle.osshape.specs.Shape.{task_sizes, isr_sizes, counter_sizes, point_sizes}
+use Rattle.osshape.specs.Shape.{start_numbers, table_numbers, core_numbers, text_numbers}
 use Rattle.oscheck.specs.Posted.{posted_at_once}
 use Rattle.oscheck.specs.Operation.{operations_of, op_of, named_op, is_operation_known, is_operation}
 
 -- ---- limits: those of a configuration, over the text's numbers
 
-abbrev pub task_sizes : TaskText → TaskSizes
-task_sizes task = record { priority = task.prio; activations = task.activations; extended = task.extended; budget = task.budget }
+-- The numbers of the counter of this name, where one object alone has the name, a counter.
+abbrev pub named_sizes : List Declaration → List ℕ → Option CounterSizes
+named_sizes objects counter = option_map declared_sizes (counter_declared objects counter)
 
-abbrev pub isr_sizes : IsrText → IsrSizes
-isr_sizes isr = record { level = isr.level; budget = isr.budget }
-
-abbrev pub counter_sizes : CounterText → CounterSizes
-counter_sizes counter = record { max = counter.max; min = counter.min }
-
--- How an alarm by the counter of this name is set by itself, with the counter's numbers where one object alone has the name, a counter.
+-- How an alarm by the counter of this name is set by itself.
 abbrev pub start_sizes : List Declaration → List ℕ → AlarmStartText → StartSizes
-start_sizes objects counter auto = record { start = auto.start; cycle = auto.cycle; counter = option_map declared_sizes (counter_declared objects counter) }
+start_sizes objects counter auto = start_numbers (named_sizes objects counter) auto
 
 abbrev pub alarm_sizes : List Declaration → AlarmText → Option StartSizes
 alarm_sizes objects alarm = option_map (start_sizes objects alarm.counter) alarm.auto
 
-abbrev pub point_sizes : PointText → PointSizes
-point_sizes point = record { offset = point.offset; actions = length point.actions }
-
--- The numbers of a table, and its counter's likewise.
 abbrev pub table_sizes : List Declaration → TableText → TableSizes
-table_sizes objects table = record {
-  duration = table.duration;
-  repeating = table.repeating;
-  points = map point_sizes table.points;
-  auto = option_map (λ (auto : TableStartText). auto.offset) table.auto;
-  counter = option_map declared_sizes (counter_declared objects table.counter);
-}
+table_sizes objects table = table_numbers (named_sizes objects table.counter) table
 
 -- The same without its counter's.
 abbrev pub table_times : TableText → TableSizes
-table_times table = record (table_sizes [] table) { counter = None }
+table_times table = table_numbers None table
 
 -- The scripts of a core: those of its tasks, and then those of its ISRs.
 abbrev pub core_scripts : CoreText → List (List ℕ)
@@ -60,13 +47,7 @@ core_scripts core = map (λ (task : TaskText). task.script) core.tasks ++ map (�
 
 -- All numbers of a core that have limits.
 abbrev pub core_sizes : List Declaration → CoreText → CoreSizes
-core_sizes objects core = record {
-  number = core.id;
-  start = core.start;
-  tasks = map task_sizes core.tasks;
-  isrs = map isr_sizes core.isrs;
-  resources = map (λ (resource : ResourceText). resource.ceiling) core.resources;
-  counters = map counter_sizes core.counters;
+core_sizes objects core = record (core_numbers core) {
   alarms = map (alarm_sizes objects) core.alarms;
   tables = map (table_sizes objects) core.tables;
   posted = posted_at_once objects core;
@@ -79,7 +60,7 @@ bare_sizes core = record (core_sizes [] core) { counters = []; alarms = []; tabl
 
 -- All numbers of a text that have limits.
 abbrev pub sizes_of : ConfigText → Sizes
-sizes_of t = record { modes = length t.modes; spinlocks = length t.spinlocks; cap = t.cap; cores = map (core_sizes (declarations t)) t.cores }
+sizes_of t = record (text_numbers t) { cores = map (core_sizes (declarations t)) t.cores }
 
 -- The version, which no configuration keeps, is 1, and the numbers are within the limits.
 abbrev pub is_text_within : ConfigText → Bool

@@ -8,69 +8,34 @@ ghost use Rattle.osshape.specs.declared.shapes.CounterText.{CounterText as Count
 ghost use Rattle.osshape.specs.declared.shapes.IsrText.{IsrText as Isr};
 ghost use Rattle.osshape.specs.declared.shapes.ResourceText.{ResourceText as Resource};
 ghost use Rattle.osshape.specs.declared.shapes.TaskText.{TaskText as Task};
-ghost use Rattle.osplan.specs.Limits.{are_alarms_within, are_counters_within, are_isrs_within, are_numbers_distinct, has_number, is_alarm_within, is_between, is_budget, is_ceiling, is_core_numbered, is_counter_within, is_isr_within, is_start, is_start_within, is_task_within, jobs_of, most_activations, most_cores, most_of, same_number};
+ghost use Rattle.osplan.specs.Limits.{are_alarms_within, are_counters_within, are_isrs_within, are_numbers_distinct, has_number, is_alarm_within, is_between, is_ceiling, is_core_numbered, is_counter_within, is_isr_within, is_start, is_task_within, jobs_of, most_cores, most_of, same_number};
 ghost use Rattle.osbase.specs.declared.objects.ObjectKind.{ObjectKind};
 ghost use Rattle.osplan.specs.Fault.{failing, first_fault};
 ghost use Rattle.osplan.specs.Spinlocks as plans;
 ghost use Rattle.osshape.specs.Declarations.{declarations};
 ghost use Rattle.oscheck.specs.Few.{are_objects_few, is_core_few};
-ghost use Rattle.oscheck.specs.Check.{is_text_numbered, task_sizes, isr_sizes, counter_sizes, start_sizes, alarm_sizes, bare_sizes, core_sizes, numbers_of, is_text_within, is_unreserved, is_each_once, is_core_mode_known, is_mode_known, is_spinlock_known, alarm_modes, are_timed, links_of, tests_of};
+ghost use Rattle.oscheck.specs.Check.{is_text_numbered, task_sizes, isr_sizes, counter_sizes, alarm_sizes, bare_sizes, core_sizes, numbers_of, is_text_within, is_unreserved, is_each_once, is_core_mode_known, is_mode_known, is_spinlock_known, alarm_modes, are_timed, links_of, tests_of};
 ghost use Rattle.oscheck.specs.Verdict.{text_verdict};
 
 use crate::table_checks::{are_posted_few, are_tables_timed, are_tables_within};
 use crate::verdicts::Verdict;
 use osbase::{
-    ALARMS, CONFIGURED_CORES, COUNTERS, GREATEST_BUDGET, GREATEST_VALUE, ISRS, JOBS, LEVELS, MODES,
-    ObjectKind, RESOURCES, SPINLOCKS, TABLES, TASKS,
+    ALARMS, CONFIGURED_CORES, COUNTERS, ISRS, JOBS, MODES, ObjectKind, RESOURCES, SPINLOCKS,
+    TABLES, TASKS,
 };
 use osforms::Places;
 use osplan::spinlocks::are_links_ordered;
 use osplan::{ConfFault, DONT_CARE, Spinlock, is_reserved};
 use osread::{Text, Whole};
 use osshape::{
-    AlarmStartText, AlarmText, ConfigText, CoreText, CounterText, IsrText, Objects, ResourceText,
-    SpinlockText, TaskText,
+    AlarmText, ConfigText, CoreText, CounterText, IsrText, Objects, ResourceText, SpinlockText,
+    TaskText, is_between,
 };
-
-pub(crate) fn is_between(low: u64, high: u64, number: Whole) -> bool
-    ensures { result ≡ is_between low high number }
-{
-    match number {
-        Some(number) => low <= number && number <= high,
-        None => false,
-    }
-}
-
-fn most_activations(extended: bool) -> u64
-    ensures { result ≡ most_activations extended }
-{
-    if extended { 1 } else { 64 }
-}
-
-fn is_budget(budget: Whole) -> bool
-    ensures { result ≡ is_budget budget }
-{
-    is_between(0, GREATEST_BUDGET, budget)
-}
-
-fn is_task_within(task: &TaskText) -> bool
-    ensures { result ≡ is_task_within (task_sizes task.now) }
-{
-    is_between(0, 31, task.prio)
-        && is_between(1, most_activations(task.extended), task.activations)
-        && is_budget(task.budget)
-}
-
-fn is_isr_within(isr: &IsrText) -> bool
-    ensures { result ≡ is_isr_within (isr_sizes isr.now) }
-{
-    is_between(1, LEVELS, isr.level) && is_budget(isr.budget)
-}
 
 fn is_each_isr_within(isrs: &[IsrText]) -> bool
     ensures { result ≡ list_all (λ (isr : Isr). is_isr_within (isr_sizes isr)) isrs.now }
 {
-    isrs.iter().all(is_isr_within)
+    isrs.iter().all(|isr| isr.is_within())
 }
 
 #[tactic(auto, using(crate::proofs::Numbers::mapped))]
@@ -89,7 +54,7 @@ fn are_starts_within(numbers: &[Whole]) -> bool
 fn are_tasks_within(tasks: &[TaskText]) -> bool
     ensures { result ≡ list_all (λ (task : Task). is_task_within (task_sizes task)) tasks.now }
 {
-    tasks.iter().all(is_task_within)
+    tasks.iter().all(|task| task.is_within())
 }
 
 fn jobs_of_all(tasks: &[TaskText]) -> u64
@@ -102,22 +67,13 @@ fn jobs_of_all(tasks: &[TaskText]) -> u64
 fn are_ceilings_within(resources: &[ResourceText]) -> bool
     ensures { result ≡ list_all (λ (resource : Resource). is_ceiling resource.ceiling) resources.now }
 {
-    resources
-        .iter()
-        .all(|resource| is_between(0, 31, resource.ceiling))
-}
-
-fn is_counter_within(counter: &CounterText) -> bool
-    ensures { result ≡ is_counter_within (counter_sizes counter.now) }
-{
-    is_between(1, GREATEST_VALUE, counter.max)
-        && is_between(1, counter.max.unwrap_or(0), counter.min)
+    resources.iter().all(|resource| resource.is_within())
 }
 
 fn is_each_counter_within(counters: &[CounterText]) -> bool
     ensures { result ≡ list_all (λ (counter : Counter). is_counter_within (counter_sizes counter)) counters.now }
 {
-    counters.iter().all(is_counter_within)
+    counters.iter().all(|counter| counter.is_within())
 }
 
 #[tactic(auto, using(crate::proofs::Numbers::mapped))]
@@ -127,24 +83,11 @@ fn are_counters_within(counters: &[CounterText]) -> bool
     counters.len() <= COUNTERS && is_each_counter_within(counters)
 }
 
-fn is_start_within(objects: &Objects, counter: &str, auto: &AlarmStartText) -> bool
-    ensures { result ≡ is_start_within (start_sizes objects.now.declared counter.now auto.now) }
-{
-    match objects.counter(counter) {
-        Some(counter) => {
-            let (least, greatest) = (counter.min.unwrap_or(0), counter.max.unwrap_or(0));
-            is_between(1, greatest, auto.start)
-                && (is_between(0, 0, auto.cycle) || is_between(least, greatest, auto.cycle))
-        }
-        None => true,
-    }
-}
-
 fn is_alarm_within(objects: &Objects, alarm: &AlarmText) -> bool
     ensures { result ≡ is_alarm_within (alarm_sizes objects.now.declared alarm.now) }
 {
     match &alarm.auto {
-        Some(auto) => is_start_within(objects, alarm.counter.as_str(), auto),
+        Some(auto) => auto.is_within(objects.counter(alarm.counter.as_str())),
         None => true,
     }
 }

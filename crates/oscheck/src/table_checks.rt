@@ -3,33 +3,22 @@
 ghost use Rattle.std.specs.Prelude.{◌≡◌, ◌<◌, ◌^◌, map, nat_le, true, unwrap_or};
 ghost use Rattle.std.specs.List.{list_all};
 ghost use Rattle.std.specs.Option.{option_map_or};
-ghost use Rattle.osshape.specs.declared.table_shapes.PointText.{PointText as Point};
 ghost use Rattle.osshape.specs.declared.table_shapes.TableText.{TableText as Table};
-ghost use Rattle.osplan.specs.Limits.{are_alarms_within, are_ascending, are_tables_within, delays, first_offset, is_before, is_delay, is_final, is_point_within, is_table_start_within, is_table_timed, is_table_within, is_timed_by, last_offset, most_posted};
+ghost use Rattle.osplan.specs.Limits.{are_alarms_within, are_ascending, are_tables_within, delays, is_before, is_delay, is_final, is_table_timed, is_table_within, is_timed_by, last_offset, most_posted};
 ghost use Rattle.osshape.specs.Declarations.{declared_sizes, place_alone};
 ghost use Rattle.oscheck.specs.Posted.{greatest_posted, is_posting, posted_at, posted_by_alarms, posted_by_tables, posted_at_once};
 ghost use Rattle.oscheck.specs.Check.{alarm_sizes, is_mode_known, point_sizes, table_modes, table_sizes, table_times};
 
-use crate::checks::{are_modes_known, is_between};
-use osbase::{ACTIONS, CoreId, GREATEST_DURATION, ObjectKind, POINTS, POSTED, Place, TABLES};
+use crate::checks::are_modes_known;
+use osbase::{CoreId, ObjectKind, POSTED, Place, TABLES};
 use oscript::action_of_op;
 use osforms::{Places, op_meant};
-use osread::Whole;
 use osshape::{AlarmText, CoreText, Declaration, Objects, PointText, TableText, number_id};
 
 fn offset_of(point: &PointText) -> u64
     ensures { result ≡ unwrap_or point.now.offset 0 }
 {
     point.offset.unwrap_or(0)
-}
-
-fn first_offset(points: &[PointText]) -> u64
-    ensures { result ≡ first_offset (map point_sizes points.now) }
-{
-    match points.first() {
-        Some(point) => offset_of(point),
-        None => 0,
-    }
 }
 
 fn last_offset(points: &[PointText]) -> u64
@@ -41,43 +30,10 @@ fn last_offset(points: &[PointText]) -> u64
     }
 }
 
-fn is_start_within(objects: &Objects, table: &TableText, offset: Whole) -> bool
-    ensures { result ≡ is_table_start_within (table_sizes objects.now.declared table.now) offset }
-{
-    match objects.counter(table.counter.as_str()) {
-        Some(counter) => {
-            let first = first_offset(table.points.as_slice());
-            is_between(1, counter.max.unwrap_or(0).saturating_sub(first), offset)
-        }
-        None => true,
-    }
-}
-
-fn is_auto_within(objects: &Objects, table: &TableText) -> bool
-    ensures { result ≡ option_map_or (is_table_start_within (table_sizes objects.now.declared table.now)) (table_sizes objects.now.declared table.now).auto true }
-{
-    match &table.auto {
-        Some(auto) => is_start_within(objects, table, auto.offset),
-        None => true,
-    }
-}
-
-fn is_each_point_within(points: &[PointText]) -> bool
-    ensures { result ≡ list_all (λ (point : Point). is_point_within (point_sizes point)) points.now }
-{
-    points.iter().all(|point| 1 <= point.actions.len() && point.actions.len() <= ACTIONS)
-}
-
-#[tactic(auto, using(crate::proofs::Numbers::mapped))]
 fn is_table_within(objects: &Objects, table: &TableText) -> bool
     ensures { result ≡ is_table_within (table_sizes objects.now.declared table.now) }
 {
-    let points = table.points.as_slice();
-    is_between(1, GREATEST_DURATION, table.duration)
-        && 1 <= points.len()
-        && points.len() <= POINTS
-        && is_each_point_within(points)
-        && is_auto_within(objects, table)
+    table.is_within(objects.counter(table.counter.as_str()))
 }
 
 fn is_each_table_within(objects: &Objects, tables: &[TableText]) -> bool
@@ -247,10 +203,9 @@ fn is_final(counter: &Declaration, table: &TableText) -> bool
 fn is_timed_by(counter: &Declaration, table: &TableText) -> bool
     ensures { result ≡ is_timed_by (table_times table.now) (declared_sizes counter.now) }
 {
-    let points = table.points.as_slice();
-    let first = first_offset(points);
+    let first = table.first_offset();
     (first == 0 || is_delay(counter, first))
-        && are_delays(counter, points)
+        && are_delays(counter, table.points.as_slice())
         && is_final(counter, table)
 }
 

@@ -1,8 +1,9 @@
 -- The shape of a configuration: the members and their types, before any limit or name is judged. [own]
-use Rattle.std.specs.Prelude.{ℕ, ◌&&◌, Bool, true, false, Option, Some, None, option_and_then, option_map, List, [], ◌∷◌, codes, map}
+use Rattle.std.specs.Prelude.{ℕ, ◌&&◌, Bool, true, false, Option, Some, None, option_and_then, option_map, List, [], ◌∷◌, codes, length, map}
 use Rattle.std.specs.List.{list_all}
 use Rattle.osbase.specs.declared.objects.ObjectKind.{ObjectKind}
 use Rattle.osbase.specs.Names.{is_name}
+use Rattle.osplan.specs.Limits.{TaskSizes, IsrSizes, CounterSizes, StartSizes, PointSizes, TableSizes, CoreSizes, Sizes}
 use Rattle.osplan.specs.Protection.{protection_named}
 use Rattle.osplan.specs.declared.plans.TheConstants.{COMMON, KINDS}
 use Rattle.osplan.specs.declared.protection.Protection.{Protection}
@@ -160,6 +161,53 @@ config_shape d = do
   spinlocks ← member_or (each_of spinlock_shape) [] (codes "spinlocks") d
   cores ← member_of (each_of core_shape) (codes "cores") d
   Some (record { version = version; cap = cap; master = master; modes = modes; spinlocks = spinlocks; cores = cores })
+
+-- ---- the numbers of a text that have limits
+
+abbrev pub task_sizes : TaskText → TaskSizes
+task_sizes task = record { priority = task.prio; activations = task.activations; extended = task.extended; budget = task.budget }
+
+abbrev pub isr_sizes : IsrText → IsrSizes
+isr_sizes isr = record { level = isr.level; budget = isr.budget }
+
+abbrev pub counter_sizes : CounterText → CounterSizes
+counter_sizes counter = record { max = counter.max; min = counter.min }
+
+-- How an alarm is set by itself, with the numbers of its counter.
+abbrev pub start_numbers : Option CounterSizes → AlarmStartText → StartSizes
+start_numbers counter auto = record { start = auto.start; cycle = auto.cycle; counter = counter }
+
+abbrev pub point_sizes : PointText → PointSizes
+point_sizes point = record { offset = point.offset; actions = length point.actions }
+
+-- The numbers of a table, with those of its counter.
+abbrev pub table_numbers : Option CounterSizes → TableText → TableSizes
+table_numbers counter table = record {
+  duration = table.duration;
+  repeating = table.repeating;
+  points = map point_sizes table.points;
+  auto = option_map (λ (auto : TableStartText). auto.offset) table.auto;
+  counter = counter;
+}
+
+-- Those of a core, without its alarms and its tables, what these post, and its scripts, which need a look at names.
+abbrev pub core_numbers : CoreText → CoreSizes
+core_numbers core = record {
+  number = core.id;
+  start = core.start;
+  tasks = map task_sizes core.tasks;
+  isrs = map isr_sizes core.isrs;
+  resources = map (λ (resource : ResourceText). resource.ceiling) core.resources;
+  counters = map counter_sizes core.counters;
+  alarms = [];
+  tables = [];
+  posted = 0;
+  scripts = [];
+}
+
+-- Those of a configuration, without its cores.
+abbrev pub text_numbers : ConfigText → Sizes
+text_numbers t = record { modes = length t.modes; spinlocks = length t.spinlocks; cap = t.cap; cores = [] }
 
 -- ---- the objects of a text
 

@@ -1,16 +1,18 @@
 //! The shape of a configuration's text, and what it declares.
 //!
 //! A value that has the shape becomes a text in structs: its members are there and of their types, and the names of
-//! its objects are in form. Its objects stand in one list, and where one stands is looked up by its name. Limits,
-//! numbers and what names stand for are judged by the layer above.
+//! its objects are in form. Its objects stand in one list, and where one stands is looked up by its name. Whether
+//! a part's own numbers keep their limits is asked of the part; all else is judged by the layer above.
 #![tactic(auto)]
 
 mod declarations;
+mod numbers;
 mod places;
 mod shapes;
 mod table_shapes;
 
 pub use declarations::{Declaration, byte_of, number_id, word_of};
+pub use numbers::is_between;
 pub use places::Objects;
 pub use shapes::{
     AlarmStartText, AlarmText, ConfigReader, ConfigText, CoreText, CounterText, IsrText,

@@ -1,17 +1,21 @@
-//! The shape of a configuration: its members and their types. Limits and names are judged later. Texts are
-//! borrowed from the value that is read.
+//! The shape of a configuration: its members and their types, and the limits of its numbers, which are asked later, as
+//! names are. Texts are borrowed from the value that is read.
 
-ghost use Rattle.std.specs.Prelude.{◌≡◌, [], ◌∷◌, IfOk, IsTrue, codes, map, true};
+ghost use Rattle.std.specs.Prelude.{◌≡◌, [], ◌∷◌, IfOk, IsTrue, codes, map, option_copied, option_map, true};
 ghost use Rattle.std.specs.List.{list_all};
 ghost use Rattle.osbase.specs.Names.{is_name};
+ghost use Rattle.osplan.specs.Limits.{is_ceiling, is_counter_within, is_isr_within, is_start_within, is_task_within};
 ghost use Rattle.osread.specs.Json.{each_of, member_or};
 ghost use Rattle.osread.specs.Reading.{Gives};
 ghost use Rattle.serde_json.specs.View.{view};
-ghost use Rattle.osshape.specs.Shape.{task_shape, isr_shape, resource_shape, counter_shape, alarm_start_shape, alarm_shape, common_in, core_shape, config_shape, has_named_objects, is_named, mode_shape, numbered, objects_in, protection_of, spinlock_shape, unnumbered};
+ghost use Rattle.osshape.specs.Declarations.{declared_sizes};
+ghost use Rattle.osshape.specs.Shape.{task_sizes, isr_sizes, counter_sizes, start_numbers, task_shape, isr_shape, resource_shape, counter_shape, alarm_start_shape, alarm_shape, common_in, core_shape, config_shape, has_named_objects, is_named, mode_shape, numbered, objects_in, protection_of, spinlock_shape, unnumbered};
 ghost use Rattle.osshape.specs.declared.shapes.Named.{Named as NamedValue};
 
+use crate::declarations::Declaration;
+use crate::numbers::{is_between, is_budget, most_activations};
 use crate::table_shapes::{TableReader, TableText};
-use osbase::{List, ObjectKind};
+use osbase::{GREATEST_VALUE, LEVELS, List, ObjectKind};
 use osplan::Protection;
 use osread::{
     BoolReader, JsonReader, ListOf, NameReader, OrNull, Refusal, Text, TextReader, Whole,
@@ -33,6 +37,17 @@ pub struct TaskText<'v> {
     pub script: Text<'v>,
 }
 
+impl TaskText<'_> {
+    /// Whether its numbers keep their limits.
+    pub fn is_within(&self) -> bool
+        ensures { result ≡ is_task_within (task_sizes self.now) }
+    {
+        is_between(0, 31, self.prio)
+            && is_between(1, most_activations(self.extended), self.activations)
+            && is_budget(self.budget)
+    }
+}
+
 /// An ISR as a text has it.
 #[derive(Debug, Drop)]
 pub struct IsrText<'v> {
@@ -42,11 +57,29 @@ pub struct IsrText<'v> {
     pub script: Text<'v>,
 }
 
+impl IsrText<'_> {
+    /// Whether its numbers keep their limits.
+    pub fn is_within(&self) -> bool
+        ensures { result ≡ is_isr_within (isr_sizes self.now) }
+    {
+        is_between(1, LEVELS, self.level) && is_budget(self.budget)
+    }
+}
+
 /// A resource as a text has it.
 #[derive(Debug, Drop)]
 pub struct ResourceText<'v> {
     pub name: Text<'v>,
     pub ceiling: Whole,
+}
+
+impl ResourceText<'_> {
+    /// Whether its ceiling is a priority.
+    pub fn is_within(&self) -> bool
+        ensures { result ≡ is_ceiling self.now.ceiling }
+    {
+        is_between(0, 31, self.ceiling)
+    }
 }
 
 /// A counter as a text has it.
@@ -58,12 +91,37 @@ pub struct CounterText<'v> {
     pub software: bool,
 }
 
+impl CounterText<'_> {
+    /// Whether its numbers keep their limits.
+    pub fn is_within(&self) -> bool
+        ensures { result ≡ is_counter_within (counter_sizes self.now) }
+    {
+        is_between(1, GREATEST_VALUE, self.max) && is_between(1, self.max.unwrap_or(0), self.min)
+    }
+}
+
 /// How an alarm is set by itself, as a text has it.
 #[derive(Debug, Drop)]
 pub struct AlarmStartText<'v> {
     pub modes: List<Text<'v>>,
     pub start: Whole,
     pub cycle: Whole,
+}
+
+impl AlarmStartText<'_> {
+    /// Whether its numbers are those of an alarm by this counter. Nothing is asked of them where there is none.
+    pub fn is_within(&self, counter: Option<&Declaration>) -> bool
+        ensures { result ≡ is_start_within (start_numbers (option_map declared_sizes (option_copied counter.entry)) self.now) }
+    {
+        match counter {
+            Some(counter) => {
+                let (least, greatest) = (counter.min.unwrap_or(0), counter.max.unwrap_or(0));
+                is_between(1, greatest, self.start)
+                    && (is_between(0, 0, self.cycle) || is_between(least, greatest, self.cycle))
+            }
+            None => true,
+        }
+    }
 }
 
 /// An alarm as a text has it.

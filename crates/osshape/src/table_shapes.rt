@@ -1,10 +1,17 @@
-//! The shape of a schedule table: its members and their types.
+//! The shape of a schedule table: its members and their types, and the limits of its numbers.
 
-ghost use Rattle.std.specs.Prelude.{true};
+ghost use Rattle.std.specs.Prelude.{◌≡◌, map, option_copied, option_map, true};
+ghost use Rattle.std.specs.List.{list_all};
+ghost use Rattle.std.specs.Option.{option_map_or};
 ghost use Rattle.osbase.specs.Names.{is_name};
-ghost use Rattle.osshape.specs.Shape.{point_shape, table_start_shape, table_shape};
+ghost use Rattle.osplan.specs.Limits.{first_offset, is_point_within, is_table_start_within, is_table_within};
+ghost use Rattle.osshape.specs.Declarations.{declared_sizes};
+ghost use Rattle.osshape.specs.Shape.{point_sizes, table_numbers, point_shape, table_start_shape, table_shape};
+ghost use Rattle.osshape.specs.declared.table_shapes.PointText.{PointText as Point};
 
-use osbase::List;
+use crate::declarations::Declaration;
+use crate::numbers::is_between;
+use osbase::{ACTIONS, GREATEST_DURATION, List, POINTS};
 use osread::{
     BoolReader, JsonReader, ListOf, NameReader, OrNull, Refusal, Text, TextReader, Whole,
     WholeReader, at, at_or, only_members,
@@ -17,6 +24,15 @@ use std::alloc::Global;
 pub struct PointText<'v> {
     pub offset: Whole,
     pub actions: List<Text<'v>>,
+}
+
+impl PointText<'_> {
+    /// Whether it has as many actions as a point may have.
+    pub fn is_within(&self) -> bool
+        ensures { result ≡ is_point_within (point_sizes self.now) }
+    {
+        1 <= self.actions.len() && self.actions.len() <= ACTIONS
+    }
 }
 
 /// How a schedule table is started by itself, as a text has it.
@@ -35,6 +51,57 @@ pub struct TableText<'v> {
     pub points: List<PointText<'v>>,
     pub repeating: bool,
     pub auto: Option<TableStartText<'v>>,
+}
+
+impl TableText<'_> {
+    /// The offset of its first point; 0 where it has none.
+    pub fn first_offset(&self) -> u64
+        ensures { result ≡ first_offset (map point_sizes self.now.points) }
+    {
+        match self.points.as_slice().first() {
+            Some(point) => point.offset.unwrap_or(0),
+            None => 0,
+        }
+    }
+
+    fn is_each_point_within(&self) -> bool
+        ensures { result ≡ list_all (λ (point : Point). is_point_within (point_sizes point)) self.now.points }
+    {
+        self.points.as_slice().iter().all(|point| point.is_within())
+    }
+
+    fn is_start_within(&self, counter: Option<&Declaration>, offset: Whole) -> bool
+        ensures { result ≡ is_table_start_within (table_numbers (option_map declared_sizes (option_copied counter.entry)) self.now) offset }
+    {
+        match counter {
+            Some(counter) => {
+                let greatest = counter.max.unwrap_or(0);
+                is_between(1, greatest.saturating_sub(self.first_offset()), offset)
+            }
+            None => true,
+        }
+    }
+
+    fn is_auto_within(&self, counter: Option<&Declaration>) -> bool
+        ensures { let s = table_numbers (option_map declared_sizes (option_copied counter.entry)) self.now in result ≡ option_map_or (is_table_start_within s) s.auto true }
+    {
+        match &self.auto {
+            Some(auto) => self.is_start_within(counter, auto.offset),
+            None => true,
+        }
+    }
+
+    /// Whether its numbers are those of a table by this counter. Where there is none, nothing is asked of when it starts.
+    #[tactic(auto, using(crate::proofs::Lists::counted))]
+    pub fn is_within(&self, counter: Option<&Declaration>) -> bool
+        ensures { result ≡ is_table_within (table_numbers (option_map declared_sizes (option_copied counter.entry)) self.now) }
+    {
+        is_between(1, GREATEST_DURATION, self.duration)
+            && 1 <= self.points.len()
+            && self.points.len() <= POINTS
+            && self.is_each_point_within()
+            && self.is_auto_within(counter)
+    }
 }
 
 // Reads an expiry point.
