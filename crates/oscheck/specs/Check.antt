@@ -34,6 +34,7 @@ start_sizes objects counter auto = start_numbers (named_sizes objects counter) a
 abbrev pub alarm_sizes : List Declaration → AlarmText → Option StartSizes
 alarm_sizes objects alarm = option_map (start_sizes objects alarm.counter) alarm.auto
 
+-- The numbers of a table, and its counter's likewise.
 abbrev pub table_sizes : List Declaration → TableText → TableSizes
 table_sizes objects table = table_numbers (named_sizes objects table.counter) table
 

@@ -1,4 +1,5 @@
--- The shape of a configuration: the members and their types, before any limit or name is judged. [own]
+-- The shape of a configuration: the members and their types, before any limit or name is judged; and which of its
+-- numbers have limits. [own]
 use Rattle.std.specs.Prelude.{ℕ, ◌&&◌, Bool, true, false, Option, Some, None, option_and_then, option_map, List, [], ◌∷◌, codes, length, map}
 use Rattle.std.specs.List.{list_all}
 use Rattle.osbase.specs.declared.objects.ObjectKind.{ObjectKind}
@@ -173,12 +174,12 @@ isr_sizes isr = record { level = isr.level; budget = isr.budget }
 abbrev pub counter_sizes : CounterText → CounterSizes
 counter_sizes counter = record { max = counter.max; min = counter.min }
 
+abbrev pub point_sizes : PointText → PointSizes
+point_sizes point = record { offset = point.offset; actions = length point.actions }
+
 -- How an alarm is set by itself, with the numbers of its counter.
 abbrev pub start_numbers : Option CounterSizes → AlarmStartText → StartSizes
 start_numbers counter auto = record { start = auto.start; cycle = auto.cycle; counter = counter }
-
-abbrev pub point_sizes : PointText → PointSizes
-point_sizes point = record { offset = point.offset; actions = length point.actions }
 
 -- The numbers of a table, with those of its counter.
 abbrev pub table_numbers : Option CounterSizes → TableText → TableSizes
