@@ -33,17 +33,15 @@ mutual
   items-fit : (n : ℕ) (ds : Items) → are_plain n ds ≡ true → (items_have_float ds ≡ false) × (items_depth ds ≤ n)
   items-fit n no_items h = (refl, omega arith)
   items-fit n (item d ds) h =
-      let parts = and_parts (is_plain n d) (are_plain n ds) h in
-      let first = plain-fits n d parts.0 in
-      let rest = items-fit n ds parts.1 in
+      let first = plain-fits n d (and_parts (is_plain n d) _ h).0 in
+      let rest = items-fit n ds (and_parts (is_plain n d) _ h).1 in
       (rw first.0 rest.0, omega (arith, first.1, rest.1))
 
   members-fit : (n : ℕ) (ms : Members) → has_plain n ms ≡ true → (members_have_float ms ≡ false) × (members_depth ms ≤ n)
   members-fit n no_members h = (refl, omega arith)
   members-fit n (member k d ms) h =
-      let parts = and_parts (is_plain n d) (has_plain n ms) h in
-      let first = plain-fits n d parts.0 in
-      let rest = members-fit n ms parts.1 in
+      let first = plain-fits n d (and_parts (is_plain n d) _ h).0 in
+      let rest = members-fit n ms (and_parts (is_plain n d) _ h).1 in
       (rw first.0 rest.0, omega (arith, first.1, rest.1))
 
 -- ---- what data is made of

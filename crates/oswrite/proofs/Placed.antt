@@ -130,13 +130,12 @@ module _ (plan : Plan) (inside : IsTrue (is_within_limits plan)) (sayable : IsTr
       let t = config_said plan in
       let text = core_said plan core in
       let test = λ (c : Core). same_core c.id object.place.core in
-      let said = core-text-parts core (find-passes test is_core_expressible plan.cores core (text-parts plan sayable).cores is) in
+      let parts = core-text-parts core (find-passes test is_core_expressible plan.cores core (text-parts plan sayable).cores is) in
       let fits = core-fits plan object.place.core core inside is in
-      let few = few-objects core fits kind in
       let within = ltb-true index (object_count kind core) known in
-      let low = ltb-true core.id.number 16 fits.number in
-      let on : id_of text ≡ object.place.core = ap (λ (n : ℕ). let id : CoreId = record { number = n } in id) (byte-small core.id.number (omega (arith, low)) ∙ eqb-true core.id.number object.place.core.number (find-holds test plan.cores core is)) in
-      named-by object (id_of text) (names_in kind core) (objects_in kind text) on (rw is refl) (kind-named plan core kind) (names-formed core said kind) (omega (arith, within, kind-many plan core kind)) (omega (arith, within, few, kind-many plan core kind))
+      let number = byte-small core.id.number (omega (arith, ltb-true core.id.number 16 fits.number)) ∙ eqb-true core.id.number object.place.core.number (find-holds test plan.cores core is) in
+      named-by object (id_of text) (names_in kind core) (objects_in kind text) (ap (λ (n : ℕ). let id : CoreId = record { number = n } in id) number) (rw is refl) (kind-named plan core kind) (names-formed core parts kind) (omega (arith, within, kind-many plan core kind))
+      (omega (arith, within, few-objects core fits kind, kind-many plan core kind))
       (λ o here. Contains-append_right (flat_map (common_of t) COMMON) (flat_map declared_by t.cores) _ (rw (flat_map-map declared_by (core_said plan) plan.cores)
       (flat-has (λ core. declared_by (core_said plan core)) plan.cores (position_or_len test plan.cores) core _ (sym (find_at test plan.cores) ∙ is) (core-has plan core kind index o here))))
 

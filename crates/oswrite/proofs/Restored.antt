@@ -3,29 +3,25 @@ use Rattle.std.proofs.Common.{◌≡◌, ℕ, ◌&&◌, Bool, true, List, [], �
 use Rattle.std.specs.{List.list_all, List.AllByRecursion, Option.option_map_or, Str.bytes_eq}
 use Rattle.std.proofs.lemmas.{Bool.and_parts, Bool.and_from, Bool.or_right, List.Folds.list_all-map, Simd.map-map, List.length-map, List.map-append, List.map-id}
 use Rattle.serde_json.specs.{Data.Data, Data.string, Find.as_str, Read.read}
-use Rattle.osbase.specs.Objects.{counter_object, mode_object, mode_place, spinlock_object}
-use Rattle.osbase.specs.{declared.objects.TheConstants.NOBODY, Names.is_name, History.same_core, declared.items.CoreMode.TheVariants.Named, declared.items.CoreMode.TheVariants.DontCare}
+use Rattle.osbase.specs.{declared.objects.TheConstants.NOBODY, declared.items.CoreMode.TheVariants.Named, declared.items.CoreMode.TheVariants.DontCare, Names.is_name, History.same_core, Objects.counter_object, Objects.mode_object, Objects.mode_place, Objects.spinlock_object}
 use Rattle.oscheck.specs.Words.{Alarm, AlarmStart, Core, CoreText, Counter, CounterRef, ExpiryPoint, Isr, IsrText, ModeId, Plan, RemoteCall, Resource, Table, TableStart, Task, CoreId, CoreMode, Declaration, Object, ObjectKind, Op, AlarmStartText, Spinlock, SpinlockId, TableStartText}
 use Rattle.osplan.specs.Limits as limits
 use Rattle.osplan.specs.Limits.{number_of, CoreSizes, CounterSizes, TableSizes, are_counters_within, is_alarm_within, is_between, is_start, is_table_start_within, is_table_timed, is_table_within, is_task_within, is_isr_within, is_core_within, same_number, has_number, are_numbers_distinct}
 use Rattle.osplan.specs.Expressible as said
 use Rattle.osplan.specs.Objects as plans
-use Rattle.osplan.specs.Objects.{alarm_modes, table_actions, table_modes, posted_at_once}
 use Rattle.osplan.specs.{Names.name_of_mode, Names.name_of, Names.spinlock_name, Spinlocks.are_links_ordered, Spinlocks.links_of, Protection.protection_named, Protection.protection_word, declared.protection.Protection.Protection, View.core_of, View.counter_in, Fault.if_faultless, Fault.failing}
 use Rattle.osplan.proofs.{Scripts.all_scripts, SpinlockObjects.there-spinlock, Found.IsFound, Found.each-found, Starting.master-low, ModeObjects.mode-named, ModeObjects.mode-said, ModeObjects.nobody, ModeObjects.there-mode}
 use Rattle.osplan.proofs.{Tests.each-flat, Tests.any-find, Tests.any-mapped, Within.limit-parts, Within.text-parts, Within.core-text-parts, Within.TextParts, Within.LimitParts}
 use Rattle.oscript.specs.{declared.Op.TheVariants.Work, Calls.action_of_op, Calls.op_of_call, Rows.has_masks, Rows.is_in_form}
 use Rattle.oscript.proofs.Acting.{action-back as action-of, call-objects}
 use Rattle.osforms.specs.{Operation.op_meant, Operation.has_masks as text_has_masks, Action.is_action as is_action_text}
-use Rattle.osforms.proofs.{Joining.has_none, ActionTexts.meant_action}
-use Rattle.osforms.proofs.Operations.{IsNamed, text-meant, text-none, text-some, meant-known, meant_masks}
+use Rattle.osforms.proofs.{Joining.has_none, ActionTexts.meant_action, Operations.IsNamed, Operations.text-meant, Operations.text-none, Operations.text-some, Operations.meant-known, Operations.meant_masks}
 use Rattle.osread.specs.Json.{each_of, whole_of, name_of as read_name, or_null}
 use Rattle.osshape.specs.Shape.{mode_shape, task_shape, isr_shape, resource_shape, counter_shape, alarm_start_shape, alarm_shape, point_shape, spinlock_shape, table_start_shape, table_shape, core_shape, config_shape}
 use Rattle.osshape.specs.Declarations.{counter_ref, mode_ref, number_id, declarations, place_of, names_of, counter_declared, declared_sizes, id_of, spinlock_ref}
 use Rattle.osshape.proofs.Lists.{all-apart}
-use Rattle.oscheck.specs.{Action.action_of, Action.any_action}
+use Rattle.oscheck.specs.{Action.action_of, Action.any_action, Operation.is_operation, Operation.is_operation_known, Operation.operations_of, Operation.op_of}
 use Rattle.oscheck.specs.Check.{core_scripts, counter_sizes, start_sizes, alarm_sizes, table_sizes, core_sizes, sizes_of, numbers_of, is_text_within, is_unreserved, is_each_once, is_core_mode_known, is_mode_known, is_spinlock_known, are_known, are_near, are_ordered, are_timed, tests_of}
-use Rattle.oscheck.specs.Operation.{is_operation, is_operation_known, operations_of, op_of}
 use Rattle.oscheck.specs.Verdict.{action_verdict, alarm_verdict, core_verdict, each as each_verdict, isr_verdict, op_verdict, point_verdict, script_verdict, table_verdict, task_verdict}
 use Rattle.osdraft.specs.Meaning.{core_mode, task_plan, isr_plan, resource_plan, counter_plan, start_plan, alarm_plan, point_plan, spinlock_plan, table_start_plan, table_plan, core_plan, plan_of, config_of, config_of_shape}
 use Rattle.osdraft.proofs.Found.{IsByte, byte-small, is-byte, is-word, HasCounters, named-counter}
@@ -81,7 +77,7 @@ protection-back : (p : Protection) → protection_named (protection_word p) ≡ 
 protection-back Protection.Ignore = refl
 protection-back p = refl
 
--- ---- the parts of what is known of a core, and of what is right of one
+-- ---- the parts of what is known of a core
 
 core-limits : (s : CoreSizes) → is_core_within s ≡ true → (is_between 0 7 s.number ≡ true) × (list_all is_start s.start ≡ true) × (list_all is_task_within s.tasks ≡ true) × (list_all limits.is_ceiling s.resources ≡ true)
     × (are_counters_within s.counters ≡ true) × (list_all limits.is_counter_within s.counters ≡ true) × (list_all is_alarm_within s.alarms ≡ true) × (list_all is_table_within s.tables ≡ true)
@@ -233,12 +229,13 @@ module _ (plan : Plan) (inside : IsTrue (limits.is_within_limits plan)) (sayable
   counter-back counter within says = let words = counter-words (limits.counter_sizes counter) within in record { shaped = rw says refl; meant = rw (inside-some words.0, inside-some words.1) refl; passed = refl }
 
   -- What starts by itself, and what does not.
-  start-back : (counter : CounterRef) → CounterBack counter → (auto : Option AlarmStart) → is_alarm_within (option_map (limits.start_sizes (option_map limits.counter_sizes (counter_in plan counter))) auto) ≡ true → list_all (limits.is_mode plan) (option_map_or (λ (auto : AlarmStart). auto.modes) auto []) ≡ true
+  start-back : (sizes : Option CounterSizes) (counter : CounterSizes) (auto : Option AlarmStart) → sizes ≡ Some counter → limits.is_counter_within counter ≡ true
+      → is_alarm_within (option_map (limits.start_sizes sizes) auto) ≡ true → list_all (limits.is_mode plan) (option_map_or (λ (auto : AlarmStart). auto.modes) auto []) ≡ true
       → Back (or_null_data (start_data plan)) (option_map (start_said plan)) (or_null alarm_start_shape) (option_map (start_plan objects)) (λ o. list_all (is_mode_known objects) (option_map_or (λ (auto : AlarmStartText). auto.modes) o [])) auto
   unfolding alarm_start_shape
-  start-back counter back None within known = record { shaped = refl; meant = refl; passed = refl }
-  start-back counter back (Some auto) within known =
-      let words = start-words (limits.start_sizes (option_map limits.counter_sizes (counter_in plan counter)) auto) back.sizes back.planned within back.within in
+  start-back sizes counter None is fits within known = record { shaped = refl; meant = refl; passed = refl }
+  start-back sizes counter (Some auto) is fits within known =
+      let words = start-words (limits.start_sizes sizes auto) counter is within fits in
       let modes = modes-back auto.modes known in
       record { shaped = rw modes.shaped refl; meant = rw (inside-some words.0, inside-some words.1, modes.meant) refl; passed = modes.passed }
 
@@ -246,20 +243,23 @@ module _ (plan : Plan) (inside : IsTrue (limits.is_within_limits plan)) (sayable
       → option_map_or (is_table_start_within s) (option_map (λ (auto : TableStart). Some auto.offset) auto) true ≡ true → list_all (limits.is_mode plan) (option_map_or (λ (auto : TableStart). auto.modes) auto []) ≡ true
       → Back (or_null_data (table_start_data plan)) (option_map (table_start_said plan)) (or_null table_start_shape) (option_map (table_start_plan objects)) (λ o. list_all (is_mode_known objects) (option_map_or (λ (auto : TableStartText). auto.modes) o [])) auto
   unfolding table_start_shape
-  table-start-back s counter None is within starts known = record { shaped = refl; meant = refl; passed = refl }
-  table-start-back s counter (Some auto) is within starts known =
+  table-start-back s counter None is fits within known = record { shaped = refl; meant = refl; passed = refl }
+  table-start-back s counter (Some auto) is fits within known =
       let modes = modes-back auto.modes known in
-      record { shaped = rw modes.shaped refl; meant = rw (inside-some (table-start-word s counter (Some auto.offset) is within starts), modes.meant) refl; passed = modes.passed }
+      record { shaped = rw modes.shaped refl; meant = rw (inside-some (table-start-word s counter (Some auto.offset) is fits within), modes.meant) refl; passed = modes.passed }
+
+  alarm-known : (alarm : Alarm) → limits.is_alarm_known plan alarm ≡ true → (limits.is_object plan (counter_object alarm.counter) ≡ true) × (limits.is_action_known plan alarm.action ≡ true) × (list_all (limits.is_mode plan) (plans.alarm_modes alarm) ≡ true)
+  alarm-known alarm = three-parts _ _ _
 
   alarm-back : (id : CoreId) (alarm : Alarm) → is_alarm_within (limits.alarm_sizes (counter_in plan) alarm) ≡ true → limits.is_alarm_known plan alarm ≡ true → said.is_alarm_expressible alarm ≡ true
       → Back (alarm_data plan) (alarm_said plan) alarm_shape (alarm_plan objects id) (λ text. is_right (alarm_verdict objects id text)) alarm
   unfolding alarm_shape
   alarm-back id alarm within there says =
       let tests = and_parts (is_name alarm.name) (said.is_action_expressible alarm.action) says in
-      let known = three-parts (limits.is_object plan (counter_object alarm.counter)) (limits.is_action_known plan alarm.action) (list_all (limits.is_mode plan) (alarm_modes alarm)) there in
+      let known = alarm-known alarm there in
       let counter = named-back alarm.counter known.0 in
       let action = action-back alarm.action known.1 tests.1 in
-      let auto = start-back alarm.counter counter alarm.auto within known.2 in
+      let auto = start-back (option_map limits.counter_sizes (counter_in plan alarm.counter)) counter.sizes alarm.auto counter.planned counter.within within known.2 in
       record {
         shaped = rw (tests.0, counter.names.in_form, auto.shaped) refl;
         meant = rw (counter.names.found, action.meant, auto.meant) refl;
@@ -273,13 +273,16 @@ module _ (plan : Plan) (inside : IsTrue (limits.is_within_limits plan)) (sayable
       let actions = backs point.actions (λ action here. action-back action (here _ known) (here _ says)) in
       record { shaped = rw actions.shaped refl; meant = rw (inside-some (is-word 0 1000000000 (Some point.offset) within (omega arith)), actions.meant) refl; passed = each-right (action_verdict objects) (map (action_said plan) point.actions) ∙ actions.passed }
 
+  table-known : (table : Table) → limits.is_table_known plan table ≡ true → (limits.is_object plan (counter_object table.counter) ≡ true) × (list_all (limits.is_action_known plan) (plans.table_actions table) ≡ true) × (list_all (limits.is_mode plan) (plans.table_modes table) ≡ true)
+  table-known table = three-parts _ _ _
+
   table-back : (id : CoreId) (table : Table) → is_table_within (limits.table_sizes (counter_in plan) table) ≡ true → is_table_timed (limits.table_sizes (counter_in plan) table) ≡ true → limits.is_table_known plan table ≡ true → said.is_table_expressible table ≡ true
       → Back (table_data plan) (table_said plan) table_shape (table_plan objects id) (λ text. is_right (table_verdict objects id text)) table
   unfolding table_shape
   table-back id table within timed there says =
       let sizes = limits.table_sizes (counter_in plan) table in
-      let tests = and_parts (is_name table.name) (list_all said.is_action_expressible (table_actions table)) says in
-      let known = three-parts (limits.is_object plan (counter_object table.counter)) (list_all (limits.is_action_known plan) (table_actions table)) (list_all (limits.is_mode plan) (table_modes table)) there in
+      let tests = and_parts (is_name table.name) (list_all said.is_action_expressible (plans.table_actions table)) says in
+      let known = table-known table there in
       let limit = table-limits sizes within timed in
       let counter = named-back table.counter known.0 in
       let actions = each-flat (limits.is_action_known plan) (λ (point : ExpiryPoint). point.actions) table.points known.1 in
@@ -337,10 +340,10 @@ module _ (plan : Plan) (inside : IsTrue (limits.is_within_limits plan)) (sayable
 
   alarm-numbers : (alarm : Alarm) → limits.is_alarm_known plan alarm ≡ true → alarm_sizes objects (alarm_said plan alarm) ≡ limits.alarm_sizes (counter_in plan) alarm
   alarm-numbers alarm known =
-      option_map-map (start_sizes objects (counter_name plan alarm.counter)) (start_said plan) alarm.auto ∙ ap (λ c. option_map (limits.start_sizes c) alarm.auto) (counter-same alarm.counter (three-parts (limits.is_object plan (counter_object alarm.counter)) (limits.is_action_known plan alarm.action) (list_all (limits.is_mode plan) (alarm_modes alarm)) known).0)
+      option_map-map (start_sizes objects (counter_name plan alarm.counter)) (start_said plan) alarm.auto ∙ ap (λ c. option_map (limits.start_sizes c) alarm.auto) (counter-same alarm.counter (alarm-known alarm known).0)
 
   table-numbers : (table : Table) → limits.is_table_known plan table ≡ true → table_sizes objects (table_said plan table) ≡ limits.table_sizes (counter_in plan) table
-  table-numbers table known = rw (counter-same table.counter (three-parts (limits.is_object plan (counter_object table.counter)) (list_all (limits.is_action_known plan) (table_actions table)) (list_all (limits.is_mode plan) (table_modes table)) known).0) (simp (map-map, length-map, option_map-map))
+  table-numbers table known = rw (counter-same table.counter (table-known table known).0) (simp (map-map, length-map, option_map-map))
 
   script-numbers : (core : CoreText) → map (λ (script : List ℕ). length (operations_of script)) (core_scripts core) ≡ map (λ (script : List Op). length script) (plans.core_scripts (core_plan objects core))
   script-numbers core = simp (map-append, map-map, length-map)
@@ -353,7 +356,7 @@ module _ (plan : Plan) (inside : IsTrue (limits.is_within_limits plan)) (sayable
       rw (
         map-in (alarm_sizes objects) (alarm_said plan) (limits.alarm_sizes (counter_in plan)) core.alarms (λ alarm here. alarm-numbers alarm (here _ known.3)),
         map-in (table_sizes objects) (table_said plan) (limits.table_sizes (counter_in plan)) core.tables (λ table here. table-numbers table (here _ known.4)),
-        sym (posted-same objects once text back.passed) ∙ ap posted_at_once back.meant,
+        sym (posted-same objects once text back.passed) ∙ ap plans.posted_at_once back.meant,
         script-numbers text ∙ ap (λ (c : Core). map (λ (script : List Op). length script) (plans.core_scripts c)) back.meant,
       ) (simp map-map)
 
