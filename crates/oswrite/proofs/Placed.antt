@@ -4,15 +4,14 @@ use Rattle.std.specs.{List.list_any, List.enumerate_from, List.find, List.flat_m
 use Rattle.std.proofs.lemmas.Bool.{and_parts, not-true, false_from_ne_true, false≢true, eqb-true, ltb-true}
 use Rattle.std.proofs.lemmas.{List.length-map, List.get_or-map, Simd.map-map, Slice.Eq.bytes_eq-Decides, List.Folds.flat_map-map, List.Folds.list_all-map, List.Folds.find_at, Option.slice_get-map, Option.slice_get-get_or}
 use Rattle.std.proofs.lemmas.{List.Elements.Contains-append_left, List.Elements.Contains-append_right, List.FromFn.get_or-enumerate_from, List.FromFn.length-enumerate_from, Option.get_or_from_slice_get, Option.slice_get_within}
-use Rattle.oscheck.specs.Words.{Core, CoreId, ConfigText, Declaration, Named, ObjectKind, Plan, Object, Spinlock, SpinlockText}
+use Rattle.oscheck.specs.Words.{Core, CoreId, Declaration, Named, ObjectKind, Plan, Object, Spinlock, SpinlockText}
 use Rattle.osbase.specs.{History.same_core, Objects.same_kind, declared.objects.TheConstants.NOBODY, Names.is_name}
 use Rattle.osbase.proofs.{Same.same_core-true, Same.same_kind-self, Places.passes-at}
 use Rattle.osforms.proofs.Operations.{IsNamed}
 use Rattle.osplan.specs.{declared.plans.TheConstants.COMMON, declared.plans.TheConstants.KINDS, View.core_of, Limits.is_object, Limits.is_within_limits, Limits.sizes_of, Names.name_of}
 use Rattle.osplan.specs.Expressible.{are_distinct, declared_names, is_core_expressible, is_expressible, is_mode_expressible}
 use Rattle.osplan.specs.Objects.{common_names, is_common, names_in, object_count}
-use Rattle.osplan.proofs.Tests.{all-weaker, find-holds, find-passes}
-use Rattle.osplan.proofs.Within.{core-fits, core-text-parts, few-modes, few-objects, few-spinlocks, limit-parts, names-formed, text-parts}
+use Rattle.osplan.proofs.{Tests.all-weaker, Tests.find-holds, Tests.find-passes, Within.core-fits, Within.core-text-parts, Within.few-modes, Within.few-objects, Within.few-spinlocks, Within.limit-parts, Within.names-formed, Within.text-parts}
 use Rattle.osshape.specs.Declarations.{common_of, id_of, declaration, declarations, declared_as, declared_by, has_name, names_of, place_in, place_of}
 use Rattle.osshape.specs.Shape.{common_in, objects_in, unnumbered}
 use Rattle.osshape.proofs.{Indexing.among, Naming.common-named, Naming.names-of-all, Naming.names-of-text}
@@ -50,36 +49,31 @@ kind-has id objects kinds kind i object there is =
     (i, omega (arith, within, many, length-map indexed (declaration id kind)), get_or-map (declaration id kind) indexed i (i, object) _ (omega arith) ∙ ap (declaration id kind) here)
 
 module _ (plan : Plan) where
-  abbrev text : ConfigText
-  text = config_said plan
-
   core-has : (core : Core) (kind : ObjectKind) (i : ℕ) (object : Named) → slice_get (objects_in kind (core_said plan core)) i ≡ Some object → Contains (declared_by (core_said plan core)) (declaration (id_of (core_said plan core)) kind (i, object))
   core-has core ObjectKind.Mode i object is = cc
   core-has core ObjectKind.Spinlock i object is = cc
   core-has core kind i object is = kind-has (id_of (core_said plan core)) (λ kind. objects_in kind (core_said plan core)) KINDS kind i object refl is
 
-  common-has : (kind : ObjectKind) (i : ℕ) (object : Named) → slice_get (common_in kind text) i ≡ Some object → Contains (flat_map (common_of text) COMMON) (declaration NOBODY kind (i, object))
-  common-has ObjectKind.Mode i object is = kind-has NOBODY (λ kind. common_in kind text) COMMON ObjectKind.Mode i object refl is
-  common-has ObjectKind.Spinlock i object is = kind-has NOBODY (λ kind. common_in kind text) COMMON ObjectKind.Spinlock i object refl is
+  common-has : (kind : ObjectKind) (i : ℕ) (object : Named) → slice_get (common_in kind (config_said plan)) i ≡ Some object → Contains (flat_map (common_of (config_said plan)) COMMON) (declaration NOBODY kind (i, object))
+  common-has ObjectKind.Mode i object is = kind-has NOBODY (λ kind. common_in kind (config_said plan)) COMMON ObjectKind.Mode i object refl is
+  common-has ObjectKind.Spinlock i object is = kind-has NOBODY (λ kind. common_in kind (config_said plan)) COMMON ObjectKind.Spinlock i object refl is
   common-has kind i object is = cc
 
   -- ---- the names that a text declares are the configuration's
 
   kind-named : (core : Core) (kind : ObjectKind) → names_in kind core ≡ map (λ (named : Named). named.name) (objects_in kind (core_said plan core))
   kind-named core ObjectKind.Mode = refl
-  kind-named core ObjectKind.Spinlock = refl
-  kind-named core kind = simp map-map
+  kind-named core kind = grind (arith, map-map)
 
-  common-said : (kind : ObjectKind) → common_names kind plan ≡ map (λ (named : Named). named.name) (common_in kind text)
-  common-said = common-named plan text refl (sym (map-map (λ (spinlock : SpinlockText). spinlock.name) (spinlock_said plan) plan.spinlocks))
+  common-said : (kind : ObjectKind) → common_names kind plan ≡ map (λ (named : Named). named.name) (common_in kind (config_said plan))
+  common-said = common-named plan (config_said plan) refl (sym (map-map (λ (spinlock : SpinlockText). spinlock.name) (spinlock_said plan) plan.spinlocks))
 
-  names-said : declared_names plan ≡ names_of (declarations text)
-  names-said = names-of-text plan text common-said (sym (ap names_of (flat_map-map declared_by (core_said plan) plan.cores) ∙ names-of-all (λ core. core) (core_said plan) kind-named plan.cores))
+  names-said : declared_names plan ≡ names_of (declarations (config_said plan))
+  names-said = names-of-text plan (config_said plan) common-said (sym (ap names_of (flat_map-map declared_by (core_said plan) plan.cores) ∙ names-of-all (λ core. core) (core_said plan) kind-named plan.cores))
 
   kind-many : (core : Core) (kind : ObjectKind) → length (names_in kind core) ≡ object_count kind core
   kind-many core ObjectKind.Mode = refl
-  kind-many core ObjectKind.Spinlock = refl
-  kind-many core kind = simp length-map
+  kind-many core kind = grind (arith, length-map)
 
 -- ---- what the name of an object stands for
 

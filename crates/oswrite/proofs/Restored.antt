@@ -84,9 +84,6 @@ core-limits : (s : CoreSizes) → is_core_within s ≡ true → (is_between 0 7 
     × (list_all is_isr_within s.isrs ≡ true)
 core-limits s h = (grind arith, grind arith, grind arith, grind arith, grind arith, grind arith, grind arith, grind arith, grind arith)
 
-five-parts : (a b c d e : Bool) → (a && b && c && d && e) ≡ true → (a ≡ true) × (b ≡ true) × (c ≡ true) × (d ≡ true) × (e ≡ true)
-five-parts a b c d e h = (grind arith, grind arith, grind arith, grind arith, grind arith)
-
 module _ (plan : Plan) (inside : IsTrue (limits.is_within_limits plan)) (sayable : IsTrue (said.is_expressible plan)) where
   abbrev objects : List Declaration
   objects = declarations (config_said plan)
@@ -228,7 +225,7 @@ module _ (plan : Plan) (inside : IsTrue (limits.is_within_limits plan)) (sayable
   unfolding counter_shape
   counter-back counter within says = let words = counter-words (limits.counter_sizes counter) within in record { shaped = rw says refl; meant = rw (inside-some words.0, inside-some words.1) refl; passed = refl }
 
-  -- What starts by itself, and what does not.
+  -- How an alarm is set by itself, and how a table is started, where they are.
   start-back : (sizes : Option CounterSizes) (counter : CounterSizes) (auto : Option AlarmStart) → sizes ≡ Some counter → limits.is_counter_within counter ≡ true
       → is_alarm_within (option_map (limits.start_sizes sizes) auto) ≡ true → list_all (limits.is_mode plan) (option_map_or (λ (auto : AlarmStart). auto.modes) auto []) ≡ true
       → Back (or_null_data (start_data plan)) (option_map (start_said plan)) (or_null alarm_start_shape) (option_map (start_plan objects)) (λ o. list_all (is_mode_known objects) (option_map_or (λ (auto : AlarmStartText). auto.modes) o [])) auto
@@ -299,7 +296,7 @@ module _ (plan : Plan) (inside : IsTrue (limits.is_within_limits plan)) (sayable
 
   core-known : (core : Core) → limits.is_core_known plan core ≡ true → (limits.is_core_mode plan core.mode ≡ true) × (list_all (limits.is_script_known plan) (plans.core_scripts core) ≡ true) × (list_all (limits.is_task_known plan) core.tasks ≡ true)
       × (list_all (limits.is_alarm_known plan) core.alarms ≡ true) × (list_all (limits.is_table_known plan) core.tables ≡ true)
-  core-known core = five-parts _ _ _ _ _
+  core-known core h = (grind arith, grind arith, grind arith, grind arith, grind arith)
 
   core-back : (core : Core) → In plan.cores core → Back (core_data plan) (core_said plan) core_shape (core_plan objects) (λ text. is_right (core_verdict objects text)) core
   unfolding core_shape
@@ -368,12 +365,9 @@ module _ (plan : Plan) (inside : IsTrue (limits.is_within_limits plan)) (sayable
   next-back None h = record { shaped = refl; meant = refl; passed = refl }
   next-back (Some spinlock) h = let names = named (spinlock_object spinlock) (there-spinlock plan none spinlock h) in record { shaped = rw names.in_form refl; meant = rw names.found refl; passed = rw names.found refl }
 
-  spinlock-back : (spinlock : Spinlock) → limits.is_spinlock_known plan spinlock ≡ true → said.is_spinlock_expressible spinlock ≡ true → Back (spinlock_data plan) (spinlock_said plan) spinlock_shape (spinlock_plan objects) (is_spinlock_known objects) spinlock
-  unfolding spinlock_shape
-  spinlock-back spinlock known says = let next = next-back spinlock.next known in record { shaped = rw (says, next.shaped) refl; meant = rw next.meant refl; passed = next.passed }
-
   spinlocks-back : Back (list_data (spinlock_data plan)) (map (spinlock_said plan)) (each_of spinlock_shape) (map (spinlock_plan objects)) (list_all (is_spinlock_known objects)) plan.spinlocks
-  spinlocks-back = backs plan.spinlocks (λ spinlock here. spinlock-back spinlock (here _ bounds.linked) (here _ parts.spinlocks))
+  unfolding spinlock_shape
+  spinlocks-back = backs plan.spinlocks (λ spinlock here. let next = next-back spinlock.next (here (limits.is_spinlock_known plan) bounds.linked) in record { shaped = rw (here said.is_spinlock_expressible parts.spinlocks, next.shaped) refl; meant = rw next.meant refl; passed = next.passed })
 
   names-back : Back (list_data name_data) (map (λ name. name)) (each_of read_name) (map (λ name. name)) (list_all is_unreserved) plan.modes
   names-back = backs plan.modes (λ name here. let tests = and_parts (is_name name) (is_unreserved name) (here _ parts.modes) in record { shaped = rw tests.0 refl; meant = refl; passed = tests.1 })
