@@ -1,17 +1,12 @@
 -- What the proofs of plans share: faults, and what is so of each of a list or of what is there.
-use Rattle.std.proofs.Common.{inl, inr, ◌≡◌, ◌⊎◌, Bool, true, List, [], ◌∷◌, Option, Some, None, is_some, unwrap_or, refl, arith}
+use Rattle.std.proofs.Common.{◌≡◌, Bool, true, List, [], ◌∷◌, Option, Some, None, is_some, unwrap_or, refl, arith}
 use Rattle.std.specs.List.{list_all}
-use Rattle.osplan.specs.{declared.faults.ConfFault.ConfFault, declared.faults.ConfFault.TheVariants.Limit, declared.faults.ConfFault.TheVariants.NoMemory, Fault.first_fault}
+use Rattle.osplan.specs.{declared.faults.ConfFault.ConfFault, Fault.first_fault}
 
 -- Where there is no first fault, there is none.
 pub no_fault : (faults : List ConfFault) → first_fault faults ≡ None → faults ≡ []
 no_fault [] e = refl
 no_fault (fault ∷ faults) e = cc
-
--- What follows from a part that is too long, where a reading gives a fault up.
-pub if_long : {P Q : Type 0} {fault : ConfFault} → (P → Q) → (fault ≡ NoMemory) ⊎ ((fault ≡ Limit) × P) → (fault ≡ NoMemory) ⊎ ((fault ≡ Limit) × Q)
-if_long imply (inl wanting) = inl wanting
-if_long imply (inr long) = inr (long.0, imply long.1)
 
 pub always : {X : Type 0} (xs : List X) → list_all (λ (x : X). true) xs ≡ true
 always [] = refl

@@ -1,9 +1,9 @@
 -- What a text without a fault means is a configuration with the text's numbers: it keeps the limits, and a text can say it.
-use Rattle.std.proofs.Common.{◌≡◌, ℕ, ◌&&◌, ◌||◌, ◌≤◌, Bool, true, not, cond, nat_le, nat_lt, count_by, sum_by, List, [], ◌∷◌, length, map, Option, Some, None, is_some, option_and_then, option_map, unwrap_or, refl, sym, ap, ◌∙◌, arith}
-use Rattle.std.specs.{List.AllByRecursion, List.find, List.list_all, List.sum, Option.option_map_or, Str.bytes_eq}
+use Rattle.std.proofs.Common.{◌≡◌, ℕ, ◌&&◌, ◌||◌, ◌≤◌, Bool, true, cond, count_by, sum_by, List, [], ◌∷◌, length, map, Option, Some, None, is_some, option_and_then, option_map, unwrap_or, refl, sym, ap, ◌∙◌, arith}
+use Rattle.std.specs.{List.AllByRecursion, List.list_all, List.sum, Option.option_map_or, Str.bytes_eq}
 use Rattle.std.proofs.lemmas.Bool.{Decides.nat_tests, and_from, and_parts, cond_both}
 use Rattle.std.proofs.{Math.Path.fun_ext, lemmas.List.length-map, lemmas.List.map-append, lemmas.List.Folds.flat_map-map, lemmas.List.Folds.list_all-map, lemmas.List.Sums.sum-map, lemmas.Simd.map-map}
-use Rattle.osbase.specs.{declared.objects.TheConstants.NOBODY, History.same_core, Names.is_name, Objects.counter_object, Objects.counter_of, Objects.mode_of, Objects.object_of_call, Objects.spinlock_of}
+use Rattle.osbase.specs.{History.same_core, Names.is_name, Objects.counter_object, Objects.counter_of, Objects.mode_of, Objects.object_of_call, Objects.spinlock_of}
 use Rattle.oscript.specs.Rows as rows
 use Rattle.oscript.specs.{Calls.op_of_call, Rows.is_in_form, Rows.objects_of, declared.Op.TheVariants.Work}
 use Rattle.oscript.proofs.Acting.{call-objects}
@@ -16,11 +16,11 @@ use Rattle.osplan.specs.Limits.{CoreSizes, CounterSizes, IsrSizes, PointSizes, S
 use Rattle.osplan.specs.declared.faults.ConfFault.TheVariants.{Limit, DuplicateName, UnknownName, WrongCore, SpinOrder, BadMask, BadTable, BadScript}
 use Rattle.osplan.specs.{Expressible.are_distinct, Expressible.dont_care, Fault.failing, Objects.greatest_of, Objects.names_in, Objects.table_actions, Spinlocks.are_links_ordered, View.core_of, View.counter_in}
 use Rattle.osplan.proofs.{EveryKind.every-common, EveryKind.every-kind, Found.IsFound, Found.each-found, ModeObjects.mode-there, ModeObjects.nobody, Scripts.all_scripts, SpinlockObjects.spinlock-there, SpinlockObjects.stays, Tests.all-both, Tests.all-flat, Tests.any-find, Tests.any-mapped}
-use Rattle.osshape.specs.Declarations.{byte_of, counter_ref, declarations, id_of, mode_ref, names_of, number_id, place_alone, place_of, spinlock_ref, word_of}
+use Rattle.osshape.specs.Declarations.{counter_ref, declarations, id_of, mode_ref, names_of, number_id, place_alone, place_of, spinlock_ref}
 use Rattle.osshape.specs.Shape.{common_in, has_named_common, has_named_objects, is_named, numbered, objects_in, unnumbered}
 use Rattle.osshape.proofs.Lists.{map-same, list_all-by, map-back, all-apart, all-same, list_all-total, list_any-by}
 use Rattle.osshape.proofs.{Alone.alone_if, Naming.common-named, Naming.names-of-all, Naming.names-of-text}
-use Rattle.oscheck.specs.Words.{Alarm, AlarmStartText, AlarmText, ConfigText, Core, CoreId, CoreMode, CoreText, CounterText, Declaration, ExpiryPoint, Isr, IsrText, Named, ObjectKind, Op, Place, Plan, PointText, RemoteCall, ResourceText, Spinlock, SpinlockText, Table, TableStart, TableStartText, TableText, Task, TaskText}
+use Rattle.oscheck.specs.Words.{Alarm, AlarmStartText, AlarmText, ConfigText, Core, CoreId, CoreMode, CoreText, CounterText, Declaration, ExpiryPoint, Isr, IsrText, Named, ObjectKind, Op, Place, Plan, PointText, RemoteCall, ResourceText, Spinlock, SpinlockText, TableStart, TableStartText, TableText, Task, TaskText}
 use Rattle.oscheck.specs.Check.{alarm_modes, alarm_sizes, are_known, are_masks, are_near, are_operations, are_ordered, are_timed, core_scripts, core_sizes, counter_sizes, is_core_known, is_core_mode_known, is_core_near, is_core_script, is_core_timed, is_each_once, is_isr_script}
 use Rattle.oscheck.specs.Check.{is_mode_known, is_operation_near, is_script, is_script_masked, is_script_near, is_spinlock_known, is_task_script, is_text_within, is_unreserved, isr_sizes, numbers_of, point_sizes, sizes_of, start_sizes, table_modes, table_sizes, task_sizes, tests_of}
 use Rattle.oscheck.specs.Verdict.{action_verdict, alarm_verdict, core_verdict, point_verdict, table_verdict, isr_verdict, task_verdict}
@@ -109,19 +109,16 @@ table-limits s within timed =
 
 start-numbers : (plan : Plan) (objects : List Declaration) (id : CoreId) (name : List ℕ) (auto : Option AlarmStartText) → NamedCounter plan objects id name → is_alarm_within (option_map (start_sizes objects name) auto) ≡ true
     → option_map (limits.start_sizes (option_map limits.counter_sizes (counter_in plan (counter_ref objects id name)))) (option_map (start_plan objects) auto) ≡ option_map (start_sizes objects name) auto
-start-numbers plan objects id name None counter within = refl
-start-numbers plan objects id name (Some auto) counter within =
-    let words = start-words (start_sizes objects name auto) counter.sizes counter.declared within counter.within in
-    rw (words.0, words.1, counter.planned, counter.declared) refl
+start-numbers plan objects id name auto counter within = grind (arith, nat_tests)
 
 table-start-numbers : (objects : List Declaration) (s : TableSizes) (counter : CounterSizes) (auto : Option TableStartText) → s.counter ≡ Some counter → is_counter_within counter ≡ true → option_map_or (is_table_start_within s) (option_map (λ (auto : TableStartText). auto.offset) auto) true ≡ true
     → option_map (λ (auto : TableStart). Some auto.offset) (option_map (table_start_plan objects) auto) ≡ option_map (λ (auto : TableStartText). auto.offset) auto
-table-start-numbers objects s counter None is within starts = refl
-table-start-numbers objects s counter (Some auto) is within starts = ap Some (table-start-word s counter auto.offset is within starts)
+table-start-numbers objects s counter auto is within starts = grind (arith, nat_tests)
 
--- Parts whose sizes are those of their texts, where these pass a test.
-sizes-same : {X Y Z : Type 0} (f : Y → Z) (g : X → Y) (h : X → Z) (p : Z → Bool) → ((x : X) → p (h x) ≡ true → f (g x) ≡ h x) → (xs : List X) → list_all p (map h xs) ≡ true → map f (map g xs) ≡ map h xs
-sizes-same f g h p same xs all = map-same f g h (λ x. p (h x)) same xs (sym (list_all-map p h xs) ∙ all)
+-- Parts that are right have the sizes of their texts, where these pass a test.
+sizes-same : {X Y Z : Type 0} (f : Y → Z) (g : X → Y) (h : X → Z) (right : X → Bool) (p : Z → Bool) → ((x : X) → right x ≡ true → p (h x) ≡ true → f (g x) ≡ h x) → (xs : List X) → list_all right xs ≡ true → list_all p (map h xs) ≡ true → map f (map g xs) ≡ map h xs
+sizes-same f g h right p same xs rights all =
+    map-same f g h (λ x. right x && p (h x)) (λ x e. let both = and_parts (right x) (p (h x)) e in same x both.0 both.1) xs (all-both right (λ x. p (h x)) xs rights (sym (list_all-map p h xs) ∙ all))
 
 -- What is known of the core of a text that has no fault.
 abbrev is_sound : List Declaration → CoreText → Bool
@@ -217,7 +214,8 @@ module _ (t : ConfigText) (passes : Faultless t) where
   cores Q each = each-core t Q each t.cores (each-found plan.cores distinct) (cores-inside t passes.within)
 
   counters-numbers : (core : CoreText) → is_inside objects core ≡ true → map limits.counter_sizes (map counter_plan core.counters) ≡ map counter_sizes core.counters
-  counters-numbers core h = sizes-same limits.counter_sizes counter_plan counter_sizes is_counter_within (λ counter within. let words = counter-words (counter_sizes counter) within in rw (words.0, words.1) refl) core.counters (grind arith)
+  counters-numbers core h =
+      sizes-same limits.counter_sizes counter_plan counter_sizes (λ _. true) is_counter_within (λ counter _ within. let words = counter-words (counter_sizes counter) within in rw (words.0, words.1) refl) core.counters (always core.counters) (grind arith)
 
   named : (id : CoreId) (name : List ℕ) → is_some (place_of objects ObjectKind.Counter name) ≡ true → NamedCounter plan objects id name
   named id name known =
@@ -225,31 +223,26 @@ module _ (t : ConfigText) (passes : Faultless t) where
 
   -- ---- numbers
 
-  alarm-numbers : (id : CoreId) (alarm : AlarmText) → (is_right (alarm_verdict objects id alarm) && is_alarm_within (alarm_sizes objects alarm)) ≡ true → limits.alarm_sizes (counter_in plan) (alarm_plan objects id alarm) ≡ alarm_sizes objects alarm
-  alarm-numbers id alarm h =
-      let both = and_parts (is_right (alarm_verdict objects id alarm)) (is_alarm_within (alarm_sizes objects alarm)) h in
-      start-numbers plan objects id alarm.counter alarm.auto (named id alarm.counter (alarm-parts objects id alarm both.0).0) both.1
+  alarm-numbers : (id : CoreId) (alarm : AlarmText) → is_right (alarm_verdict objects id alarm) ≡ true → is_alarm_within (alarm_sizes objects alarm) ≡ true → limits.alarm_sizes (counter_in plan) (alarm_plan objects id alarm) ≡ alarm_sizes objects alarm
+  alarm-numbers id alarm right within = start-numbers plan objects id alarm.counter alarm.auto (named id alarm.counter (alarm-parts objects id alarm right).0) within
 
-  point-numbers : (point : PointText) → is_between 0 1000000000 (point_sizes point).offset ≡ true → limits.point_sizes (point_plan objects point) ≡ point_sizes point
-  point-numbers point h = rw (is-word 0 1000000000 point.offset h (omega arith), length-map point.actions (action_of objects)) refl
+  point-numbers : (point : PointText) → true ≡ true → is_between 0 1000000000 (point_sizes point).offset ≡ true → limits.point_sizes (point_plan objects point) ≡ point_sizes point
+  point-numbers point _ h = rw (is-word 0 1000000000 point.offset h (omega arith), length-map point.actions (action_of objects)) refl
 
   table-sized : (id : CoreId) (table : TableText) → NamedCounter plan objects id table.counter → TableLimits (table_sizes objects table) → limits.table_sizes (counter_in plan) (table_plan objects id table) ≡ table_sizes objects table
   table-sized id table counter limit =
       rw (
         is-word 1 1000000000 table.duration limit.duration (omega arith),
-        sizes-same limits.point_sizes (point_plan objects) point_sizes (λ (point : PointSizes). is_between 0 1000000000 point.offset) point-numbers table.points limit.offsets,
+        sizes-same limits.point_sizes (point_plan objects) point_sizes (λ _. true) (λ (point : PointSizes). is_between 0 1000000000 point.offset) point-numbers table.points (always table.points) limit.offsets,
         table-start-numbers objects (table_sizes objects table) counter.sizes table.auto counter.declared counter.within limit.start,
         counter.planned,
         counter.declared,
       ) refl
 
-  abbrev is_sound_table : CoreId → TableText → Bool
-  is_sound_table id table = is_right (table_verdict objects id table) && is_table_within (table_sizes objects table) && is_table_timed (table_sizes objects table)
-
-  table-numbers : (id : CoreId) (table : TableText) → is_sound_table id table ≡ true → limits.table_sizes (counter_in plan) (table_plan objects id table) ≡ table_sizes objects table
-  table-numbers id table h =
-      let parts = three-parts (is_right (table_verdict objects id table)) (is_table_within (table_sizes objects table)) (is_table_timed (table_sizes objects table)) h in
-      table-sized id table (named id table.counter (table-parts objects id table parts.0).0) (table-limits (table_sizes objects table) parts.1 parts.2)
+  table-numbers : (id : CoreId) (table : TableText) → is_right (table_verdict objects id table) ≡ true → (is_table_within (table_sizes objects table) && is_table_timed (table_sizes objects table)) ≡ true → limits.table_sizes (counter_in plan) (table_plan objects id table) ≡ table_sizes objects table
+  table-numbers id table right within =
+      let both = and_parts (is_table_within (table_sizes objects table)) (is_table_timed (table_sizes objects table)) within in
+      table-sized id table (named id table.counter (table-parts objects id table right).0) (table-limits (table_sizes objects table) both.0 both.1)
 
   abbrev script_plan : List ℕ → List Op
   script_plan script = map (op_of objects) (operations_of script)
@@ -266,17 +259,16 @@ module _ (t : ConfigText) (passes : Faultless t) where
       let parts = three-parts (is_inside objects core) (is_core_timed objects core) (is_right (core_verdict objects core)) h in
       let inside : is_inside objects core ≡ true = parts.0 in
       let right = core-right objects core parts.2 in
-      let alarms = all-both (λ (alarm : AlarmText). is_right (alarm_verdict objects id alarm)) (λ (alarm : AlarmText). is_alarm_within (alarm_sizes objects alarm)) core.alarms right.alarms (sym (list_all-map is_alarm_within (alarm_sizes objects) core.alarms) ∙ grind arith) in
-      let tables = all-both (λ (table : TableText). is_right (table_verdict objects id table)) (λ (table : TableText). is_table_within (table_sizes objects table)) core.tables right.tables (sym (list_all-map is_table_within (table_sizes objects) core.tables) ∙ grind arith) in
+      let tables = all-both is_table_within is_table_timed (map (table_sizes objects) core.tables) (grind arith) (list_all-map is_table_timed (table_sizes objects) core.tables ∙ parts.1) in
       rw (
         is-byte 0 7 core.id (grind arith) (omega arith),
         map-back number_of number_id is_start (λ n low. is-byte _ _ n low (omega arith)) core.start (grind arith),
-        sizes-same limits.task_sizes (task_plan objects) task_sizes is_task_within (λ task within. let bytes = task-bytes (task_sizes task) within in rw (bytes.0, bytes.1, bytes.2) refl) core.tasks (grind arith),
-        sizes-same limits.isr_sizes (isr_plan objects) isr_sizes is_isr_within (λ isr within. let bytes = isr-bytes (isr_sizes isr) within in rw (bytes.0, bytes.1) refl) core.isrs (grind arith),
-        sizes-same limits.ceiling_of resource_plan (λ (resource : ResourceText). resource.ceiling) is_ceiling (λ resource within. is-byte 0 31 resource.ceiling within (omega arith)) core.resources (grind arith),
+        sizes-same limits.task_sizes (task_plan objects) task_sizes (λ _. true) is_task_within (λ task _ within. let bytes = task-bytes (task_sizes task) within in rw (bytes.0, bytes.1, bytes.2) refl) core.tasks (always core.tasks) (grind arith),
+        sizes-same limits.isr_sizes (isr_plan objects) isr_sizes (λ _. true) is_isr_within (λ isr _ within. let bytes = isr-bytes (isr_sizes isr) within in rw (bytes.0, bytes.1) refl) core.isrs (always core.isrs) (grind arith),
+        sizes-same limits.ceiling_of resource_plan (λ (resource : ResourceText). resource.ceiling) (λ _. true) is_ceiling (λ resource _ within. is-byte 0 31 resource.ceiling within (omega arith)) core.resources (always core.resources) (grind arith),
         counters-numbers core inside,
-        map-same (limits.alarm_sizes (counter_in plan)) (alarm_plan objects id) (alarm_sizes objects) _ (alarm-numbers id) core.alarms alarms,
-        map-same (limits.table_sizes (counter_in plan)) (table_plan objects id) (table_sizes objects) (is_sound_table id) (table-numbers id) core.tables (all-both _ (λ (table : TableText). is_table_timed (table_sizes objects table)) core.tables tables parts.1),
+        sizes-same (limits.alarm_sizes (counter_in plan)) (alarm_plan objects id) (alarm_sizes objects) (λ alarm. is_right (alarm_verdict objects id alarm)) is_alarm_within (alarm-numbers id) core.alarms right.alarms (grind arith),
+        sizes-same (limits.table_sizes (counter_in plan)) (table_plan objects id) (table_sizes objects) (λ table. is_right (table_verdict objects id table)) (λ s. is_table_within s && is_table_timed s) (table-numbers id) core.tables right.tables tables,
         posted-same objects passes.apart core parts.2,
         scripts-numbers core,
       ) refl
@@ -352,9 +344,8 @@ module _ (t : ConfigText) (passes : Faultless t) where
       let written : op_of_call call ≡ means.op = means.is.written in
       let named : list_all (limits.is_object plan) (object_of_call call ∷ []) ≡ true =
       ap (list_all (limits.is_object plan)) (sym (call-objects call) ∙ ap objects_of written) ∙ meant-passes (place_of objects) (limits.is_object plan) (stays plan) places text means.op means.meant in
-      let formed = meant-in-form (place_of objects) text means.op means.meant in
-      let masked = meant_masks (place_of objects) text means.op means.meant ∙ means.masked in
-      rw (means.meant, means.acts, written) (and_from _ _ (and_from _ _ means.is.acts (and_parts _ true named).0) (and_from _ _ formed masked))
+      rw (means.meant, means.acts, written)
+      (and_from _ _ (and_from _ _ means.is.acts (and_parts _ true named).0) (and_from _ _ (meant-in-form (place_of objects) text means.op means.meant) (meant_masks (place_of objects) text means.op means.meant ∙ means.masked)))
 
   -- ---- objects
 
@@ -368,8 +359,7 @@ module _ (t : ConfigText) (passes : Faultless t) where
   alarm-kept id alarm h =
       let both = and_parts (is_name alarm.name) (is_right (alarm_verdict objects id alarm)) h in
       let parts = alarm-parts objects id alarm both.1 in
-      let names = modes-kept (alarm_modes alarm) parts.2 in
-      let modes : list_all (limits.is_mode plan) (plans.alarm_modes (alarm_plan objects id alarm)) ≡ true = grind (arith, names) in
+      let modes : list_all (limits.is_mode plan) (plans.alarm_modes (alarm_plan objects id alarm)) ≡ true = grind (arith, modes-kept (alarm_modes alarm) parts.2) in
       acting-kept _ _ _ _ _ (counter-known id alarm.counter parts.0) (action-kept alarm.action parts.1) modes both.0
 
   point-kept : (point : PointText) → is_right (point_verdict objects point) ≡ true → list_all is_kept_action (point_plan objects point).actions ≡ true
@@ -381,8 +371,7 @@ module _ (t : ConfigText) (passes : Faultless t) where
       let parts = table-parts objects id table both.1 in
       let points = list_all-by (λ (point : PointText). is_right (point_verdict objects point)) (λ (point : ExpiryPoint). list_all is_kept_action point.actions) (point_plan objects) point-kept table.points parts.1 in
       let actions = all-apart (limits.is_action_known plan) said.is_action_expressible (table_actions (table_plan objects id table)) (all-flat is_kept_action (λ (point : ExpiryPoint). point.actions) (map (point_plan objects) table.points) points) in
-      let names = modes-kept (table_modes table) parts.2 in
-      let modes : list_all (limits.is_mode plan) (plans.table_modes (table_plan objects id table)) ≡ true = grind (arith, names) in
+      let modes : list_all (limits.is_mode plan) (plans.table_modes (table_plan objects id table)) ≡ true = grind (arith, modes-kept (table_modes table) parts.2) in
       acting-kept _ _ _ _ _ (counter-known id table.counter parts.0) actions modes both.0
 
   abbrev is_kept_core : Core → Bool

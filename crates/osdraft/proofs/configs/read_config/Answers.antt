@@ -14,8 +14,7 @@ returns-in_err-plan_if_faultless-clause-fault c =
     let p = err_from_is_err_and c.from_residual-in_err-plan_if_faultless.result c.from_residual-in_err-plan_if_faultless.ensures.1 in
     rw (p.1, p.2) (λ known. subst (λ (fs : List ConfFault). IsLeast c.in_err-plan_if_faultless.field-0.0 fs) (sym faults) (least-tests_of c.in_ok-text.text c.in_err-plan_if_faultless.field-0.0 (c.in_err-plan_if_faultless.ensures.fault known)))
 
-pub new-requires-clause-limits : goal.new-requires-clause-limits
-new-requires-clause-limits c = rw c.in_ok-plan_if_faultless.ensures.ok.1 (plan-kept c.in_ok-text.text c.in_ok-text.ensures.named c.in_ok-plan_if_faultless.ensures.ok.0).0
-
-pub new-requires-clause-expressible : goal.new-requires-clause-expressible
-new-requires-clause-expressible c = rw c.in_ok-plan_if_faultless.ensures.ok.1 (plan-kept c.in_ok-text.text c.in_ok-text.ensures.named c.in_ok-plan_if_faultless.ensures.ok.0).1
+pub new-requires : goal.new-requires
+new-requires c =
+    let kept = plan-kept c.in_ok-text.text c.in_ok-text.ensures.named c.in_ok-plan_if_faultless.ensures.ok.0 in
+    rw c.in_ok-plan_if_faultless.ensures.ok.1 (record { limits = kept.0; expressible = kept.1 })
