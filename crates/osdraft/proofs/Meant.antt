@@ -226,14 +226,12 @@ module _ (t : ConfigText) (passes : Faultless t) where
   alarm-numbers : (id : CoreId) (alarm : AlarmText) → is_right (alarm_verdict objects id alarm) ≡ true → is_alarm_within (alarm_sizes objects alarm) ≡ true → limits.alarm_sizes (counter_in plan) (alarm_plan objects id alarm) ≡ alarm_sizes objects alarm
   alarm-numbers id alarm right within = start-numbers plan objects id alarm.counter alarm.auto (named id alarm.counter (alarm-parts objects id alarm right).0) within
 
-  point-numbers : (point : PointText) → true ≡ true → is_between 0 1000000000 (point_sizes point).offset ≡ true → limits.point_sizes (point_plan objects point) ≡ point_sizes point
-  point-numbers point _ h = rw (is-word 0 1000000000 point.offset h (omega arith), length-map point.actions (action_of objects)) refl
-
   table-sized : (id : CoreId) (table : TableText) → NamedCounter plan objects id table.counter → TableLimits (table_sizes objects table) → limits.table_sizes (counter_in plan) (table_plan objects id table) ≡ table_sizes objects table
   table-sized id table counter limit =
       rw (
         is-word 1 1000000000 table.duration limit.duration (omega arith),
-        sizes-same limits.point_sizes (point_plan objects) point_sizes (λ _. true) (λ (point : PointSizes). is_between 0 1000000000 point.offset) point-numbers table.points (always table.points) limit.offsets,
+        sizes-same limits.point_sizes (point_plan objects) point_sizes (λ _. true) (λ (point : PointSizes). is_between 0 1000000000 point.offset)
+            (λ point _ within. rw (is-word 0 1000000000 point.offset within (omega arith), length-map point.actions (action_of objects)) refl) table.points (always table.points) limit.offsets,
         table-start-numbers objects (table_sizes objects table) counter.sizes table.auto counter.declared counter.within limit.start,
         counter.planned,
         counter.declared,
