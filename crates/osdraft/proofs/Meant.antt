@@ -4,8 +4,7 @@ use Rattle.std.specs.{List.AllByRecursion, List.list_all, List.sum, Option.optio
 use Rattle.std.proofs.lemmas.Bool.{Decides.nat_tests, and_from, and_parts, cond_both}
 use Rattle.std.proofs.{Math.Path.fun_ext, lemmas.List.length-map, lemmas.List.map-append, lemmas.List.Folds.flat_map-map, lemmas.List.Folds.list_all-map, lemmas.List.Sums.sum-map, lemmas.Simd.map-map}
 use Rattle.osbase.specs.{History.same_core, Names.is_name, Objects.counter_object, Objects.counter_of, Objects.mode_of, Objects.object_of_call, Objects.spinlock_of}
-use Rattle.oscript.specs.Rows as rows
-use Rattle.oscript.specs.{Calls.op_of_call, Rows.is_in_form, Rows.objects_of, declared.Op.TheVariants.Work}
+use Rattle.oscript.specs.{Calls.op_of_call, Rows.has_masks as has_op_masks, Rows.is_in_form, Rows.objects_of, declared.Op.TheVariants.Work}
 use Rattle.oscript.proofs.Acting.{call-objects}
 use Rattle.osforms.specs.Operation.{has_masks, op_meant}
 use Rattle.osforms.proofs.{Alike.named-same, Operations.meant-in-form, Operations.meant-passes, Operations.meant_masks}
@@ -20,13 +19,13 @@ use Rattle.osshape.specs.Declarations.{counter_ref, declarations, id_of, mode_re
 use Rattle.osshape.specs.Shape.{common_in, has_named_common, has_named_objects, is_named, numbered, objects_in, unnumbered}
 use Rattle.osshape.proofs.Lists.{map-same, list_all-by, map-back, all-apart, all-same, list_all-total, list_any-by}
 use Rattle.osshape.proofs.{Alone.alone_if, Naming.common-named, Naming.names-of-all, Naming.names-of-text}
-use Rattle.oscheck.specs.Words.{Alarm, AlarmStartText, AlarmText, ConfigText, Core, CoreId, CoreMode, CoreText, CounterText, Declaration, ExpiryPoint, Isr, IsrText, Named, ObjectKind, Op, Place, Plan, PointText, RemoteCall, ResourceText, Spinlock, SpinlockText, TableStart, TableStartText, TableText, Task, TaskText}
+use Rattle.oscheck.specs.Words.{Alarm, AlarmText, ConfigText, Core, CoreId, CoreMode, CoreText, CounterText, Declaration, ExpiryPoint, Isr, IsrText, Named, ObjectKind, Op, Place, Plan, PointText, RemoteCall, ResourceText, Spinlock, SpinlockText, TableStart, TableStartText, TableText, Task, TaskText}
 use Rattle.oscheck.specs.Check.{alarm_modes, alarm_sizes, are_known, are_masks, are_near, are_operations, are_ordered, are_timed, core_scripts, core_sizes, counter_sizes, is_core_known, is_core_mode_known, is_core_near, is_core_script, is_core_timed, is_each_once, is_isr_script}
-use Rattle.oscheck.specs.Check.{is_mode_known, is_operation_near, is_script, is_script_masked, is_script_near, is_spinlock_known, is_task_script, is_text_within, is_unreserved, isr_sizes, numbers_of, point_sizes, sizes_of, start_sizes, table_modes, table_sizes, task_sizes, tests_of}
+use Rattle.oscheck.specs.Check.{is_mode_known, is_operation_near, is_script, is_script_masked, is_script_near, is_spinlock_known, is_task_script, is_text_within, is_unreserved, isr_sizes, numbers_of, point_sizes, sizes_of, table_modes, table_sizes, task_sizes, tests_of}
 use Rattle.oscheck.specs.Verdict.{action_verdict, alarm_verdict, core_verdict, point_verdict, table_verdict, isr_verdict, task_verdict}
 use Rattle.oscheck.specs.{Action.action_of, Operation.is_operation, Operation.op_of, Operation.operations_of, Posted.greatest_posted, Posted.is_posting, Posted.posted_at, Posted.posted_at_once}
 use Rattle.oscheck.proofs.{Numbers.offsets-low, Operations.stays-alike}
-use Rattle.osdraft.specs.Meaning.{alarm_plan, core_mode, core_plan, counter_plan, isr_plan, plan_of, point_plan, resource_plan, spinlock_plan, start_plan, table_plan, table_start_plan, task_plan}
+use Rattle.osdraft.specs.Meaning.{alarm_plan, core_mode, core_plan, counter_plan, isr_plan, plan_of, point_plan, resource_plan, spinlock_plan, table_plan, table_start_plan, task_plan}
 use Rattle.osdraft.proofs.Found.{HasCounters, IsByte, IsWord, NamedCounter, bytes-equal, cores-inside, each-core, is-byte, is-word, is_inside, named-counter, numbers-kept, place-known}
 use Rattle.osdraft.proofs.{Loops.always, Loops.or-else, Loops.there, Right.acting, Right.alarm-parts, Right.core-right, Right.is_right, Right.of-each, Right.table-parts, Right.three-parts}
 
@@ -107,18 +106,25 @@ table-limits s within timed =
 
 -- ---- the plan of a text has the text's numbers, those of the counters that alarms and tables name too
 
-start-numbers : (plan : Plan) (objects : List Declaration) (id : CoreId) (name : List ℕ) (auto : Option AlarmStartText) → NamedCounter plan objects id name → is_alarm_within (option_map (start_sizes objects name) auto) ≡ true
-    → option_map (limits.start_sizes (option_map limits.counter_sizes (counter_in plan (counter_ref objects id name)))) (option_map (start_plan objects) auto) ≡ option_map (start_sizes objects name) auto
-start-numbers plan objects id name auto counter within = grind (arith, nat_tests)
-
-table-start-numbers : (objects : List Declaration) (s : TableSizes) (counter : CounterSizes) (auto : Option TableStartText) → s.counter ≡ Some counter → is_counter_within counter ≡ true → option_map_or (is_table_start_within s) (option_map (λ (auto : TableStartText). auto.offset) auto) true ≡ true
-    → option_map (λ (auto : TableStart). Some auto.offset) (option_map (table_start_plan objects) auto) ≡ option_map (λ (auto : TableStartText). auto.offset) auto
-table-start-numbers objects s counter auto is within starts = grind (arith, nat_tests)
+alarm-sized : (plan : Plan) (objects : List Declaration) (id : CoreId) (alarm : AlarmText) → NamedCounter plan objects id alarm.counter → is_alarm_within (alarm_sizes objects alarm) ≡ true → limits.alarm_sizes (counter_in plan) (alarm_plan objects id alarm) ≡ alarm_sizes objects alarm
+alarm-sized plan objects id alarm counter within = grind (arith, nat_tests)
 
 -- Parts that are right have the sizes of their texts, where these pass a test.
 sizes-same : {X Y Z : Type 0} (f : Y → Z) (g : X → Y) (h : X → Z) (right : X → Bool) (p : Z → Bool) → ((x : X) → right x ≡ true → p (h x) ≡ true → f (g x) ≡ h x) → (xs : List X) → list_all right xs ≡ true → list_all p (map h xs) ≡ true → map f (map g xs) ≡ map h xs
 sizes-same f g h right p same xs rights all =
     map-same f g h (λ x. right x && p (h x)) (λ x e. let both = and_parts (right x) (p (h x)) e in same x both.0 both.1) xs (all-both right (λ x. p (h x)) xs rights (sym (list_all-map p h xs) ∙ all))
+
+table-sized : (plan : Plan) (objects : List Declaration) (id : CoreId) (table : TableText) → NamedCounter plan objects id table.counter → TableLimits (table_sizes objects table) → limits.table_sizes (counter_in plan) (table_plan objects id table) ≡ table_sizes objects table
+table-sized plan objects id table counter limit =
+    let auto : option_map (λ (auto : TableStart). Some auto.offset) (option_map (table_start_plan objects) table.auto) ≡ option_map (λ (auto : TableStartText). auto.offset) table.auto = grind (arith, nat_tests) in
+    rw (
+      is-word 1 1000000000 table.duration limit.duration (omega arith),
+      sizes-same limits.point_sizes (point_plan objects) point_sizes (λ _. true) (λ (point : PointSizes). is_between 0 1000000000 point.offset)
+          (λ point _ within. rw (is-word 0 1000000000 point.offset within (omega arith), length-map point.actions (action_of objects)) refl) table.points (always table.points) limit.offsets,
+      auto,
+      counter.planned,
+      counter.declared,
+    ) refl
 
 -- What is known of the core of a text that has no fault.
 abbrev is_sound : List Declaration → CoreText → Bool
@@ -223,24 +229,10 @@ module _ (t : ConfigText) (passes : Faultless t) where
 
   -- ---- numbers
 
-  alarm-numbers : (id : CoreId) (alarm : AlarmText) → is_right (alarm_verdict objects id alarm) ≡ true → is_alarm_within (alarm_sizes objects alarm) ≡ true → limits.alarm_sizes (counter_in plan) (alarm_plan objects id alarm) ≡ alarm_sizes objects alarm
-  alarm-numbers id alarm right within = start-numbers plan objects id alarm.counter alarm.auto (named id alarm.counter (alarm-parts objects id alarm right).0) within
-
-  table-sized : (id : CoreId) (table : TableText) → NamedCounter plan objects id table.counter → TableLimits (table_sizes objects table) → limits.table_sizes (counter_in plan) (table_plan objects id table) ≡ table_sizes objects table
-  table-sized id table counter limit =
-      rw (
-        is-word 1 1000000000 table.duration limit.duration (omega arith),
-        sizes-same limits.point_sizes (point_plan objects) point_sizes (λ _. true) (λ (point : PointSizes). is_between 0 1000000000 point.offset)
-            (λ point _ within. rw (is-word 0 1000000000 point.offset within (omega arith), length-map point.actions (action_of objects)) refl) table.points (always table.points) limit.offsets,
-        table-start-numbers objects (table_sizes objects table) counter.sizes table.auto counter.declared counter.within limit.start,
-        counter.planned,
-        counter.declared,
-      ) refl
-
   table-numbers : (id : CoreId) (table : TableText) → is_right (table_verdict objects id table) ≡ true → (is_table_within (table_sizes objects table) && is_table_timed (table_sizes objects table)) ≡ true → limits.table_sizes (counter_in plan) (table_plan objects id table) ≡ table_sizes objects table
   table-numbers id table right within =
       let both = and_parts (is_table_within (table_sizes objects table)) (is_table_timed (table_sizes objects table)) within in
-      table-sized id table (named id table.counter (table-parts objects id table right).0) (table-limits (table_sizes objects table) both.0 both.1)
+      table-sized plan objects id table (named id table.counter (table-parts objects id table right).0) (table-limits (table_sizes objects table) both.0 both.1)
 
   abbrev script_plan : List ℕ → List Op
   script_plan script = map (op_of objects) (operations_of script)
@@ -265,7 +257,8 @@ module _ (t : ConfigText) (passes : Faultless t) where
         sizes-same limits.isr_sizes (isr_plan objects) isr_sizes (λ _. true) is_isr_within (λ isr _ within. let bytes = isr-bytes (isr_sizes isr) within in rw (bytes.0, bytes.1) refl) core.isrs (always core.isrs) (grind arith),
         sizes-same limits.ceiling_of resource_plan (λ (resource : ResourceText). resource.ceiling) (λ _. true) is_ceiling (λ resource _ within. is-byte 0 31 resource.ceiling within (omega arith)) core.resources (always core.resources) (grind arith),
         counters-numbers core inside,
-        sizes-same (limits.alarm_sizes (counter_in plan)) (alarm_plan objects id) (alarm_sizes objects) (λ alarm. is_right (alarm_verdict objects id alarm)) is_alarm_within (alarm-numbers id) core.alarms right.alarms (grind arith),
+        sizes-same (limits.alarm_sizes (counter_in plan)) (alarm_plan objects id) (alarm_sizes objects) (λ alarm. is_right (alarm_verdict objects id alarm)) is_alarm_within
+            (λ alarm right within. alarm-sized plan objects id alarm (named id alarm.counter (alarm-parts objects id alarm right).0) within) core.alarms right.alarms (grind arith),
         sizes-same (limits.table_sizes (counter_in plan)) (table_plan objects id) (table_sizes objects) (λ table. is_right (table_verdict objects id table)) (λ s. is_table_within s && is_table_timed s) (table-numbers id) core.tables right.tables tables,
         posted-same objects passes.apart core parts.2,
         scripts-numbers core,
@@ -313,24 +306,17 @@ module _ (t : ConfigText) (passes : Faultless t) where
 
   -- ---- operations, scripts and actions
 
-  op-known : (text : List ℕ) → limits.is_op_known plan (op_of objects text) ≡ true
-  op-known text = or-else (limits.is_op_known plan) (op_meant (place_of objects) text) Work refl (meant-passes (place_of objects) (limits.is_object plan) (stays plan) places text)
-
-  op-formed : (text : List ℕ) → is_in_form (op_of objects text) ≡ true
-  op-formed text = or-else is_in_form (op_meant (place_of objects) text) Work refl (meant-in-form (place_of objects) text)
-
-  op-masked : (text : List ℕ) → has_masks text ≡ true → rows.has_masks (op_of objects text) ≡ true
-  op-masked text h = or-else rows.has_masks (op_meant (place_of objects) text) Work refl (λ op e. meant_masks (place_of objects) text op e ∙ h)
-
   scripts-known : (core : CoreText) → list_all (limits.is_script_known plan) (plans.core_scripts (core_plan objects core)) ≡ true
   scripts-known core =
-      ap (list_all (limits.is_script_known plan)) (scripts-planned core)
-      ∙ list_all-total (limits.is_script_known plan) script_plan (λ script. list_all-total (limits.is_op_known plan) (op_of objects) op-known (operations_of script)) (core_scripts core)
+      let known = λ (text : List ℕ). or-else (limits.is_op_known plan) (op_meant (place_of objects) text) Work refl (meant-passes (place_of objects) (limits.is_object plan) (stays plan) places text) in
+      ap (list_all (limits.is_script_known plan)) (scripts-planned core) ∙ list_all-total (limits.is_script_known plan) script_plan (λ script. list_all-total (limits.is_op_known plan) (op_of objects) known (operations_of script)) (core_scripts core)
 
   script-kept : (script : List ℕ) → is_script_masked script ≡ true → is_script objects script ≡ true → said.is_script_expressible (script_plan script) ≡ true
-  script-kept script masked formed =
+  script-kept script masks formed =
       let texts = operations_of script in
-      and_from _ _ (and_from _ _ (list_all-total is_in_form (op_of objects) op-formed texts) (list_all-by has_masks rows.has_masks (op_of objects) op-masked texts masked)) (and_parts (list_all is_operation texts) _ formed).1
+      let in_form = list_all-total is_in_form (op_of objects) (λ text. or-else is_in_form (op_meant (place_of objects) text) Work refl (meant-in-form (place_of objects) text)) texts in
+      let masked = list_all-by has_masks has_op_masks (op_of objects) (λ text h. or-else has_op_masks (op_meant (place_of objects) text) Work refl (λ op e. meant_masks (place_of objects) text op e ∙ h)) texts masks in
+      and_from _ _ (and_from _ _ in_form masked) (and_parts (list_all is_operation texts) _ formed).1
 
   abbrev is_kept_action : RemoteCall → Bool
   is_kept_action action = limits.is_action_known plan action && said.is_action_expressible action
@@ -360,14 +346,12 @@ module _ (t : ConfigText) (passes : Faultless t) where
       let modes : list_all (limits.is_mode plan) (plans.alarm_modes (alarm_plan objects id alarm)) ≡ true = grind (arith, modes-kept (alarm_modes alarm) parts.2) in
       acting-kept _ _ _ _ _ (counter-known id alarm.counter parts.0) (action-kept alarm.action parts.1) modes both.0
 
-  point-kept : (point : PointText) → is_right (point_verdict objects point) ≡ true → list_all is_kept_action (point_plan objects point).actions ≡ true
-  point-kept point h = list_all-by (λ (text : List ℕ). is_right (action_verdict objects text)) is_kept_action (action_of objects) action-kept point.actions (of-each (action_verdict objects) point.actions h)
-
   table-kept : (id : CoreId) (table : TableText) → (is_name table.name && is_right (table_verdict objects id table)) ≡ true → (limits.is_table_known plan (table_plan objects id table) && said.is_table_expressible (table_plan objects id table)) ≡ true
   table-kept id table h =
       let both = and_parts (is_name table.name) (is_right (table_verdict objects id table)) h in
       let parts = table-parts objects id table both.1 in
-      let points = list_all-by (λ (point : PointText). is_right (point_verdict objects point)) (λ (point : ExpiryPoint). list_all is_kept_action point.actions) (point_plan objects) point-kept table.points parts.1 in
+      let points = list_all-by (λ (point : PointText). is_right (point_verdict objects point)) (λ (point : ExpiryPoint). list_all is_kept_action point.actions) (point_plan objects)
+      (λ point right. list_all-by (λ (text : List ℕ). is_right (action_verdict objects text)) is_kept_action (action_of objects) action-kept point.actions (of-each (action_verdict objects) point.actions right)) table.points parts.1 in
       let actions = all-apart (limits.is_action_known plan) said.is_action_expressible (table_actions (table_plan objects id table)) (all-flat is_kept_action (λ (point : ExpiryPoint). point.actions) (map (point_plan objects) table.points) points) in
       let modes : list_all (limits.is_mode plan) (plans.table_modes (table_plan objects id table)) ≡ true = grind (arith, modes-kept (table_modes table) parts.2) in
       acting-kept _ _ _ _ _ (counter-known id table.counter parts.0) actions modes both.0
