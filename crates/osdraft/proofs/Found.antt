@@ -114,8 +114,8 @@ module _ (t : ConfigText) where
 
   all-there : core_of (plan_of t) NOBODY ≡ None → AllByRecursion (λ core. IsFound (plan_of t).cores (planned core)) t.cores → All IsThere (declarations t)
   all-there alone found =
-      all-are IsThere (λ core. IsFound (plan_of t).cores (planned core)) (λ core here kind i object is. rw here (lt-ltb (byte_of (Some i)) (object_count kind (planned core)) (omega (arith, slice_get_within (objects_in kind core) i object is, byte-at_most i, as-many core kind)))) t
-      (λ kind i object is. rw alone (lt-ltb (byte_of (Some i)) (length (common_names kind (plan_of t))) (omega (arith, slice_get_within (common_in kind t) i object is, byte-at_most i, common-many kind)))) found
+      all-are IsThere _ (λ core here kind i object is. rw here (lt-ltb _ _ (omega (arith, slice_get_within (objects_in kind core) i object is, byte-at_most i, as-many core kind)))) t
+      (λ kind i object is. rw alone (lt-ltb _ _ (omega (arith, slice_get_within (common_in kind t) i object is, byte-at_most i, common-many kind)))) found
 
 -- ---- what a name stands for
 

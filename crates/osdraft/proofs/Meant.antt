@@ -20,7 +20,7 @@ use Rattle.osshape.specs.Shape.{common_in, has_named_common, has_named_objects, 
 use Rattle.osshape.proofs.Lists.{map-same, list_all-by, map-back, all-apart, all-same, list_all-total, list_any-by}
 use Rattle.osshape.proofs.{Alone.alone_if, Naming.common-named, Naming.names-of-all, Naming.names-of-text}
 use Rattle.oscheck.specs.Words.{Alarm, AlarmText, ConfigText, Core, CoreId, CoreMode, CoreText, CounterText, Declaration, ExpiryPoint, Isr, IsrText, Named, ObjectKind, Op, Place, Plan, PointText, RemoteCall, ResourceText, Spinlock, SpinlockText, TableStart, TableStartText, TableText, Task, TaskText}
-use Rattle.oscheck.specs.Check.{alarm_modes, alarm_sizes, are_known, are_masks, are_near, are_operations, are_ordered, are_timed, core_scripts, core_sizes, counter_sizes, is_core_known, is_core_mode_known, is_core_near, is_core_script, is_core_timed, is_each_once, is_isr_script}
+use Rattle.oscheck.specs.Check.{alarm_modes, alarm_sizes, are_known, are_masks, are_near, are_operations, are_ordered, are_timed, core_scripts, core_sizes, counter_sizes, is_core_known, is_core_mode_known, is_core_near, is_core_script, is_each_once, is_isr_script}
 use Rattle.oscheck.specs.Check.{is_mode_known, is_operation_near, is_script, is_script_masked, is_script_near, is_spinlock_known, is_task_script, is_text_within, is_unreserved, isr_sizes, numbers_of, point_sizes, sizes_of, table_modes, table_sizes, task_sizes, tests_of}
 use Rattle.oscheck.specs.Verdict.{action_verdict, alarm_verdict, core_verdict, point_verdict, table_verdict, isr_verdict, task_verdict}
 use Rattle.oscheck.specs.{Action.action_of, Operation.is_operation, Operation.op_of, Operation.operations_of, Posted.greatest_posted, Posted.is_posting, Posted.posted_at, Posted.posted_at_once}
@@ -125,10 +125,6 @@ table-sized plan objects id table counter limit =
       counter.planned,
       counter.declared,
     ) refl
-
--- What is known of the core of a text that has no fault.
-abbrev is_sound : List Declaration → CoreText → Bool
-is_sound objects core = is_inside objects core && is_core_timed objects core && is_right (core_verdict objects core)
 
 -- ---- the scripts, the alarms and the tables of a text's plan stay on their cores as the text's do
 
@@ -243,13 +239,13 @@ module _ (t : ConfigText) (passes : Faultless t) where
   scripts-numbers : (core : CoreText) → map (λ (script : List Op). length script) (plans.core_scripts (core_plan objects core)) ≡ map (λ (script : List ℕ). length (operations_of script)) (core_scripts core)
   scripts-numbers core = simp (map-append, map-map, length-map)
 
-  core-numbers : (core : CoreText) → is_sound objects core ≡ true → limits.core_sizes plan (core_plan objects core) ≡ core_sizes objects core
-  core-numbers core h =
+  core-numbers : (core : CoreText) → is_right (core_verdict objects core) ≡ true → (is_inside objects core && list_all is_table_timed (core_sizes objects core).tables) ≡ true → limits.core_sizes plan (core_plan objects core) ≡ core_sizes objects core
+  core-numbers core h sound =
       let id = id_of core in
-      let parts = three-parts (is_inside objects core) (is_core_timed objects core) (is_right (core_verdict objects core)) h in
-      let inside : is_inside objects core ≡ true = parts.0 in
-      let right = core-right objects core parts.2 in
-      let tables = all-both is_table_within is_table_timed (map (table_sizes objects) core.tables) (grind arith) (list_all-map is_table_timed (table_sizes objects) core.tables ∙ parts.1) in
+      let right = core-right objects core h in
+      let both = and_parts (is_inside objects core) (list_all is_table_timed (core_sizes objects core).tables) sound in
+      let inside : is_inside objects core ≡ true = both.0 in
+      let tables = all-both is_table_within is_table_timed (core_sizes objects core).tables (grind arith) both.1 in
       rw (
         is-byte 0 7 core.id (grind arith) (omega arith),
         map-back number_of number_id is_start (λ n low. is-byte _ _ n low (omega arith)) core.start (grind arith),
@@ -260,14 +256,16 @@ module _ (t : ConfigText) (passes : Faultless t) where
         sizes-same (limits.alarm_sizes (counter_in plan)) (alarm_plan objects id) (alarm_sizes objects) (λ alarm. is_right (alarm_verdict objects id alarm)) is_alarm_within
             (λ alarm right within. alarm-sized plan objects id alarm (named id alarm.counter (alarm-parts objects id alarm right).0) within) core.alarms right.alarms (grind arith),
         sizes-same (limits.table_sizes (counter_in plan)) (table_plan objects id) (table_sizes objects) (λ table. is_right (table_verdict objects id table)) (λ s. is_table_within s && is_table_timed s) (table-numbers id) core.tables right.tables tables,
-        posted-same objects passes.apart core parts.2,
+        posted-same objects passes.apart core h,
         scripts-numbers core,
       ) refl
 
   plan-numbers : limits.sizes_of plan ≡ sizes_of t
   plan-numbers =
-      let sound = all-both _ _ t.cores (all-both (is_inside objects) (is_core_timed objects) t.cores (cores-inside t passes.within) passes.timed) passes.right in
-      rw (cap-byte (sizes_of t) passes.within, length-map t.spinlocks (spinlock_plan objects), map-same (limits.core_sizes plan) (core_plan objects) (core_sizes objects) (is_sound objects) core-numbers t.cores sound) refl
+      let inside = and_parts _ (list_all is_core_within (sizes_of t).cores) passes.within in
+      let sound = all-both is_core_within (λ (s : CoreSizes). list_all is_table_timed s.tables) (sizes_of t).cores inside.1 (simp list_all-map passes.timed) in
+      let cores = sizes-same (limits.core_sizes plan) (core_plan objects) (core_sizes objects) _ (λ (s : CoreSizes). is_core_within s && list_all is_table_timed s.tables) core-numbers t.cores passes.right sound in
+      rw (cap-byte (sizes_of t) passes.within, length-map t.spinlocks (spinlock_plan objects), cores) refl
 
   within : is_within (limits.sizes_of plan) ≡ true
   within = ap is_within plan-numbers ∙ passes.within
