@@ -230,15 +230,6 @@ module _ (t : ConfigText) (passes : Faultless t) where
       let both = and_parts (is_table_within (table_sizes objects table)) (is_table_timed (table_sizes objects table)) within in
       table-sized plan objects id table (named id table.counter (table-parts objects id table right).0) (table-limits (table_sizes objects table) both.0 both.1)
 
-  abbrev script_plan : List ℕ → List Op
-  script_plan script = map (op_of objects) (operations_of script)
-
-  scripts-planned : (core : CoreText) → plans.core_scripts (core_plan objects core) ≡ map script_plan (core_scripts core)
-  scripts-planned core = simp (map-append, map-map)
-
-  scripts-numbers : (core : CoreText) → map (λ (script : List Op). length script) (plans.core_scripts (core_plan objects core)) ≡ map (λ (script : List ℕ). length (operations_of script)) (core_scripts core)
-  scripts-numbers core = simp (map-append, map-map, length-map)
-
   core-numbers : (core : CoreText) → is_right (core_verdict objects core) ≡ true → (is_inside objects core && list_all is_table_timed (core_sizes objects core).tables) ≡ true → limits.core_sizes plan (core_plan objects core) ≡ core_sizes objects core
   core-numbers core h sound =
       let id = id_of core in
@@ -246,6 +237,7 @@ module _ (t : ConfigText) (passes : Faultless t) where
       let both = and_parts (is_inside objects core) (list_all is_table_timed (core_sizes objects core).tables) sound in
       let inside : is_inside objects core ≡ true = both.0 in
       let tables = all-both is_table_within is_table_timed (core_sizes objects core).tables (grind arith) both.1 in
+      let scripts : map (λ (script : List Op). length script) (plans.core_scripts (core_plan objects core)) ≡ map (λ (script : List ℕ). length (operations_of script)) (core_scripts core) = simp (map-append, map-map, length-map) in
       rw (
         is-byte 0 7 core.id (grind arith) (omega arith),
         map-back number_of number_id is_start (λ n low. is-byte _ _ n low (omega arith)) core.start (grind arith),
@@ -257,7 +249,7 @@ module _ (t : ConfigText) (passes : Faultless t) where
             (λ alarm right within. alarm-sized plan objects id alarm (named id alarm.counter (alarm-parts objects id alarm right).0) within) core.alarms right.alarms (grind arith),
         sizes-same (limits.table_sizes (counter_in plan)) (table_plan objects id) (table_sizes objects) (λ table. is_right (table_verdict objects id table)) (λ s. is_table_within s && is_table_timed s) (table-numbers id) core.tables right.tables tables,
         posted-same objects passes.apart core h,
-        scripts-numbers core,
+        scripts,
       ) refl
 
   plan-numbers : limits.sizes_of plan ≡ sizes_of t
@@ -304,10 +296,14 @@ module _ (t : ConfigText) (passes : Faultless t) where
 
   -- ---- operations, scripts and actions
 
+  abbrev script_plan : List ℕ → List Op
+  script_plan script = map (op_of objects) (operations_of script)
+
   scripts-known : (core : CoreText) → list_all (limits.is_script_known plan) (plans.core_scripts (core_plan objects core)) ≡ true
   scripts-known core =
       let known = λ (text : List ℕ). or-else (limits.is_op_known plan) (op_meant (place_of objects) text) Work refl (meant-passes (place_of objects) (limits.is_object plan) (stays plan) places text) in
-      ap (list_all (limits.is_script_known plan)) (scripts-planned core) ∙ list_all-total (limits.is_script_known plan) script_plan (λ script. list_all-total (limits.is_op_known plan) (op_of objects) known (operations_of script)) (core_scripts core)
+      let planned : plans.core_scripts (core_plan objects core) ≡ map script_plan (core_scripts core) = simp (map-append, map-map) in
+      ap (list_all (limits.is_script_known plan)) planned ∙ list_all-total (limits.is_script_known plan) script_plan (λ script. list_all-total (limits.is_op_known plan) (op_of objects) known (operations_of script)) (core_scripts core)
 
   script-kept : (script : List ℕ) → is_script_masked script ≡ true → is_script objects script ≡ true → said.is_script_expressible (script_plan script) ≡ true
   script-kept script masks formed =
@@ -383,9 +379,6 @@ kind-named objects core ObjectKind.Mode = refl
 kind-named objects core ObjectKind.Spinlock = refl
 kind-named objects core kind = simp map-map
 
-names-kept : (t : ConfigText) → said.declared_names (plan_of t) ≡ names_of (declarations t)
-names-kept t = names-of-text (plan_of t) t (common-named (plan_of t) t refl (map-map (λ (spinlock : Spinlock). spinlock.name) (spinlock_plan (declarations t)) t.spinlocks)) (flat_map-map said.object_names (core_plan (declarations t)) t.cores ∙ sym (names-of-all (core_plan (declarations t)) (λ core. core) (kind-named (declarations t)) t.cores))
-
 -- ---- the plan
 
 -- It is a configuration that keeps the limits, and that a text can say.
@@ -403,7 +396,9 @@ plan-kept t named none =
     let modes = all-both is_name is_unreserved t.modes (sym (list_all-map (λ (named : Named). is_name named.name) unnumbered t.modes) ∙ common ObjectKind.Mode refl) passes.unreserved in
     let spinlocks = list_all-map said.is_spinlock_expressible (spinlock_plan objects) t.spinlocks ∙ sym (list_all-map (λ (named : Named). is_name named.name) (λ (spinlock : SpinlockText). unnumbered spinlock.name) t.spinlocks) ∙ common ObjectKind.Spinlock refl in
     let linked = list_all-by (is_spinlock_known objects) (limits.is_spinlock_known plan) (spinlock_plan objects) (λ spinlock. next-kept t passes spinlock.next) t.spinlocks passes.spinlocks in
+    let shared = common-named plan t refl (map-map (λ (spinlock : Spinlock). spinlock.name) (spinlock_plan objects) t.spinlocks) in
+    let declared = names-of-text plan t shared (flat_map-map said.object_names (core_plan objects) t.cores ∙ sym (names-of-all (core_plan objects) (λ core. core) (kind-named objects) t.cores)) in
     let ordered = ap are_links_ordered (map-map (λ (spinlock : Spinlock). spinlock.next) (spinlock_plan objects) t.spinlocks) ∙ passes.ordered in (
       and_from _ _ (and_from _ _ (and_from _ _ (and_from _ _ (and_from _ _ (and_from _ _ (and_from _ _ (within t passes) (distinct t passes)) (master-found t passes)) parts.0) near) (timed t passes)) linked) ordered,
-      and_from _ _ (and_from _ _ (and_from _ _ modes spinlocks) parts.1) (ap are_distinct (names-kept t) ∙ passes.apart),
+      and_from _ _ (and_from _ _ (and_from _ _ modes spinlocks) parts.1) (ap are_distinct declared ∙ passes.apart),
     )
