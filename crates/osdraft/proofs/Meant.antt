@@ -16,7 +16,7 @@ use Rattle.osplan.specs.declared.faults.ConfFault.TheVariants.{Limit, DuplicateN
 use Rattle.osplan.specs.{Expressible.are_distinct, Expressible.dont_care, Fault.failing, Objects.greatest_of, Objects.names_in, Objects.table_actions, Spinlocks.are_links_ordered, View.core_of, View.counter_in}
 use Rattle.osplan.proofs.{EveryKind.every-common, EveryKind.every-kind, Found.IsFound, Found.each-found, ModeObjects.mode-there, ModeObjects.nobody, Scripts.all_scripts, SpinlockObjects.spinlock-there, SpinlockObjects.stays, Tests.all-both, Tests.all-flat, Tests.any-find, Tests.any-mapped}
 use Rattle.osshape.specs.Declarations.{counter_ref, declarations, id_of, mode_ref, names_of, number_id, place_alone, place_of, spinlock_ref}
-use Rattle.osshape.specs.Shape.{common_in, has_named_common, has_named_objects, is_named, numbered, objects_in, unnumbered}
+use Rattle.osshape.specs.Shape.{common_in, has_named_common, has_named_objects, is_named, objects_in, unnumbered}
 use Rattle.osshape.proofs.Lists.{map-same, list_all-by, map-back, all-apart, all-same, list_all-total, list_any-by}
 use Rattle.osshape.proofs.{Alone.alone_if, Naming.common-named, Naming.names-of-all, Naming.names-of-text}
 use Rattle.oscheck.specs.Words.{Alarm, AlarmText, ConfigText, Core, CoreId, CoreMode, CoreText, CounterText, Declaration, ExpiryPoint, Isr, IsrText, Named, ObjectKind, Op, Place, Plan, PointText, RemoteCall, ResourceText, Spinlock, SpinlockText, TableStart, TableStartText, TableText, Task, TaskText}
@@ -190,11 +190,11 @@ faultless t none =
 
 -- ---- the parts of the plan: their numbers are the text's, what each names is there, and a text can say it
 
--- The plans of objects with names in form that are right.
-each-kept : {X Y : Type 0} (named : X → Named) (right : X → Bool) (plan : X → Y) (p q : Y → Bool) → ((x : X) → (is_name (named x).name && right x) ≡ true → (p (plan x) && q (plan x)) ≡ true) → (xs : List X)
-    → list_all (λ (n : Named). is_name n.name) (map named xs) ≡ true → list_all right xs ≡ true → (list_all p (map plan xs) && list_all q (map plan xs)) ≡ true
+-- The plans of what has names in form and is right.
+each-kept : {X Y : Type 0} (named right : X → Bool) (plan : X → Y) (p q : Y → Bool) → ((x : X) → named x ≡ true → right x ≡ true → (p (plan x) && q (plan x)) ≡ true) → (xs : List X) → list_all named xs ≡ true → list_all right xs ≡ true
+    → (list_all p (map plan xs) && list_all q (map plan xs)) ≡ true
 each-kept named right plan p q each xs names rights =
-    all-apart p q (map plan xs) (list_all-by (λ x. is_name (named x).name && right x) (λ y. p y && q y) plan each xs (all-both (λ x. is_name (named x).name) right xs (sym (list_all-map (λ (n : Named). is_name n.name) named xs) ∙ names) rights))
+    all-apart p q (map plan xs) (list_all-by (λ x. named x && right x) (λ y. p y && q y) plan (λ x h. let both = and_parts (named x) (right x) h in each x both.0 both.1) xs (all-both named right xs names rights))
 
 -- An alarm, or a table: its counter, what it does, its modes, and its name.
 acting-kept : (counter known modes name said : Bool) → counter ≡ true → (known && said) ≡ true → modes ≡ true → name ≡ true → ((counter && known && modes) && (name && said)) ≡ true
@@ -327,44 +327,38 @@ module _ (t : ConfigText) (passes : Faultless t) where
 
   -- ---- objects
 
-  task-kept : (id : CoreId) (task : TaskText) → (is_name task.name && is_right (task_verdict objects id task)) ≡ true → (limits.is_task_known plan (task_plan objects task) && said.is_task_expressible (task_plan objects task)) ≡ true
-  task-kept id task h = let script = script-kept task.script (grind arith) (grind arith) in let modes = modes-kept task.auto (grind arith) in grind (arith, script, modes)
+  task-kept : (id : CoreId) (task : TaskText) → is_name task.name ≡ true → is_right (task_verdict objects id task) ≡ true → (limits.is_task_known plan (task_plan objects task) && said.is_task_expressible (task_plan objects task)) ≡ true
+  task-kept id task name right = let script = script-kept task.script (grind arith) (grind arith) in let modes = modes-kept task.auto (grind arith) in grind (arith, script, modes)
 
-  isr-kept : (id : CoreId) (isr : IsrText) → (is_name isr.name && is_right (isr_verdict objects id isr.script)) ≡ true → said.is_isr_expressible (isr_plan objects isr) ≡ true
-  isr-kept id isr h = let script = script-kept isr.script (grind arith) (grind arith) in grind (arith, script)
+  isr-kept : (id : CoreId) (isr : IsrText) → is_name isr.name ≡ true → is_right (isr_verdict objects id isr.script) ≡ true → said.is_isr_expressible (isr_plan objects isr) ≡ true
+  isr-kept id isr name right = let script = script-kept isr.script (grind arith) (grind arith) in grind (arith, script)
 
-  alarm-kept : (id : CoreId) (alarm : AlarmText) → (is_name alarm.name && is_right (alarm_verdict objects id alarm)) ≡ true → (limits.is_alarm_known plan (alarm_plan objects id alarm) && said.is_alarm_expressible (alarm_plan objects id alarm)) ≡ true
-  alarm-kept id alarm h =
-      let both = and_parts (is_name alarm.name) (is_right (alarm_verdict objects id alarm)) h in
-      let parts = alarm-parts objects id alarm both.1 in
+  alarm-kept : (id : CoreId) (alarm : AlarmText) → is_name alarm.name ≡ true → is_right (alarm_verdict objects id alarm) ≡ true → (limits.is_alarm_known plan (alarm_plan objects id alarm) && said.is_alarm_expressible (alarm_plan objects id alarm)) ≡ true
+  alarm-kept id alarm name right =
+      let parts = alarm-parts objects id alarm right in
       let modes : list_all (limits.is_mode plan) (plans.alarm_modes (alarm_plan objects id alarm)) ≡ true = grind (arith, modes-kept (alarm_modes alarm) parts.2) in
-      acting-kept _ _ _ _ _ (counter-known id alarm.counter parts.0) (action-kept alarm.action parts.1) modes both.0
+      acting-kept _ _ _ _ _ (counter-known id alarm.counter parts.0) (action-kept alarm.action parts.1) modes name
 
-  table-kept : (id : CoreId) (table : TableText) → (is_name table.name && is_right (table_verdict objects id table)) ≡ true → (limits.is_table_known plan (table_plan objects id table) && said.is_table_expressible (table_plan objects id table)) ≡ true
-  table-kept id table h =
-      let both = and_parts (is_name table.name) (is_right (table_verdict objects id table)) h in
-      let parts = table-parts objects id table both.1 in
+  table-kept : (id : CoreId) (table : TableText) → is_name table.name ≡ true → is_right (table_verdict objects id table) ≡ true → (limits.is_table_known plan (table_plan objects id table) && said.is_table_expressible (table_plan objects id table)) ≡ true
+  table-kept id table name right =
+      let parts = table-parts objects id table right in
       let points = list_all-by (λ (point : PointText). is_right (point_verdict objects point)) (λ (point : ExpiryPoint). list_all is_kept_action point.actions) (point_plan objects)
       (λ point right. list_all-by (λ (text : List ℕ). is_right (action_verdict objects text)) is_kept_action (action_of objects) action-kept point.actions (of-each (action_verdict objects) point.actions right)) table.points parts.1 in
       let actions = all-apart (limits.is_action_known plan) said.is_action_expressible (table_actions (table_plan objects id table)) (all-flat is_kept_action (λ (point : ExpiryPoint). point.actions) (map (point_plan objects) table.points) points) in
       let modes : list_all (limits.is_mode plan) (plans.table_modes (table_plan objects id table)) ≡ true = grind (arith, modes-kept (table_modes table) parts.2) in
-      acting-kept _ _ _ _ _ (counter-known id table.counter parts.0) actions modes both.0
+      acting-kept _ _ _ _ _ (counter-known id table.counter parts.0) actions modes name
 
-  abbrev is_kept_core : Core → Bool
-  is_kept_core core = limits.is_core_known plan core && said.is_core_expressible core
-
-  core-kept : (core : CoreText) → (has_named_objects core && is_right (core_verdict objects core)) ≡ true → is_kept_core (core_plan objects core) ≡ true
-  core-kept core h =
+  core-kept : (core : CoreText) → has_named_objects core ≡ true → is_right (core_verdict objects core) ≡ true → (limits.is_core_known plan (core_plan objects core) && said.is_core_expressible (core_plan objects core)) ≡ true
+  core-kept core names h =
       let id = id_of core in
-      let both = and_parts (has_named_objects core) (is_right (core_verdict objects core)) h in
-      let right = core-right objects core both.1 in
-      let named = every-kind (λ (kind : ObjectKind). list_all (λ (named : Named). is_name named.name) (objects_in kind core)) both.0 in
-      let tasks = each-kept (λ (task : TaskText). unnumbered task.name) (λ (task : TaskText). is_right (task_verdict objects id task)) (task_plan objects) (limits.is_task_known plan) said.is_task_expressible (task-kept id) core.tasks (named ObjectKind.Task refl) right.tasks in
-      let isrs = each-kept (λ (isr : IsrText). unnumbered isr.name) (λ (isr : IsrText). is_right (isr_verdict objects id isr.script)) (isr_plan objects) (λ _. true) said.is_isr_expressible (isr-kept id) core.isrs (named ObjectKind.Isr refl) right.isrs in
-      let resources = each-kept (λ (resource : ResourceText). unnumbered resource.name) (λ (resource : ResourceText). true) resource_plan (λ _. true) said.is_resource_expressible (λ resource e. grind arith) core.resources (named ObjectKind.Resource refl) (always core.resources) in
-      let counters = each-kept numbered (λ (counter : CounterText). true) counter_plan (λ _. true) said.is_counter_expressible (λ counter e. grind arith) core.counters (named ObjectKind.Counter refl) (always core.counters) in
-      let alarms = each-kept (λ (alarm : AlarmText). unnumbered alarm.name) (λ (alarm : AlarmText). is_right (alarm_verdict objects id alarm)) (alarm_plan objects id) (limits.is_alarm_known plan) said.is_alarm_expressible (alarm-kept id) core.alarms (named ObjectKind.Alarm refl) right.alarms in
-      let tables = each-kept (λ (table : TableText). unnumbered table.name) (λ (table : TableText). is_right (table_verdict objects id table)) (table_plan objects id) (limits.is_table_known plan) said.is_table_expressible (table-kept id) core.tables (named ObjectKind.Table refl) right.tables in
+      let right = core-right objects core h in
+      let named = every-kind (λ (kind : ObjectKind). list_all (λ (named : Named). is_name named.name) (objects_in kind core)) names in
+      let tasks = each-kept (λ (task : TaskText). is_name task.name) (λ (task : TaskText). is_right (task_verdict objects id task)) (task_plan objects) (limits.is_task_known plan) said.is_task_expressible (task-kept id) core.tasks (simp list_all-map at (named ObjectKind.Task refl)) right.tasks in
+      let isrs = each-kept (λ (isr : IsrText). is_name isr.name) (λ (isr : IsrText). is_right (isr_verdict objects id isr.script)) (isr_plan objects) (λ _. true) said.is_isr_expressible (isr-kept id) core.isrs (simp list_all-map at (named ObjectKind.Isr refl)) right.isrs in
+      let resources = each-kept (λ (resource : ResourceText). is_name resource.name) (λ (resource : ResourceText). true) resource_plan (λ _. true) said.is_resource_expressible (λ resource name _. grind arith) core.resources (simp list_all-map at (named ObjectKind.Resource refl)) (always core.resources) in
+      let counters = each-kept (λ (counter : CounterText). is_name counter.name) (λ (counter : CounterText). true) counter_plan (λ _. true) said.is_counter_expressible (λ counter name _. grind arith) core.counters (simp list_all-map at (named ObjectKind.Counter refl)) (always core.counters) in
+      let alarms = each-kept (λ (alarm : AlarmText). is_name alarm.name) (λ (alarm : AlarmText). is_right (alarm_verdict objects id alarm)) (alarm_plan objects id) (limits.is_alarm_known plan) said.is_alarm_expressible (alarm-kept id) core.alarms (simp list_all-map at (named ObjectKind.Alarm refl)) right.alarms in
+      let tables = each-kept (λ (table : TableText). is_name table.name) (λ (table : TableText). is_right (table_verdict objects id table)) (table_plan objects id) (limits.is_table_known plan) said.is_table_expressible (table-kept id) core.tables (simp list_all-map at (named ObjectKind.Table refl)) right.tables in
       grind (arith, core-mode-kept core.mode right.mode, scripts-known core, tasks, isrs, resources, counters, alarms, tables)
 
   master-found : is_some (core_of plan plan.master) ≡ true
@@ -389,8 +383,7 @@ plan-kept t named none =
     let passes = faultless t none in
     let names = and_parts (has_named_common t) (list_all has_named_objects t.cores) named in
     let common = every-common (λ (kind : ObjectKind). list_all (λ (named : Named). is_name named.name) (common_in kind t)) names.0 in
-    let cores = all-apart (limits.is_core_known plan) said.is_core_expressible plan.cores
-    (list_all-by (λ (core : CoreText). has_named_objects core && is_right (core_verdict objects core)) (is_kept_core t passes) (core_plan objects) (core-kept t passes) t.cores (all-both has_named_objects _ t.cores names.1 passes.right)) in
+    let cores = each-kept has_named_objects _ (core_plan objects) (limits.is_core_known plan) said.is_core_expressible (core-kept t passes) t.cores names.1 passes.right in
     let parts = and_parts (list_all (limits.is_core_known plan) plan.cores) (list_all said.is_core_expressible plan.cores) cores in
     let near = near_kept objects t.cores passes.formed ∙ passes.near in
     let modes = all-both is_name is_unreserved t.modes (sym (list_all-map (λ (named : Named). is_name named.name) unnumbered t.modes) ∙ common ObjectKind.Mode refl) passes.unreserved in
