@@ -1,5 +1,4 @@
 pub mod Right
-pub mod Alarms
 pub mod Found
 pub mod Meant
 pub mod Loops

@@ -1,12 +1,16 @@
 -- What is right of a text, but for where its names stand: what is right of the whole is right of each part.
-use Rattle.std.proofs.Common.{◌≡◌, ◌&&◌, Bool, true, is_some, List, [], ◌∷◌, refl, sym, ◌∙◌, arith}
+use Rattle.std.proofs.Common.{◌≡◌, ℕ, ◌&&◌, ◌||◌, not, Bool, true, Some, is_some, List, [], ◌∷◌, refl, sym, ap, ◌∙◌, arith}
 use Rattle.std.specs.List.{list_all}
-use Rattle.oscheck.specs.Words.{AlarmText, CoreId, CoreText, Declaration, IsrText, ObjectKind, PointText, TableText, TaskText}
-use Rattle.oscheck.specs.{declared.verdicts.Verdict.Verdict, Action.is_action_known, Action.is_action_masked}
+use Rattle.oscript.specs.Calls.{action_of_op}
+use Rattle.oscript.proofs.Acting.{IsActionOf, action-is}
+use Rattle.osforms.specs.{Action.is_action, Operation.has_masks, Operation.op_meant}
+use Rattle.osforms.proofs.{ActionTexts.meant_action, ActionTexts.action-formed, Known.formed-known}
+use Rattle.osshape.specs.Declarations.{id_of, place_of}
+use Rattle.oscheck.specs.Words.{AlarmText, CoreId, CoreText, Declaration, IsrText, ObjectKind, Op, PointText, RemoteCall, TableText, TaskText}
+use Rattle.oscheck.specs.{declared.verdicts.Verdict.Verdict, Action.is_action_known, Action.is_action_masked, Operation.is_operation_known}
 use Rattle.oscheck.specs.Check.{alarm_modes, is_core_mode_known, is_mode_known, is_point_known, is_table_acting, is_table_masked, table_modes}
 use Rattle.oscheck.specs.Verdict.{action_verdict, alarm_verdict, core_verdict, each, isr_verdict, point_verdict, table_verdict, task_verdict}
-use Rattle.osforms.specs.Action.{is_action}
-use Rattle.osshape.specs.Declarations.{id_of, place_of}
+use Rattle.osdraft.proofs.Loops.{there}
 
 abbrev pub is_right : Verdict → Bool
 is_right v = v.known && v.masked && v.formed
@@ -21,11 +25,11 @@ of-each f xs h = sym (each-right f xs) ∙ h
 -- ---- its parts. Each is of tests that are given, whatever they are.
 
 pub three-parts : (a b c : Bool) → (a && b && c) ≡ true → (a ≡ true) × (b ≡ true) × (c ≡ true)
-three-parts a b c h = (grind arith, grind arith, grind arith)
+three-parts a b c h = grind arith
 
 -- Of an alarm, or of a table, its counter, its action or its points, and its modes,
 acting-parts : (counter known modes masked formed : Bool) → ((counter && known && modes) && masked && formed) ≡ true → (counter ≡ true) × ((known && masked && formed) ≡ true) × (modes ≡ true)
-acting-parts counter known modes masked formed h = (grind arith, grind arith, grind arith)
+acting-parts counter known modes masked formed h = grind arith
 
 pub acting-right : (counter known modes masked formed : Bool) → counter ≡ true → (known && masked && formed) ≡ true → modes ≡ true → ((counter && known && modes) && masked && formed) ≡ true
 acting-right counter known modes masked formed c right m = grind arith
@@ -56,3 +60,21 @@ core-right objects core h = record {
   alarms = of-each (alarm_verdict objects (id_of core)) core.alarms (grind arith);
   tables = of-each (table_verdict objects (id_of core)) core.tables (grind arith);
 }
+
+-- ---- an action that is right means an operation that is one
+
+pub record Acting (objects : List Declaration) (text : List ℕ) : Type 0 where
+  pub op : Op
+  pub call : RemoteCall
+  pub meant : op_meant (place_of objects) text ≡ Some op
+  pub acts : action_of_op op ≡ Some call
+  pub is : IsActionOf op call
+  pub masked : has_masks text ≡ true
+
+pub acting : (objects : List Declaration) (text : List ℕ) → is_right (action_verdict objects text) ≡ true → Acting objects text
+acting objects text right =
+    let parts = three-parts (is_action_known objects text) (is_action_masked text) (is_action text) right in
+    let known : is_operation_known objects text ≡ true = ap (λ f. not f || is_operation_known objects text) (sym parts.2) ∙ parts.0 in
+    let op = there (op_meant (place_of objects) text) (sym (formed-known (place_of objects) text (action-formed text parts.2)) ∙ known) in
+    let call = there (action_of_op op.0) (meant_action (place_of objects) text op.0 op.1 ∙ parts.2) in
+    record { op = op.0; call = call.0; meant = op.1; acts = call.1; is = action-is op.0 call.0 call.1; masked = ap (λ f. not f || has_masks text) (sym parts.2) ∙ parts.1 }

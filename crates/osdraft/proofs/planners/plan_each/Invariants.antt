@@ -1,6 +1,11 @@
-use Rattle.std.proofs.Common.{drop}
-use Rattle.osdraft.proofs.Loops.{SoFar}
+use Rattle.std.proofs.Common.{◌≡◌, true, map, take}
+use Rattle.std.specs.List.{list_all}
+use Rattle.oscheck.specs.Verdict.{each}
 use Rattle.osdraft.proofs.planners.plan_each.Given as goal
 
 abbrev pub invariant-loop-text : goal.invariant-loop-text
-invariant-loop-text g l = SoFar (g.P.Planner.made l.planner) (g.P.Planner.right l.planner) (g.P.Planner.is_short l.planner) l.texts (drop l.text-index l.texts) l.plans l.verdict
+invariant-loop-text g l = record {
+  shorts : list_all (g.P.Planner.is_short l.planner) (take l.text-index l.texts) ≡ true;
+  made : l.plans ≡ map (g.P.Planner.made l.planner) (take l.text-index l.texts);
+  right : l.verdict ≡ each (g.P.Planner.right l.planner) (take l.text-index l.texts);
+}

@@ -1,21 +1,13 @@
-use Rattle.std.proofs.Common.{◌&&◌, ◌∙◌, refl, ap}
-use Rattle.std.specs.List.{list_all}
-use Rattle.std.proofs.{lemmas.Bool.and_from, lemmas.Bool.and_right, lemmas.Result.err_from_is_err_and}
-use Rattle.oscheck.specs.{Check.is_script_short, Words.IsrText}
+use Rattle.std.proofs.Common.{◌∙◌, refl, arith}
+use Rattle.std.proofs.lemmas.{Bool.and_from, Grind.common_steps}
 use Rattle.oscheck.proofs.Counting.{core_shorts}
-use Rattle.osdraft.proofs.Loops.{if_long}
 use Rattle.osdraft.proofs.plans.TextPlannerPlannerCoreTextCore.plan.Goals as goal
 
 pub returns-in_err-tasks : goal.returns-in_err-tasks
-returns-in_err-tasks c =
-    let p = err_from_is_err_and c.from_residual.result c.from_residual.ensures.1 in
-    let core = c.args.core.now in
-    rw (p.1, p.2) (if_long (λ long. core_shorts core ∙ ap (λ b. b && list_all (λ (isr : IsrText). is_script_short isr.script) core.isrs) long) (rw c.as_slice.ensures at c.in_err-tasks.ensures))
+returns-in_err-tasks c = grind (arith, common_steps, core_shorts c.args.core.now)
 
 pub returns-in_err-isrs : goal.returns-in_err-isrs
-returns-in_err-isrs c =
-    let p = err_from_is_err_and c.from_residual-in_err-isrs.result c.from_residual-in_err-isrs.ensures.1 in
-    rw (p.1, p.2) (if_long (λ long. core_shorts c.args.core.now ∙ and_right _ _ long) (rw c.as_slice-2.ensures at c.in_err-isrs.ensures))
+returns-in_err-isrs c = grind (arith, common_steps, core_shorts c.args.core.now)
 
 pub returns : goal.returns
 returns c =
