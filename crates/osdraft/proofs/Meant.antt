@@ -11,7 +11,7 @@ use Rattle.osforms.proofs.{Alike.named-same, Operations.meant-in-form, Operation
 use Rattle.osplan.specs.Expressible as said
 use Rattle.osplan.specs.Limits as limits
 use Rattle.osplan.specs.Objects as plans
-use Rattle.osplan.specs.Limits.{CoreSizes, CounterSizes, IsrSizes, PointSizes, Sizes, StartSizes, TableSizes, TaskSizes, are_numbers_distinct, has_number, is_alarm_within, is_between, is_ceiling, is_core_within, is_counter_within, is_isr_within, is_start, is_start_within, is_table_start_within, is_table_timed, is_table_within, is_task_within, is_within, last_offset, number_of, same_number}
+use Rattle.osplan.specs.Limits.{CoreSizes, PointSizes, Sizes, TableSizes, are_numbers_distinct, has_number, is_alarm_within, is_between, is_ceiling, is_core_within, is_counter_within, is_isr_within, is_start, is_table_start_within, is_table_timed, is_table_within, is_task_within, is_within, last_offset, number_of, same_number}
 use Rattle.osplan.specs.declared.faults.ConfFault.TheVariants.{Limit, DuplicateName, UnknownName, WrongCore, SpinOrder, BadMask, BadTable, BadScript}
 use Rattle.osplan.specs.{Expressible.are_distinct, Expressible.dont_care, Fault.failing, Objects.greatest_of, Objects.names_in, Objects.table_actions, Spinlocks.are_links_ordered, View.core_of, View.counter_in}
 use Rattle.osplan.proofs.{EveryKind.every-common, EveryKind.every-kind, Found.IsFound, Found.each-found, ModeObjects.mode-there, ModeObjects.nobody, Scripts.all_scripts, SpinlockObjects.spinlock-there, SpinlockObjects.stays, Tests.all-both, Tests.all-flat, Tests.any-find, Tests.any-mapped}
@@ -26,7 +26,7 @@ use Rattle.oscheck.specs.Verdict.{action_verdict, alarm_verdict, core_verdict, p
 use Rattle.oscheck.specs.{Action.action_of, Operation.is_operation, Operation.op_of, Operation.operations_of, Posted.greatest_posted, Posted.is_posting, Posted.posted_at, Posted.posted_at_once}
 use Rattle.oscheck.proofs.{Numbers.offsets-low, Operations.stays-alike}
 use Rattle.osdraft.specs.Meaning.{alarm_plan, core_mode, core_plan, counter_plan, isr_plan, plan_of, point_plan, resource_plan, spinlock_plan, table_plan, table_start_plan, task_plan}
-use Rattle.osdraft.proofs.Found.{HasCounters, IsByte, IsWord, NamedCounter, bytes-equal, cores-inside, each-core, is-byte, is-word, is_inside, named-counter, numbers-kept, place-known}
+use Rattle.osdraft.proofs.Found.{HasCounters, NamedCounter, bytes-equal, cores-inside, each-core, is-byte, is_inside, named-counter, numbers-kept, place-known}
 use Rattle.osdraft.proofs.{Loops.always, Loops.or-else, Loops.there, Right.acting, Right.alarm-parts, Right.core-right, Right.is_right, Right.of-each, Right.table-parts, Right.three-parts}
 
 -- ---- sums
@@ -71,29 +71,8 @@ module _ (objects : List Declaration) (apart : are_distinct (names_of objects) �
         sum-same (greatest_posted objects (id_of core)) (plans.greatest_posted planned) (table_plan objects (id_of core)) (λ (table : TableText). is_right (table_verdict objects (id_of core) table)) table-same core.tables right.tables,
       ) refl
 
--- ---- numbers within their limits are bytes, or words of 32 bits
+-- ---- what the limits say of a schedule table and its points
 
-pub task-bytes : (s : TaskSizes) → is_task_within s ≡ true → IsByte s.priority × IsByte s.activations × IsWord s.budget
-task-bytes s h = grind (arith, nat_tests)
-
-pub isr-bytes : (s : IsrSizes) → is_isr_within s ≡ true → IsByte s.level × IsWord s.budget
-isr-bytes s h = grind (arith, nat_tests)
-
-pub counter-words : (s : CounterSizes) → is_counter_within s ≡ true → IsWord s.max × IsWord s.min
-counter-words s h = grind (arith, nat_tests)
-
--- of an automatic alarm, by the sizes of its counter
-pub start-words : (s : StartSizes) (counter : CounterSizes) → s.counter ≡ Some counter → is_start_within s ≡ true → is_counter_within counter ≡ true → IsWord s.start × IsWord s.cycle
-start-words s counter is h within = grind (arith, nat_tests)
-
--- and of an automatic schedule table
-pub table-start-word : (s : TableSizes) (counter : CounterSizes) (offset : Option ℕ) → s.counter ≡ Some counter → is_counter_within counter ≡ true → is_table_start_within s offset ≡ true → IsWord offset
-table-start-word s counter offset is within h = grind (arith, nat_tests)
-
-pub cap-byte : (s : Sizes) → is_within s ≡ true → IsByte s.cap
-cap-byte s h = is-byte 1 16 s.cap (grind arith) (omega arith)
-
--- of a schedule table and its points
 pub record TableLimits (s : TableSizes) : Type 0 where
   pub duration : is_between 1 1000000000 s.duration ≡ true
   pub offsets : list_all (λ (point : PointSizes). is_between 0 1000000000 point.offset) s.points ≡ true
@@ -118,13 +97,12 @@ table-sized : (plan : Plan) (objects : List Declaration) (id : CoreId) (table : 
 table-sized plan objects id table counter limit =
     let auto : option_map (λ (auto : TableStart). Some auto.offset) (option_map (table_start_plan objects) table.auto) ≡ option_map (λ (auto : TableStartText). auto.offset) table.auto = grind (arith, nat_tests) in
     rw (
-      is-word 1 1000000000 table.duration limit.duration (omega arith),
       sizes-same limits.point_sizes (point_plan objects) point_sizes (λ _. true) (λ (point : PointSizes). is_between 0 1000000000 point.offset)
-          (λ point _ within. rw (is-word 0 1000000000 point.offset within (omega arith), length-map point.actions (action_of objects)) refl) table.points (always table.points) limit.offsets,
+          (λ point _ within. rw (length-map point.actions (action_of objects)) (grind (arith, nat_tests))) table.points (always table.points) limit.offsets,
       auto,
       counter.planned,
       counter.declared,
-    ) refl
+    ) (grind (arith, nat_tests, limit.duration))
 
 -- ---- the scripts, the alarms and the tables of a text's plan stay on their cores as the text's do
 
@@ -217,7 +195,7 @@ module _ (t : ConfigText) (passes : Faultless t) where
 
   counters-numbers : (core : CoreText) → is_inside objects core ≡ true → map limits.counter_sizes (map counter_plan core.counters) ≡ map counter_sizes core.counters
   counters-numbers core h =
-      sizes-same limits.counter_sizes counter_plan counter_sizes (λ _. true) is_counter_within (λ counter _ within. let words = counter-words (counter_sizes counter) within in rw (words.0, words.1) refl) core.counters (always core.counters) (grind arith)
+      sizes-same limits.counter_sizes counter_plan counter_sizes (λ _. true) is_counter_within (λ counter _ within. grind (arith, nat_tests)) core.counters (always core.counters) (grind arith)
 
   named : (id : CoreId) (name : List ℕ) → is_some (place_of objects ObjectKind.Counter name) ≡ true → NamedCounter plan objects id name
   named id name known =
@@ -241,9 +219,9 @@ module _ (t : ConfigText) (passes : Faultless t) where
       rw (
         is-byte 0 7 core.id (grind arith) (omega arith),
         map-back number_of number_id is_start (λ n low. is-byte _ _ n low (omega arith)) core.start (grind arith),
-        sizes-same limits.task_sizes (task_plan objects) task_sizes (λ _. true) is_task_within (λ task _ within. let bytes = task-bytes (task_sizes task) within in rw (bytes.0, bytes.1, bytes.2) refl) core.tasks (always core.tasks) (grind arith),
-        sizes-same limits.isr_sizes (isr_plan objects) isr_sizes (λ _. true) is_isr_within (λ isr _ within. let bytes = isr-bytes (isr_sizes isr) within in rw (bytes.0, bytes.1) refl) core.isrs (always core.isrs) (grind arith),
-        sizes-same limits.ceiling_of resource_plan (λ (resource : ResourceText). resource.ceiling) (λ _. true) is_ceiling (λ resource _ within. is-byte 0 31 resource.ceiling within (omega arith)) core.resources (always core.resources) (grind arith),
+        sizes-same limits.task_sizes (task_plan objects) task_sizes (λ _. true) is_task_within (λ task _ within. grind (arith, nat_tests)) core.tasks (always core.tasks) (grind arith),
+        sizes-same limits.isr_sizes (isr_plan objects) isr_sizes (λ _. true) is_isr_within (λ isr _ within. grind (arith, nat_tests)) core.isrs (always core.isrs) (grind arith),
+        sizes-same limits.ceiling_of resource_plan (λ (resource : ResourceText). resource.ceiling) (λ _. true) is_ceiling (λ resource _ within. grind (arith, nat_tests)) core.resources (always core.resources) (grind arith),
         counters-numbers core inside,
         sizes-same (limits.alarm_sizes (counter_in plan)) (alarm_plan objects id) (alarm_sizes objects) (λ alarm. is_right (alarm_verdict objects id alarm)) is_alarm_within
             (λ alarm right within. alarm-sized plan objects id alarm (named id alarm.counter (alarm-parts objects id alarm right).0) within) core.alarms right.alarms (grind arith),
@@ -257,7 +235,7 @@ module _ (t : ConfigText) (passes : Faultless t) where
       let inside = and_parts _ (list_all is_core_within (sizes_of t).cores) passes.within in
       let sound = all-both is_core_within (λ (s : CoreSizes). list_all is_table_timed s.tables) (sizes_of t).cores inside.1 (simp list_all-map passes.timed) in
       let cores = sizes-same (limits.core_sizes plan) (core_plan objects) (core_sizes objects) _ (λ (s : CoreSizes). is_core_within s && list_all is_table_timed s.tables) core-numbers t.cores passes.right sound in
-      rw (cap-byte (sizes_of t) passes.within, length-map t.spinlocks (spinlock_plan objects), cores) refl
+      rw (length-map t.spinlocks (spinlock_plan objects), cores) (grind (arith, nat_tests, passes.within))
 
   within : is_within (limits.sizes_of plan) ≡ true
   within = ap is_within plan-numbers ∙ passes.within

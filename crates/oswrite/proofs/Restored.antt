@@ -24,10 +24,11 @@ use Rattle.oscheck.specs.{Action.action_of, Action.any_action, Operation.is_oper
 use Rattle.oscheck.specs.Check.{core_scripts, counter_sizes, start_sizes, alarm_sizes, table_sizes, core_sizes, sizes_of, numbers_of, is_text_within, is_unreserved, is_each_once, is_core_mode_known, is_mode_known, is_spinlock_known, are_known, are_near, are_ordered, are_timed, tests_of}
 use Rattle.oscheck.specs.Verdict.{action_verdict, alarm_verdict, core_verdict, each as each_verdict, isr_verdict, op_verdict, point_verdict, script_verdict, table_verdict, task_verdict}
 use Rattle.osdraft.specs.Meaning.{core_mode, task_plan, isr_plan, resource_plan, counter_plan, start_plan, alarm_plan, point_plan, spinlock_plan, table_start_plan, table_plan, core_plan, plan_of, config_of, config_of_shape}
-use Rattle.osdraft.proofs.Found.{IsByte, byte-small, is-byte, is-word, HasCounters, named-counter}
+use Rattle.osdraft.proofs.Found.{IsByte, byte-small, is-byte, HasCounters, named-counter}
 use Rattle.osdraft.proofs.Right.{three-parts, acting-right, each-right, is_right}
-use Rattle.osdraft.proofs.Meant.{near_kept, table-limits, cap-byte, counter-words, isr-bytes, posted-same, start-words, table-start-word, task-bytes}
+use Rattle.osdraft.proofs.Meant.{near_kept, table-limits, posted-same}
 use Rattle.oswrite.specs.Writing.{core_mode_word, name_data, id_data, list_data, mode_data, task_data, isr_data, resource_data, counter_data, start_data, or_null_data, alarm_data, action_data, point_data, spinlock_data, spinlock_name_data, table_start_data, table_data, core_data, config_data, op_text, script_text}
+use Rattle.std.proofs.lemmas.Bool.Decides.{nat_tests}
 use Rattle.oswrite.proofs.{Placed.object-named, Placed.apart, Joining.parts-pieces}
 use Rattle.oswrite.proofs.Said.{task_said, isr_said, resource_said, counter_said, start_said, counter_name, action_said, alarm_said, point_said, spinlock_said, table_start_said, table_said, core_said, config_said}
 
@@ -199,12 +200,11 @@ module _ (plan : Plan) (inside : IsTrue (limits.is_within_limits plan)) (sayable
   unfolding task_shape
   task-back id task within known modes says =
       let tests = and_parts (is_name task.name) (said.is_script_expressible task.script) says in
-      let bytes = task-bytes (limits.task_sizes task) within in
       let auto = modes-back task.auto modes in
       let script = script-back id task.script known tests.1 in
       record {
         shaped = rw (tests.0, auto.shaped) refl;
-        meant = rw (inside-some bytes.0, inside-some bytes.1, inside-some bytes.2, auto.meant, script.meant) refl;
+        meant = rw (auto.meant, script.meant) (grind (arith, nat_tests));
         passed = grind (arith, auto.passed, script.passed);
       }
 
@@ -213,17 +213,16 @@ module _ (plan : Plan) (inside : IsTrue (limits.is_within_limits plan)) (sayable
   unfolding isr_shape
   isr-back id isr within known says =
       let tests = three-parts (is_name isr.name) (said.is_script_expressible isr.script) (said.is_free_of_resources isr.script) says in
-      let bytes = isr-bytes (limits.isr_sizes isr) within in
       let script = script-back id isr.script known tests.1 in
-      record { shaped = rw tests.0 refl; meant = rw (inside-some bytes.0, inside-some bytes.1, script.meant) refl; passed = grind (arith, script.passed, ap said.is_free_of_resources script.meant ∙ tests.2) }
+      record { shaped = rw tests.0 refl; meant = rw script.meant (grind (arith, nat_tests)); passed = grind (arith, script.passed, ap said.is_free_of_resources script.meant ∙ tests.2) }
 
   resource-back : (resource : Resource) → limits.is_ceiling (limits.ceiling_of resource) ≡ true → said.is_resource_expressible resource ≡ true → Back resource_data resource_said resource_shape resource_plan (λ _. true) resource
   unfolding resource_shape
-  resource-back resource within says = record { shaped = rw says refl; meant = rw (inside-some (is-byte 0 31 (limits.ceiling_of resource) within (omega arith))) refl; passed = refl }
+  resource-back resource within says = record { shaped = rw says refl; meant = grind (arith, nat_tests); passed = refl }
 
   counter-back : (counter : Counter) → limits.is_counter_within (limits.counter_sizes counter) ≡ true → said.is_counter_expressible counter ≡ true → Back counter_data counter_said counter_shape counter_plan (λ _. true) counter
   unfolding counter_shape
-  counter-back counter within says = let words = counter-words (limits.counter_sizes counter) within in record { shaped = rw says refl; meant = rw (inside-some words.0, inside-some words.1) refl; passed = refl }
+  counter-back counter within says = record { shaped = rw says refl; meant = grind (arith, nat_tests); passed = refl }
 
   -- How an alarm is set by itself, and how a table is started, where they are.
   start-back : (sizes : Option CounterSizes) (counter : CounterSizes) (auto : Option AlarmStart) → sizes ≡ Some counter → limits.is_counter_within counter ≡ true
@@ -232,9 +231,8 @@ module _ (plan : Plan) (inside : IsTrue (limits.is_within_limits plan)) (sayable
   unfolding alarm_start_shape
   start-back sizes counter None is fits within known = record { shaped = refl; meant = refl; passed = refl }
   start-back sizes counter (Some auto) is fits within known =
-      let words = start-words (limits.start_sizes sizes auto) counter is within fits in
       let modes = modes-back auto.modes known in
-      record { shaped = rw modes.shaped refl; meant = rw (inside-some words.0, inside-some words.1, modes.meant) refl; passed = modes.passed }
+      record { shaped = rw modes.shaped refl; meant = rw modes.meant (grind (arith, nat_tests)); passed = modes.passed }
 
   table-start-back : (s : TableSizes) (counter : CounterSizes) (auto : Option TableStart) → s.counter ≡ Some counter → limits.is_counter_within counter ≡ true
       → option_map_or (is_table_start_within s) (option_map (λ (auto : TableStart). Some auto.offset) auto) true ≡ true → list_all (limits.is_mode plan) (option_map_or (λ (auto : TableStart). auto.modes) auto []) ≡ true
@@ -243,7 +241,7 @@ module _ (plan : Plan) (inside : IsTrue (limits.is_within_limits plan)) (sayable
   table-start-back s counter None is fits within known = record { shaped = refl; meant = refl; passed = refl }
   table-start-back s counter (Some auto) is fits within known =
       let modes = modes-back auto.modes known in
-      record { shaped = rw modes.shaped refl; meant = rw (inside-some (table-start-word s counter (Some auto.offset) is fits within), modes.meant) refl; passed = modes.passed }
+      record { shaped = rw modes.shaped refl; meant = rw modes.meant (grind (arith, nat_tests)); passed = modes.passed }
 
   alarm-known : (alarm : Alarm) → limits.is_alarm_known plan alarm ≡ true → (limits.is_object plan (counter_object alarm.counter) ≡ true) × (limits.is_action_known plan alarm.action ≡ true) × (list_all (limits.is_mode plan) (plans.alarm_modes alarm) ≡ true)
   alarm-known alarm = three-parts _ _ _
@@ -268,7 +266,7 @@ module _ (plan : Plan) (inside : IsTrue (limits.is_within_limits plan)) (sayable
   unfolding point_shape
   point-back point within known says =
       let actions = backs point.actions (λ action here. action-back action (here _ known) (here _ says)) in
-      record { shaped = rw actions.shaped refl; meant = rw (inside-some (is-word 0 1000000000 (Some point.offset) within (omega arith)), actions.meant) refl; passed = each-right (action_verdict objects) (map (action_said plan) point.actions) ∙ actions.passed }
+      record { shaped = rw actions.shaped refl; meant = rw actions.meant (grind (arith, nat_tests)); passed = each-right (action_verdict objects) (map (action_said plan) point.actions) ∙ actions.passed }
 
   table-known : (table : Table) → limits.is_table_known plan table ≡ true → (limits.is_object plan (counter_object table.counter) ≡ true) × (list_all (limits.is_action_known plan) (plans.table_actions table) ≡ true) × (list_all (limits.is_mode plan) (plans.table_modes table) ≡ true)
   table-known table = three-parts _ _ _
@@ -288,7 +286,7 @@ module _ (plan : Plan) (inside : IsTrue (limits.is_within_limits plan)) (sayable
       let auto = table-start-back sizes counter.sizes table.auto counter.planned counter.within limit.start known.2 in
       record {
         shaped = rw (tests.0, counter.names.in_form, points.shaped, auto.shaped) refl;
-        meant = rw (counter.names.found, inside-some (is-word 1 1000000000 (Some table.duration) limit.duration (omega arith)), points.meant, auto.meant) refl;
+        meant = rw (counter.names.found, points.meant, auto.meant) (grind (arith, nat_tests, limit.duration));
         passed = acting-right _ _ _ _ _ (ap is_some counter.names.found) (each-right (point_verdict objects) (map (point_said plan) table.points) ∙ points.passed) auto.passed;
       }
 
@@ -379,7 +377,7 @@ module _ (plan : Plan) (inside : IsTrue (limits.is_within_limits plan)) (sayable
   plan-back : plan_of (config_said plan) ≡ plan
   plan-back =
       let master : plan.master.number < 16 = master-low plan inside in
-      rw (inside-some (cap-byte (limits.sizes_of plan) bounds.sizes), id-back plan.master (ap Some (byte-small plan.master.number (omega arith))), spinlocks-back.meant, cores-back.meant) refl
+      rw (id-back plan.master (ap Some (byte-small plan.master.number (omega arith))), spinlocks-back.meant, cores-back.meant) (grind (arith, nat_tests, bounds.sizes))
 
   faultless : failing (tests_of (config_said plan)) ≡ []
   faultless =
