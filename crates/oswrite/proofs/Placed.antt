@@ -86,8 +86,9 @@ module _ (plan : Plan) (inside : IsTrue (is_within_limits plan)) (sayable : IsTr
   apart = ap are_distinct (sym (names-said plan)) ∙ (text-parts plan sayable).names
 
   -- The name of one of so many objects of a kind, which have these names and all stand in the text.
-  named-by : (object : Object) (id : CoreId) (names : List (List ℕ)) (objects : List Named) → id ≡ object.place.core → name_of plan object.kind object.place ≡ unwrap_or (slice_get names object.place.index) [] → names ≡ map (λ (o : Named). o.name) objects → list_all is_name names ≡ true
-      → object.place.index < length names → object.place.index ≤ 255 → ((o : Named) → slice_get objects object.place.index ≡ Some o → Contains declared (declaration id object.kind (object.place.index, o))) → IsNamed (place_of declared) (name_of plan) object
+  named-by : (object : Object) (id : CoreId) (names : List (List ℕ)) (objects : List Named) → id ≡ object.place.core → name_of plan object.kind object.place ≡ unwrap_or (slice_get names object.place.index) []
+      → names ≡ map (λ (o : Named). o.name) objects → list_all is_name names ≡ true → object.place.index < length names → object.place.index ≤ 255
+      → ((o : Named) → slice_get objects object.place.index ≡ Some o → Contains declared (declaration id object.kind (object.place.index, o))) → IsNamed (place_of declared) (name_of plan) object
   named-by object id names objects on is named formed within low stands =
       let i = object.place.index in
       let o = get_or objects i (unnumbered []) in
@@ -100,7 +101,9 @@ module _ (plan : Plan) (inside : IsTrue (is_within_limits plan)) (sayable : IsTr
       }
 
   common-fits : (kind : ObjectKind) → (list_all is_name (common_names kind plan) ≡ true) × (length (common_names kind plan) ≤ 255)
-  common-fits ObjectKind.Mode = let few = few-modes (sizes_of plan) (limit-parts plan inside).sizes in (all-weaker is_mode_expressible is_name (λ name h. (and_parts (is_name name) _ h).0) plan.modes (text-parts plan sayable).modes, omega (arith, few))
+  common-fits ObjectKind.Mode =
+      let few = few-modes (sizes_of plan) (limit-parts plan inside).sizes in
+      (all-weaker is_mode_expressible is_name (λ name h. (and_parts (is_name name) _ h).0) plan.modes (text-parts plan sayable).modes, omega (arith, few))
   common-fits ObjectKind.Spinlock =
       let few = few-spinlocks (sizes_of plan) (limit-parts plan inside).sizes in
       let name = λ (spinlock : Spinlock). spinlock.name in
@@ -128,8 +131,8 @@ module _ (plan : Plan) (inside : IsTrue (is_within_limits plan)) (sayable : IsTr
       let fits = core-fits plan object.place.core core inside is in
       let within = ltb-true index (object_count kind core) known in
       let number = byte-small core.id.number (omega (arith, ltb-true core.id.number 16 fits.number)) ∙ eqb-true core.id.number object.place.core.number (find-holds test plan.cores core is) in
-      named-by object (id_of text) (names_in kind core) (objects_in kind text) (ap (λ (n : ℕ). let id : CoreId = record { number = n } in id) number) (rw is refl) (kind-named plan core kind) (names-formed core parts kind) (omega (arith, within, kind-many plan core kind))
-      (omega (arith, within, few-objects core fits kind, kind-many plan core kind))
+      named-by object (id_of text) (names_in kind core) (objects_in kind text) (ap (λ (n : ℕ). let id : CoreId = record { number = n } in id) number) (rw is refl) (kind-named plan core kind)
+      (names-formed core parts kind) (omega (arith, within, kind-many plan core kind)) (omega (arith, within, few-objects core fits kind, kind-many plan core kind))
       (λ o here. Contains-append_right (flat_map (common_of t) COMMON) (flat_map declared_by t.cores) _ (rw (flat_map-map declared_by (core_said plan) plan.cores)
       (flat-has (λ core. declared_by (core_said plan core)) plan.cores (position_or_len test plan.cores) core _ (sym (find_at test plan.cores) ∙ is) (core-has plan core kind index o here))))
 

@@ -51,7 +51,8 @@ later-in : {X : Type 0} (x : X) (xs : List X) (y : X) → In xs y → In (x ∷ 
 later-in x xs y here p all = here p (and_parts (p x) (list_all p xs) all).1
 
 -- A list is read back where each of its elements is,
-backs : {X Y : Type 0} {write : X → Data} {text_of : X → Y} {shape : Data → Option Y} {mean : Y → X} {test : Y → Bool} (xs : List X) → ((x : X) → In xs x → Back write text_of shape mean test x) → Back (list_data write) (map text_of) (each_of shape) (map mean) (list_all test) xs
+backs : {X Y : Type 0} {write : X → Data} {text_of : X → Y} {shape : Data → Option Y} {mean : Y → X} {test : Y → Bool} (xs : List X) → ((x : X) → In xs x → Back write text_of shape mean test x)
+    → Back (list_data write) (map text_of) (each_of shape) (map mean) (list_all test) xs
 backs [] back = record { shaped = refl; meant = refl; passed = refl }
 backs (x ∷ xs) back =
     let first = back x (first-in x xs) in
@@ -126,7 +127,8 @@ module _ (plan : Plan) (inside : IsTrue (limits.is_within_limits plan)) (sayable
   op-meant op known form masks = text-meant (place_of objects) (name_of plan) (limits.is_object plan) named op form masks known
 
   -- The text of an operation has no `;` besides.
-  op-back : (op : Op) → limits.is_op_known plan op ≡ true → is_in_form op ≡ true → has_masks op ≡ true → Back (λ op. string (op_text plan op)) (op_text plan) as_str (op_of objects) (λ text. is_right (op_verdict objects NOBODY text) && has_none 59 text) op
+  op-back : (op : Op) → limits.is_op_known plan op ≡ true → is_in_form op ≡ true → has_masks op ≡ true
+      → Back (λ op. string (op_text plan op)) (op_text plan) as_str (op_of objects) (λ text. is_right (op_verdict objects NOBODY text) && has_none 59 text) op
   op-back op known form masks =
       let text = op_text plan op in
       let e = op-meant op known form masks in
@@ -147,7 +149,8 @@ module _ (plan : Plan) (inside : IsTrue (limits.is_within_limits plan)) (sayable
       let right = three-parts (list_all (is_operation_known objects) texts) (list_all text_has_masks texts) (list_all is_operation texts) (each-right (op_verdict objects NOBODY) texts ∙ tests.0) in
       record { shaped = refl; meant = ap (map (op_of objects)) cut ∙ ops.meant; passed = rw cut (and_from _ _ (and_from _ _ right.0 right.1) (and_from _ _ right.2 (ap said.is_jumping_within ops.meant ∙ forms.2))) }
 
-  action-back : (action : RemoteCall) → limits.is_action_known plan action ≡ true → said.is_action_expressible action ≡ true → Back (action_data plan) (action_said plan) as_str (action_of objects) (λ text. is_right (action_verdict objects text)) action
+  action-back : (action : RemoteCall) → limits.is_action_known plan action ≡ true → said.is_action_expressible action ≡ true
+      → Back (action_data plan) (action_said plan) as_str (action_of objects) (λ text. is_right (action_verdict objects text)) action
   action-back action known says =
       let op = op_of_call action in
       let text = action_said plan action in
@@ -243,7 +246,8 @@ module _ (plan : Plan) (inside : IsTrue (limits.is_within_limits plan)) (sayable
       let modes = modes-back auto.modes known in
       record { shaped = rw modes.shaped refl; meant = rw modes.meant (grind (arith, nat_tests)); passed = modes.passed }
 
-  alarm-known : (alarm : Alarm) → limits.is_alarm_known plan alarm ≡ true → (limits.is_object plan (counter_object alarm.counter) ≡ true) × (limits.is_action_known plan alarm.action ≡ true) × (list_all (limits.is_mode plan) (plans.alarm_modes alarm) ≡ true)
+  alarm-known : (alarm : Alarm) → limits.is_alarm_known plan alarm ≡ true
+      → (limits.is_object plan (counter_object alarm.counter) ≡ true) × (limits.is_action_known plan alarm.action ≡ true) × (list_all (limits.is_mode plan) (plans.alarm_modes alarm) ≡ true)
   alarm-known alarm = three-parts _ _ _
 
   alarm-back : (id : CoreId) (alarm : Alarm) → is_alarm_within (limits.alarm_sizes (counter_in plan) alarm) ≡ true → limits.is_alarm_known plan alarm ≡ true → said.is_alarm_expressible alarm ≡ true
@@ -268,7 +272,8 @@ module _ (plan : Plan) (inside : IsTrue (limits.is_within_limits plan)) (sayable
       let actions = backs point.actions (λ action here. action-back action (here _ known) (here _ says)) in
       record { shaped = rw actions.shaped refl; meant = rw actions.meant (grind (arith, nat_tests)); passed = each-right (action_verdict objects) (map (action_said plan) point.actions) ∙ actions.passed }
 
-  table-known : (table : Table) → limits.is_table_known plan table ≡ true → (limits.is_object plan (counter_object table.counter) ≡ true) × (list_all (limits.is_action_known plan) (plans.table_actions table) ≡ true) × (list_all (limits.is_mode plan) (plans.table_modes table) ≡ true)
+  table-known : (table : Table) → limits.is_table_known plan table ≡ true
+      → (limits.is_object plan (counter_object table.counter) ≡ true) × (list_all (limits.is_action_known plan) (plans.table_actions table) ≡ true) × (list_all (limits.is_mode plan) (plans.table_modes table) ≡ true)
   table-known table = three-parts _ _ _
 
   table-back : (id : CoreId) (table : Table) → is_table_within (limits.table_sizes (counter_in plan) table) ≡ true → is_table_timed (limits.table_sizes (counter_in plan) table) ≡ true → limits.is_table_known plan table ≡ true → said.is_table_expressible table ≡ true
@@ -308,7 +313,8 @@ module _ (plan : Plan) (inside : IsTrue (limits.is_within_limits plan)) (sayable
       let scripts = and_parts (list_all (λ (task : Task). limits.is_script_known plan task.script) core.tasks) (list_all (λ (isr : Isr). limits.is_script_known plan isr.script) core.isrs) (sym (all_scripts (limits.is_script_known plan) core) ∙ known.1) in
       let texts = core-text-parts core (here _ parts.cores) in
       let mode = core-mode-back core.mode known.0 in
-      let start = backs {write = id_data} {text_of = number_of} {shape = whole_of} {mean = number_id} {test = λ _. true} core.start (λ id here. record { shaped = refl; meant = id-back id (is-byte 0 255 (number_of id) (here _ limit.1) (omega arith)); passed = refl }) in
+      let start = backs {write = id_data} {text_of = number_of} {shape = whole_of} {mean = number_id} {test = λ _. true} core.start
+      (λ id here. record { shaped = refl; meant = id-back id (is-byte 0 255 (number_of id) (here _ limit.1) (omega arith)); passed = refl }) in
       let tasks = backs core.tasks (λ task here. task-back id task (here _ limit.2) (here _ scripts.0) (here _ known.2) (here _ texts.tasks)) in
       let isrs = backs core.isrs (λ isr here. isr-back id isr (here _ limit.8) (here _ scripts.1) (here _ texts.isrs)) in
       let resources = backs core.resources (λ resource here. resource-back resource (here _ limit.3) (here _ texts.resources)) in
@@ -365,7 +371,9 @@ module _ (plan : Plan) (inside : IsTrue (limits.is_within_limits plan)) (sayable
 
   spinlocks-back : Back (list_data (spinlock_data plan)) (map (spinlock_said plan)) (each_of spinlock_shape) (map (spinlock_plan objects)) (list_all (is_spinlock_known objects)) plan.spinlocks
   unfolding spinlock_shape
-  spinlocks-back = backs plan.spinlocks (λ spinlock here. let next = next-back spinlock.next (here (limits.is_spinlock_known plan) bounds.linked) in record { shaped = rw (here said.is_spinlock_expressible parts.spinlocks, next.shaped) refl; meant = rw next.meant refl; passed = next.passed })
+  spinlocks-back = backs plan.spinlocks (λ spinlock here.
+      let next = next-back spinlock.next (here (limits.is_spinlock_known plan) bounds.linked) in
+      record { shaped = rw (here said.is_spinlock_expressible parts.spinlocks, next.shaped) refl; meant = rw next.meant refl; passed = next.passed })
 
   names-back : Back (list_data name_data) (map (λ name. name)) (each_of read_name) (map (λ name. name)) (list_all is_unreserved) plan.modes
   names-back = backs plan.modes (λ name here. let tests = and_parts (is_name name) (is_unreserved name) (here _ parts.modes) in record { shaped = rw tests.0 refl; meant = refl; passed = tests.1 })
