@@ -335,9 +335,9 @@ class Commands(unittest.TestCase):
         self.assertEqual((status, output), (1, "not met: all cores lost=0 (1)\n"))
 
     def test_wrong_usage(self):
-        status, output, messages = self.run_stats("--require", "T1 lost=0")
+        status, output, messages = self.run_stats("--require", "T1m lost=0")
         self.assertEqual((status, output), (2, ""))
-        self.assertIn("no task and no ISR is called `T1`; did you mean `T1ms`?", messages)
+        self.assertIn("no task and no ISR is called `T1m`; did you mean `T1ms`?", messages)
 
 
 @needs_program
