@@ -9,14 +9,17 @@ mod modes;
 mod names;
 mod numbers;
 mod operations;
-mod parts;
+mod read;
 mod resources;
 mod separate;
 mod spinlocks;
 mod tables;
 mod written;
 
-use crate::{ConfFault, Config, read_config, read_schedule, read_stimuli};
+use crate::{
+    ConfFault, Config, config_text, cut, is_separate, read_config, read_schedule, read_stimuli,
+};
+use osbase::CoreId;
 use std::alloc::Global;
 use std::process::Abort;
 use std::test::Fail;
@@ -25,10 +28,13 @@ use std::test::Fail;
 const TWO_CORES: &str =
     r#"{"cores":[{"id":0,"start":[1],"tasks":[{"name":"A","prio":1,"auto":["M"],"script":"ActivateTask B;TerminateTask"}]},{"id":1,"tasks":[{"name":"B","prio":1,"script":"TerminateTask"}]}]}"#;
 
-// What a text is read as. Stimuli and schedules are of `TWO_CORES`, interrupts are stimuli of `isrs::TWO_CORES`.
+// What a text is read as: a configuration, one that is written, or one of which the core of this number is cut out; stimuli or
+// a schedule of `TWO_CORES`; or stimuli of `isrs::TWO_CORES`.
 #[derive(Clone, Copy)]
 enum Reader {
     Configuration,
+    Written,
+    Alone(u8),
     Stimuli,
     Interrupts,
     Schedule,
@@ -80,7 +86,14 @@ fn repeated(alloc: Global, word: &str, between: &str, count: u32) -> Result<Stri
 
 fn fault_of(alloc: Global, reader: Reader, text: &str) -> Result<Option<ConfFault>, Fail> {
     match reader {
-        Reader::Configuration => Ok(read_config(alloc, text).err()),
+        Reader::Configuration | Reader::Written => Ok(read_config(alloc, text).err()),
+        Reader::Alone(number) => {
+            let config = read_config(alloc, text)?;
+            let core = CoreId { number };
+            let refused = cut(alloc, &config, core).err();
+            let is_told = is_separate(&config, core) == refused.is_none();
+            Ok(is_told.then_some(refused).ok_or("is_separate says so too")?)
+        }
         Reader::Stimuli => {
             let config = read_config(alloc, TWO_CORES)?;
             Ok(read_stimuli(alloc, &config, text).err())
@@ -96,9 +109,44 @@ fn fault_of(alloc: Global, reader: Reader, text: &str) -> Result<Option<ConfFaul
     }
 }
 
+// The configuration's text, which is read and written again as it stands.
+fn text_of(alloc: Global, config: &Config) -> Result<String, Fail> {
+    let text = config_text(alloc, config)?;
+    let again = config_text(alloc, &read_config(alloc, text.as_str())?)?;
+    let is_same = again.as_str() == text.as_str();
+    Ok(is_same.then_some(text).ok_or("the same text again")?)
+}
+
+// What is read, as it is printed for debugging; or the configuration's text.
+fn shown(alloc: Global, reader: Reader, text: &str) -> Result<String, Fail> {
+    match reader {
+        Reader::Configuration => {
+            Ok(format!(in alloc; "{:?}", read_config(alloc, text)?.plan())?)
+        }
+        Reader::Written => text_of(alloc, &read_config(alloc, text)?),
+        Reader::Alone(number) => {
+            let config = read_config(alloc, text)?;
+            text_of(alloc, &cut(alloc, &config, CoreId { number })?)
+        }
+        Reader::Stimuli => {
+            let config = read_config(alloc, TWO_CORES)?;
+            Ok(format!(in alloc; "{:?}", read_stimuli(alloc, &config, text)?.as_slice())?)
+        }
+        Reader::Interrupts => {
+            let config = configured(alloc, isrs::TWO_CORES, "")?;
+            Ok(format!(in alloc; "{:?}", read_stimuli(alloc, &config, text)?.as_slice())?)
+        }
+        Reader::Schedule => {
+            let config = read_config(alloc, TWO_CORES)?;
+            Ok(format!(in alloc; "{:?}", read_schedule(alloc, &config, text)?.as_slice())?)
+        }
+    }
+}
+
 // Plays a table, and counts its cases. Its lines are, in this order for each group of texts:
 // `text T|T|..`: texts with an `@`; those of neighbouring lines are one group. Without any the frame is the text.
 // `each [B] W`: behind this line a value is a count, and stands for so many words W with B between them.
+// `is R`: each text of the group, which has no `@` then, is read as R, or as it stands where there is no R.
 // `F V|V|..`: each text of the group with each of the values in place of its `@` has the fault F, or none if F is `fine`.
 // A line that is empty or begins with `//` says nothing.
 fn play(
@@ -127,6 +175,11 @@ fn play(
                 }
             }
             "each" => each = Some(word_of(rest)?),
+            "is" => {
+                judged = true;
+                compare(rt, alloc, reader, texts.as_slice(), rest)?;
+                cases = cases.saturating_add(texts.len());
+            }
             fault => {
                 judged = true;
                 for value in rest.split('|') {
@@ -154,6 +207,22 @@ fn worded(alloc: Global, each: Option<(&str, &str)>, value: &str) -> Result<Stri
     };
     let count = value.parse::<u32>().ok().ok_or("a count")?;
     listed(alloc, word, between, count)
+}
+
+// Each of the texts is read as this, or as it stands.
+fn compare(
+    rt: &impl Abort,
+    alloc: Global,
+    reader: Reader,
+    texts: &[String],
+    read: &str,
+) -> Result<(), Fail> {
+    for text in texts {
+        let shown = shown(alloc, reader, text.as_str())?;
+        let read = if read.is_empty() { text.as_str() } else { read };
+        assert!(rt; shown.as_str() == read, "{text} {shown}");
+    }
+    Ok(())
 }
 
 // Each of the texts with the value has the fault.
@@ -319,4 +388,47 @@ fn texts_that_are_no_stimuli_or_schedules(rt: HostRuntime) -> Result<(), Fail> {
         (Reader::Schedule, "@", given::NO_SCHEDULES),
     ];
     play_all(&rt, rt.alloc(), tables, 162)
+}
+
+#[test]
+fn texts_that_are_read(rt: HostRuntime) -> Result<(), Fail> {
+    let tables: &[Table] = &[
+        (Reader::Configuration, "@", read::PLANS),
+        (Reader::Stimuli, "@", read::STIMULI),
+        (Reader::Interrupts, "@", read::INTERRUPTS),
+        (Reader::Schedule, "@", read::SCHEDULES),
+    ];
+    play_all(&rt, rt.alloc(), tables, 29)
+}
+
+#[test]
+fn texts_that_are_written(rt: HostRuntime) -> Result<(), Fail> {
+    let tables: &[Table] = &[
+        (Reader::Written, "@", written::WRITTEN),
+        (Reader::Written, "@", written::SAME),
+        (Reader::Alone(0), "@", written::LONE),
+        (Reader::Alone(1), "@", written::SECOND),
+        (Reader::Alone(2), "@", written::THIRD),
+    ];
+    play_all(&rt, rt.alloc(), tables, 15)
+}
+
+#[test]
+fn separate_and_bound_cores(rt: HostRuntime) -> Result<(), Fail> {
+    let tables: &[Table] = &[
+        (Reader::Alone(0), "@", separate::FIRST),
+        (Reader::Alone(0), events::TWO_CORES, separate::EVENTS),
+        (Reader::Alone(0), counters::TWO_CORES, separate::COUNTERS),
+        (Reader::Alone(0), alarms::TWO_CORES, separate::ALARMS),
+        (Reader::Alone(0), alarms::ACTION, separate::ACTIONS),
+        (Reader::Alone(0), isrs::TWO_CORES, separate::ISRS),
+        (Reader::Alone(0), spinlocks::TWO_TASKS, separate::SPINLOCKS),
+        (Reader::Alone(0), tables::TABLE, separate::TABLES),
+        (Reader::Alone(1), "@", separate::SECOND),
+        (Reader::Alone(2), "@", separate::THIRD),
+        (Reader::Alone(3), "@", separate::FOURTH),
+        (Reader::Alone(5), "@", separate::SIXTH),
+        (Reader::Alone(9), "@", separate::FOURTH),
+    ];
+    play_all(&rt, rt.alloc(), tables, 48)
 }

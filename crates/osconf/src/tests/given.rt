@@ -1,12 +1,5 @@
 //! Stimuli and schedules.
 
-use super::TWO_CORES;
-use crate::{read_config, read_schedule, read_stimuli};
-use osbase::Choice::{Look, Own, Serve};
-use osbase::Stimulus::{Op, Tick};
-use osbase::{CoreId, Stimulus, Turn};
-use std::test::Fail;
-
 pub(super) const NO_STIMULI: &str = r#"
 // Words that are no stimuli.
 text {"1":"op","0":"@"}
@@ -103,61 +96,3 @@ text ["0o @"]
 each [ ] 1l
 BadSchedule 1000000
 "#;
-
-// A text, how many cores it names, and the stimuli of the first of them.
-const STIMULI: &[(&str, usize, &[Stimulus])] = &[
-    ("{}", 0, &[]),
-    (" { } ", 0, &[]),
-    (r#"{"0":""}"#, 1, &[]),
-    (r#"{"1":"op"}"#, 1, &[Op]),
-    (r#"{"1":"op","0":"op op op"}"#, 2, &[Op, Op, Op]),
-    (r#"{"0":"op op","1":""}"#, 2, &[Op, Op]),
-    (r#"{"0":"op op","1":"op"}"#, 2, &[Op, Op]),
-    (r#"{"1":"tick"}"#, 1, &[Tick]),
-    (
-        r#"{"0":"tick op tick tick op"}"#,
-        1,
-        &[Tick, Op, Tick, Tick, Op],
-    ),
-    // They are in their order.
-    (r#"{"0":"op tick tick"}"#, 1, &[Op, Tick, Tick]),
-    (r#"{"0":"tick op tick"}"#, 1, &[Tick, Op, Tick]),
-    (r#"{"0":"tick tick op"}"#, 1, &[Tick, Tick, Op]),
-    // Of a member that stands twice the last value counts.
-    (r#"{"0":"op","0":"op op"}"#, 1, &[Op, Op]),
-    (r#"{"0":"nonsense","\u0030":"op"}"#, 1, &[Op]),
-    (r#"{"0":1,"0":"o\u0070\u0020op"}"#, 1, &[Op, Op]),
-];
-
-const FIRST: CoreId = CoreId { number: 0 };
-
-const SECOND: CoreId = CoreId { number: 1 };
-
-const SCHEDULES: &[(&str, &[Turn])] = &[
-    (r#""""#, &[]),
-    (r#" "1s0" "#, &[(SECOND, Serve(FIRST))]),
-    (r#""0o 0o 0o""#, &[(FIRST, Own), (FIRST, Own), (FIRST, Own)]),
-    (r#""0\u006f\u00201l""#, &[(FIRST, Own), (SECOND, Look)]),
-    (
-        r#""0o 1l 1s0""#,
-        &[(FIRST, Own), (SECOND, Look), (SECOND, Serve(FIRST))],
-    ),
-];
-
-#[test]
-fn stimuli_and_schedules_that_are_read(rt: HostRuntime) -> Result<(), Fail> {
-    let config = read_config(rt.alloc(), TWO_CORES)?;
-    for (text, cores, words) in STIMULI {
-        let stimuli = read_stimuli(rt.alloc(), &config, text)?;
-        assert_eq!(rt; stimuli.len(), *cores, "{text}");
-        match stimuli.as_slice().first() {
-            Some(core) => assert_eq!(rt; core.words.as_slice(), *words, "{text}"),
-            None => assert!(rt; words.is_empty(), "{text}"),
-        }
-    }
-    for (text, turns) in SCHEDULES {
-        let schedule = read_schedule(rt.alloc(), &config, text)?;
-        assert_eq!(rt; schedule.as_slice(), *turns, "{text}");
-    }
-    Ok(())
-}

@@ -1,12 +1,5 @@
 //! ISRs, their scripts and interrupts, budgets, and how a core answers a time fault.
 
-use super::configured;
-use crate::read_stimuli;
-use osbase::{CoreId, IsrRef, Stimulus};
-use oscript::Op;
-use osplan::Protection;
-use std::test::Fail;
-
 // A core with two tasks, two ISRs and a resource, and a core with one of each; the script is that of the first ISR.
 pub(super) const TWO_CORES: &str =
     r#"{"cores":[{"id":0,"protection":"PRO_IGNORE","tasks":[{"name":"A","prio":1,"script":""},{"name":"W","prio":1,"extended":true,"script":""}],"isrs":[{"name":"I1","level":16,"budget":9,"script":"@"},{"name":"I2","level":1,"script":""}],"resources":[{"name":"R","ceiling":1}]},{"id":1,"tasks":[{"name":"B","prio":1,"script":""}],"isrs":[{"name":"J","level":1,"script":""}],"resources":[{"name":"Q","ceiling":1}]}]}"#;
@@ -120,48 +113,3 @@ each [ ] irq=J
 BadStimulus 1|100000
 Limit 100001
 "#;
-
-const FIRST: CoreId = CoreId { number: 0 };
-
-const SECOND: CoreId = CoreId { number: 1 };
-
-// The name, the level, the budget, and how many operations the script has.
-const ISRS: &[(&str, u8, u32, usize)] = &[("I1", 16, 9, 2), ("I2", 1, 0, 0)];
-
-#[test]
-fn isrs_have_their_parts(rt: HostRuntime) -> Result<(), Fail> {
-    let config = configured(rt.alloc(), TWO_CORES, "work;TerminateTask")?;
-    let core = config.plan().core(FIRST).ok_or("core 0")?;
-    assert_eq!(rt; core.protection, Protection::Ignore);
-    assert_eq!(rt; core.isrs.len(), ISRS.len());
-    for (isr, (name, level, budget, count)) in core.isrs.as_slice().iter().zip(ISRS) {
-        assert!(rt; isr.name.as_str() == *name);
-        assert_eq!(rt; (isr.level, isr.budget), (*level, *budget), "{name}");
-        assert_eq!(rt; isr.script.len(), *count, "{name}");
-    }
-    let first = core.isrs.as_slice().first().ok_or("ISR I1")?;
-    assert_eq!(rt;
-        first.script.as_slice(),
-        [Op::Work, Op::TerminateTask].as_slice()
-    );
-    let other = config.plan().core(SECOND).ok_or("core 1")?;
-    assert_eq!(rt; other.protection, Protection::Shutdown);
-    Ok(())
-}
-
-#[test]
-fn interrupts_are_those_of_the_named_isrs(rt: HostRuntime) -> Result<(), Fail> {
-    let config = configured(rt.alloc(), TWO_CORES, "")?;
-    let text = r#"{"0":"irq=I2 op irq=I1 irq=I2","1":"tick irq=J"}"#;
-    let stimuli = read_stimuli(rt.alloc(), &config, text)?;
-    let irq = |core, index| Stimulus::Irq(IsrRef { core, index });
-    let first = [irq(FIRST, 1), Stimulus::Op, irq(FIRST, 0), irq(FIRST, 1)];
-    let second = [Stimulus::Tick, irq(SECOND, 0)];
-    let words = [(FIRST, first.as_slice()), (SECOND, second.as_slice())];
-    assert_eq!(rt; stimuli.len(), words.len());
-    for (stimuli, (core, words)) in stimuli.as_slice().iter().zip(words) {
-        assert_eq!(rt; stimuli.core, core);
-        assert_eq!(rt; stimuli.words.as_slice(), words, "{text}");
-    }
-    Ok(())
-}

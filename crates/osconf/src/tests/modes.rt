@@ -1,9 +1,5 @@
 //! Application modes: their names, the mode of a core, and what names a mode.
 
-use super::configured;
-use osbase::{CoreId, CoreMode, ModeId};
-use std::test::Fail;
-
 pub(super) const TEXTS: &str = r#"
 // The modes of a configuration: 1 to 8 names in form, of which none stands twice and none for something else.
 text {"modes":@,"cores":[{"id":0}]}
@@ -64,48 +60,3 @@ Limit {"modes":[],"cores":[{"id":0},{"id":0}]}|{"modes":[],"cores":[{"id":0,"mod
 DuplicateName {"modes":["none"],"cores":[{"id":0,"mode":"X"}]}|{"modes":["A","A"],"master":1,"cores":[{"id":0}]}
 UnknownName {"modes":["A"],"cores":[{"id":0,"mode":"X","tasks":[{"name":"T","prio":1,"script":"walk"}]}]}
 "#;
-
-// The text, its modes, and of each core its mode and the modes in which its first task is started.
-const READ: &[(&str, &[&str], &[(CoreMode, &[u8])])] = &[
-    (
-        r#"{"cores":[{"id":0,"tasks":[{"name":"A","prio":1,"auto":["M"],"script":""}]},{"id":1,"mode":"DONOTCARE","tasks":[{"name":"B","prio":1,"script":""}]}]}"#,
-        &["M"],
-        &[
-            (CoreMode::Named(ModeId { index: 0 }), &[0]),
-            (CoreMode::DontCare, &[]),
-        ],
-    ),
-    (
-        r#"{"modes":["P","Q","R"],"cores":[{"id":0,"mode":"R","tasks":[{"name":"A","prio":1,"auto":["R","P","R"],"script":""}]},{"id":1,"tasks":[{"name":"B","prio":1,"auto":["Q"],"script":""}]},{"id":2,"mode":"DONOTCARE","tasks":[{"name":"DONOTCARE","prio":1,"script":""}]}]}"#,
-        &["P", "Q", "R"],
-        &[
-            (CoreMode::Named(ModeId { index: 2 }), &[2, 0, 2]),
-            (CoreMode::Named(ModeId { index: 0 }), &[1]),
-            (CoreMode::DontCare, &[]),
-        ],
-    ),
-];
-
-#[test]
-fn modes_are_read(rt: HostRuntime) -> Result<(), Fail> {
-    for (text, modes, cores) in READ {
-        let config = configured(rt.alloc(), "@", text)?;
-        let plan = config.plan();
-        assert_eq!(rt; plan.modes.len(), modes.len(), "{text}");
-        for (mode, name) in plan.modes.as_slice().iter().zip(*modes) {
-            assert!(rt; mode.as_str() == *name, "{text}");
-        }
-        let mut number = 0u8;
-        for (mode, auto) in *cores {
-            let core = plan.core(CoreId { number }).ok_or("a core")?;
-            assert_eq!(rt; core.mode, *mode, "{text}");
-            let task = core.tasks.as_slice().first().ok_or("a task")?;
-            assert_eq!(rt; task.auto.len(), auto.len(), "{text}");
-            for (mode, index) in task.auto.as_slice().iter().zip(*auto) {
-                assert_eq!(rt; mode.index, *index, "{text}");
-            }
-            number = number.wrapping_add(1);
-        }
-    }
-    Ok(())
-}

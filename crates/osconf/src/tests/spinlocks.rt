@@ -138,48 +138,27 @@ BadScript GetSpinlock S|GetSpinlock ?|GetSpinlock X|TryToGetSpinlock S v0|Releas
 UnknownName ActivateTask S|SetEvent S 1
 "#;
 
-// The text, and of each spinlock its name and the index of its successor.
-const READ: &[(&str, &[(&str, Option<u8>)])] = &[
-    (r#"{"cores":[{"id":0}]}"#, &[]),
-    (
-        r#"{"spinlocks":[{"name":"S"}],"cores":[{"id":0}]}"#,
-        &[("S", None)],
-    ),
-    (
-        r#"{"spinlocks":[{"name":"S","next":"Q"},{"next":null,"name":"R"},{"name":"Q","next":"R"},{"name":"T","next":"R"}],"cores":[{"id":0}]}"#,
-        &[("S", Some(2)), ("R", None), ("Q", Some(1)), ("T", Some(1))],
-    ),
-];
-
-#[test]
-fn spinlocks_are_read(rt: HostRuntime) -> Result<(), Fail> {
-    for (text, spinlocks) in READ {
-        let config = configured(rt.alloc(), "@", text)?;
-        let plan = config.plan();
-        assert_eq!(rt; plan.spinlocks.len(), spinlocks.len(), "{text}");
-        for (spinlock, (name, next)) in plan.spinlocks.as_slice().iter().zip(*spinlocks) {
-            assert!(rt; spinlock.name.as_str() == *name, "{text}");
-            assert_eq!(rt; spinlock.next.map(|next| next.index), *next, "{text}");
-        }
-    }
-    Ok(())
-}
-
-// S, then Q, then R; T comes before R alone.
+// S, then Q, then R; T comes before R alone, and there are four.
 #[test]
 fn spinlocks_in_their_order(rt: HostRuntime) -> Result<(), Fail> {
     let text =
         r#"{"spinlocks":[{"name":"S","next":"Q"},{"name":"R"},{"name":"Q","next":"R"},{"name":"T","next":"R"}],"cores":[{"id":0}]}"#;
     let config = configured(rt.alloc(), "@", text)?;
-    let after: &[&[u8]] = &[&[2, 1], &[], &[1], &[1], &[], &[]];
-    for (newest, later) in after.iter().enumerate() {
+    let mut after = String::new(rt.alloc());
+    for newest in 0u8..6 {
         for new in 0u8..6 {
-            let newest = SpinlockId {
-                index: newest as u8,
-            };
-            let is_right = order_ok(&config, newest, SpinlockId { index: new });
-            assert_eq!(rt; is_right, later.contains(&new), "{newest:?} {new}");
+            let comes = order_ok(
+                &config,
+                SpinlockId { index: newest },
+                SpinlockId { index: new },
+            );
+            after.push(if comes { '1' } else { '0' })?;
         }
+        after.push(' ')?;
     }
+    assert!(rt;
+        after.as_str() == "011000 000000 010000 010000 000000 000000 ",
+        "{after}"
+    );
     Ok(())
 }

@@ -1,111 +1,68 @@
 //! What is read is written, of one core alone too, and that is read and written again.
 
-use super::TWO_CORES;
-use super::separate::THREE_CORES;
-use crate::{config_text, cut, is_separate, read_config};
-use osbase::CoreId;
-use std::test::Fail;
+pub(super) const WRITTEN: &str = r#"
+// What has no member is written with its value by default.
+text {"cores":[{"id":0,"start":[1],"tasks":[{"name":"A","prio":1,"auto":["M"],"script":"ActivateTask B;TerminateTask"}]},{"id":1,"tasks":[{"name":"B","prio":1,"script":"TerminateTask"}]}]}
+is {"cap":16,"cores":[{"alarms":[],"counters":[],"id":0,"isrs":[],"mode":"M","protection":"PRO_SHUTDOWN","resources":[],"start":[1],"tables":[],"tasks":[{"activations":1,"auto":["M"],"budget":0,"extended":false,"name":"A","preemptable":true,"prio":1,"script":"ActivateTask B;TerminateTask"}]},{"alarms":[],"counters":[],"id":1,"isrs":[],"mode":"M","protection":"PRO_SHUTDOWN","resources":[],"start":[],"tables":[],"tasks":[{"activations":1,"auto":[],"budget":0,"extended":false,"name":"B","preemptable":true,"prio":1,"script":"TerminateTask"}]}],"master":0,"modes":["M"],"spinlocks":[],"version":1}
 
+// A core without a mode is of the first, and one of any has the word for it.
+text {"modes":["B","N"],"cores":[{"id":0,"mode":"DONOTCARE","start":[1]},{"id":1,"mode":"N","tasks":[{"name":"A","prio":1,"auto":["N"],"script":""}]},{"id":2}]}
+is {"cap":16,"cores":[{"alarms":[],"counters":[],"id":0,"isrs":[],"mode":"DONOTCARE","protection":"PRO_SHUTDOWN","resources":[],"start":[1],"tables":[],"tasks":[]},{"alarms":[],"counters":[],"id":1,"isrs":[],"mode":"N","protection":"PRO_SHUTDOWN","resources":[],"start":[],"tables":[],"tasks":[{"activations":1,"auto":["N"],"budget":0,"extended":false,"name":"A","preemptable":true,"prio":1,"script":""}]},{"alarms":[],"counters":[],"id":2,"isrs":[],"mode":"B","protection":"PRO_SHUTDOWN","resources":[],"start":[],"tables":[],"tasks":[]}],"master":0,"modes":["B","N"],"spinlocks":[],"version":1}
+"#;
+
+// Texts that are written as they were read.
+pub(super) const SAME: &str = r#"
+// Spinlocks stay in their order, and each has the name of its successor.
+text {"cap":16,"cores":[{"alarms":[],"counters":[],"id":0,"isrs":[{"budget":0,"level":1,"name":"I","script":"TryToGetSpinlock L v7"}],"mode":"M","protection":"PRO_SHUTDOWN","resources":[],"start":[],"tables":[],"tasks":[{"activations":1,"auto":["M"],"budget":0,"extended":false,"name":"A","preemptable":true,"prio":1,"script":"GetSpinlock S;GetSpinlock ?;TryToGetSpinlock L v0;ReleaseSpinlock ?;ReleaseSpinlock S"}]}],"master":0,"modes":["M"],"spinlocks":[{"name":"S","next":"L"},{"name":"K","next":null},{"name":"L","next":"K"}],"version":1}
+is
+"#;
+
+// Texts of one core, which alone is what it was.
+pub(super) const LONE: &str = r#"
 // Tasks stay in their order.
-const TASKS: &str =
-    r#"{"cap":16,"cores":[{"alarms":[],"counters":[],"id":0,"isrs":[],"mode":"M","protection":"PRO_SHUTDOWN","resources":[],"start":[],"tables":[],"tasks":[{"activations":60,"auto":[],"budget":0,"extended":false,"name":"B","preemptable":false,"prio":31,"script":"ActivateTask A;TerminateTask"},{"activations":3,"auto":["M"],"budget":0,"extended":false,"name":"A","preemptable":true,"prio":0,"script":"ActivateTask C"},{"activations":1,"auto":["M"],"budget":0,"extended":false,"name":"C","preemptable":true,"prio":0,"script":""}]}],"master":0,"modes":["M"],"spinlocks":[],"version":1}"#;
+text {"cap":16,"cores":[{"alarms":[],"counters":[],"id":0,"isrs":[],"mode":"M","protection":"PRO_SHUTDOWN","resources":[],"start":[],"tables":[],"tasks":[{"activations":60,"auto":[],"budget":0,"extended":false,"name":"B","preemptable":false,"prio":31,"script":"ActivateTask A;TerminateTask"},{"activations":3,"auto":["M"],"budget":0,"extended":false,"name":"A","preemptable":true,"prio":0,"script":"ActivateTask C"},{"activations":1,"auto":["M"],"budget":0,"extended":false,"name":"C","preemptable":true,"prio":0,"script":""}]}],"master":0,"modes":["M"],"spinlocks":[],"version":1}
+is
 
 // Operations on variables, and jumps.
-const OPERATIONS: &str =
-    r#"{"cap":16,"cores":[{"alarms":[],"counters":[],"id":0,"isrs":[],"mode":"M","protection":"PRO_SHUTDOWN","resources":[],"start":[],"tables":[],"tasks":[{"activations":1,"auto":[],"budget":0,"extended":false,"name":"A","preemptable":true,"prio":1,"script":"set v0 -9223372036854775808;add v1 9223372036854775807;addv v2 v7;status v3;jz v4 6;jump 0"}]}],"master":0,"modes":["M"],"spinlocks":[],"version":1}"#;
+text {"cap":16,"cores":[{"alarms":[],"counters":[],"id":0,"isrs":[],"mode":"M","protection":"PRO_SHUTDOWN","resources":[],"start":[],"tables":[],"tasks":[{"activations":1,"auto":[],"budget":0,"extended":false,"name":"A","preemptable":true,"prio":1,"script":"set v0 -9223372036854775808;add v1 9223372036854775807;addv v2 v7;status v3;jz v4 6;jump 0"}]}],"master":0,"modes":["M"],"spinlocks":[],"version":1}
+is
 
-const EVENTS: &str =
-    r#"{"cap":16,"cores":[{"alarms":[],"counters":[],"id":0,"isrs":[],"mode":"M","protection":"PRO_SHUTDOWN","resources":[],"start":[],"tables":[],"tasks":[{"activations":1,"auto":["M"],"budget":0,"extended":true,"name":"A","preemptable":true,"prio":1,"script":"SetEvent A 4294967295;WaitEvent 1;ClearEvent 10;GetEvent A v7;SetEvent ? 2;GetEvent ? v0;ChainTask ?;ChainTask B"},{"activations":2,"auto":[],"budget":0,"extended":false,"name":"B","preemptable":true,"prio":1,"script":"SetEvent A 1;TerminateTask"}]}],"master":0,"modes":["M"],"spinlocks":[],"version":1}"#;
+text {"cap":16,"cores":[{"alarms":[],"counters":[],"id":0,"isrs":[],"mode":"M","protection":"PRO_SHUTDOWN","resources":[],"start":[],"tables":[],"tasks":[{"activations":1,"auto":["M"],"budget":0,"extended":true,"name":"A","preemptable":true,"prio":1,"script":"SetEvent A 4294967295;WaitEvent 1;ClearEvent 10;GetEvent A v7;SetEvent ? 2;GetEvent ? v0;ChainTask ?;ChainTask B"},{"activations":2,"auto":[],"budget":0,"extended":false,"name":"B","preemptable":true,"prio":1,"script":"SetEvent A 1;TerminateTask"}]}],"master":0,"modes":["M"],"spinlocks":[],"version":1}
+is
 
-const RESOURCES: &str =
-    r#"{"cap":16,"cores":[{"alarms":[],"counters":[],"id":0,"isrs":[],"mode":"M","protection":"PRO_SHUTDOWN","resources":[{"ceiling":31,"name":"S"},{"ceiling":0,"name":"R"}],"start":[],"tables":[],"tasks":[{"activations":1,"auto":["M"],"budget":0,"extended":false,"name":"A","preemptable":true,"prio":1,"script":"GetResource R;GetResource S;ReleaseResource S;GetResource ?;ReleaseResource R;TerminateTask"}]}],"master":0,"modes":["M"],"spinlocks":[],"version":1}"#;
+text {"cap":16,"cores":[{"alarms":[],"counters":[],"id":0,"isrs":[],"mode":"M","protection":"PRO_SHUTDOWN","resources":[{"ceiling":31,"name":"S"},{"ceiling":0,"name":"R"}],"start":[],"tables":[],"tasks":[{"activations":1,"auto":["M"],"budget":0,"extended":false,"name":"A","preemptable":true,"prio":1,"script":"GetResource R;GetResource S;ReleaseResource S;GetResource ?;ReleaseResource R;TerminateTask"}]}],"master":0,"modes":["M"],"spinlocks":[],"version":1}
+is
 
-const COUNTERS: &str =
-    r#"{"cap":16,"cores":[{"alarms":[],"counters":[{"max":1000000000,"min":1000000000,"name":"L","software":true},{"max":1,"min":1,"name":"K","software":false}],"id":0,"isrs":[],"mode":"M","protection":"PRO_SHUTDOWN","resources":[],"start":[],"tables":[],"tasks":[{"activations":1,"auto":["M"],"budget":0,"extended":false,"name":"A","preemptable":true,"prio":1,"script":"IncrementCounter K;GetCounterValue L v7;IncrementCounter ?;GetCounterValue ? v0;IncrementCounter L"}]}],"master":0,"modes":["M"],"spinlocks":[],"version":1}"#;
+text {"cap":16,"cores":[{"alarms":[],"counters":[{"max":1000000000,"min":1000000000,"name":"L","software":true},{"max":1,"min":1,"name":"K","software":false}],"id":0,"isrs":[],"mode":"M","protection":"PRO_SHUTDOWN","resources":[],"start":[],"tables":[],"tasks":[{"activations":1,"auto":["M"],"budget":0,"extended":false,"name":"A","preemptable":true,"prio":1,"script":"IncrementCounter K;GetCounterValue L v7;IncrementCounter ?;GetCounterValue ? v0;IncrementCounter L"}]}],"master":0,"modes":["M"],"spinlocks":[],"version":1}
+is
 
-const ALARMS: &str =
-    r#"{"cap":16,"cores":[{"alarms":[{"action":"SetEvent A 4294967295","auto":{"cycle":1000000000,"modes":["M","M"],"start":1},"counter":"L","name":"X"},{"action":"ActivateTask A","auto":null,"counter":"K","name":"W"},{"action":"ActivateTask A","auto":{"cycle":0,"modes":[],"start":7},"counter":"K","name":"V"}],"counters":[{"max":1000000000,"min":1000000000,"name":"L","software":true},{"max":7,"min":1,"name":"K","software":false}],"id":0,"isrs":[],"mode":"M","protection":"PRO_SHUTDOWN","resources":[],"start":[],"tables":[],"tasks":[{"activations":1,"auto":["M"],"budget":0,"extended":true,"name":"A","preemptable":true,"prio":1,"script":"SetRelAlarm W 4294967295 0;SetAbsAlarm X 0 4294967295;CancelAlarm ?;GetAlarm V v7;GetAlarm ? v0"}]}],"master":0,"modes":["M"],"spinlocks":[],"version":1}"#;
+text {"cap":16,"cores":[{"alarms":[{"action":"SetEvent A 4294967295","auto":{"cycle":1000000000,"modes":["M","M"],"start":1},"counter":"L","name":"X"},{"action":"ActivateTask A","auto":null,"counter":"K","name":"W"},{"action":"ActivateTask A","auto":{"cycle":0,"modes":[],"start":7},"counter":"K","name":"V"}],"counters":[{"max":1000000000,"min":1000000000,"name":"L","software":true},{"max":7,"min":1,"name":"K","software":false}],"id":0,"isrs":[],"mode":"M","protection":"PRO_SHUTDOWN","resources":[],"start":[],"tables":[],"tasks":[{"activations":1,"auto":["M"],"budget":0,"extended":true,"name":"A","preemptable":true,"prio":1,"script":"SetRelAlarm W 4294967295 0;SetAbsAlarm X 0 4294967295;CancelAlarm ?;GetAlarm V v7;GetAlarm ? v0"}]}],"master":0,"modes":["M"],"spinlocks":[],"version":1}
+is
 
-const TABLES: &str =
-    r#"{"cap":16,"cores":[{"alarms":[],"counters":[{"max":9,"min":1,"name":"K","software":false}],"id":0,"isrs":[],"mode":"M","protection":"PRO_SHUTDOWN","resources":[],"start":[],"tables":[{"auto":{"modes":["M"],"offset":2},"counter":"K","duration":9,"name":"P","points":[{"actions":["SetEvent A 4294967295","ActivateTask A"],"offset":0},{"actions":["ActivateTask A"],"offset":9}],"repeating":false},{"auto":null,"counter":"K","duration":1,"name":"O","points":[{"actions":["ActivateTask A"],"offset":0}],"repeating":true}],"tasks":[{"activations":1,"auto":[],"budget":0,"extended":true,"name":"A","preemptable":true,"prio":1,"script":"StartScheduleTableRel P 1;StartScheduleTableAbs O 0;NextScheduleTable P O;StopScheduleTable ?;GetScheduleTableStatus O v7"}]}],"master":0,"modes":["M"],"spinlocks":[],"version":1}"#;
+text {"cap":16,"cores":[{"alarms":[],"counters":[{"max":9,"min":1,"name":"K","software":false}],"id":0,"isrs":[],"mode":"M","protection":"PRO_SHUTDOWN","resources":[],"start":[],"tables":[{"auto":{"modes":["M"],"offset":2},"counter":"K","duration":9,"name":"P","points":[{"actions":["SetEvent A 4294967295","ActivateTask A"],"offset":0},{"actions":["ActivateTask A"],"offset":9}],"repeating":false},{"auto":null,"counter":"K","duration":1,"name":"O","points":[{"actions":["ActivateTask A"],"offset":0}],"repeating":true}],"tasks":[{"activations":1,"auto":[],"budget":0,"extended":true,"name":"A","preemptable":true,"prio":1,"script":"StartScheduleTableRel P 1;StartScheduleTableAbs O 0;NextScheduleTable P O;StopScheduleTable ?;GetScheduleTableStatus O v7"}]}],"master":0,"modes":["M"],"spinlocks":[],"version":1}
+is
 
 // ISRs stay in their order.
-const ISRS: &str =
-    r#"{"cap":16,"cores":[{"alarms":[],"counters":[],"id":0,"isrs":[{"budget":1000000000,"level":16,"name":"J","script":"SuspendAllInterrupts;ActivateTask A;jz v7 0;ResumeAllInterrupts"},{"budget":0,"level":1,"name":"I","script":""}],"mode":"M","protection":"PRO_TERMINATETASKISR","resources":[],"start":[],"tables":[],"tasks":[{"activations":1,"auto":[],"budget":1000000000,"extended":false,"name":"A","preemptable":true,"prio":1,"script":""}]}],"master":0,"modes":["M"],"spinlocks":[],"version":1}"#;
+text {"cap":16,"cores":[{"alarms":[],"counters":[],"id":0,"isrs":[{"budget":1000000000,"level":16,"name":"J","script":"SuspendAllInterrupts;ActivateTask A;jz v7 0;ResumeAllInterrupts"},{"budget":0,"level":1,"name":"I","script":""}],"mode":"M","protection":"PRO_TERMINATETASKISR","resources":[],"start":[],"tables":[],"tasks":[{"activations":1,"auto":[],"budget":1000000000,"extended":false,"name":"A","preemptable":true,"prio":1,"script":""}]}],"master":0,"modes":["M"],"spinlocks":[],"version":1}
+is
 
 // Modes stay in their order, and what names one has its name.
-const MODES: &str =
-    r#"{"cap":16,"cores":[{"alarms":[{"action":"ActivateTask A","auto":{"cycle":0,"modes":["B","N"],"start":7},"counter":"K","name":"V"}],"counters":[{"max":7,"min":1,"name":"K","software":false}],"id":0,"isrs":[],"mode":"N","protection":"PRO_SHUTDOWN","resources":[],"start":[],"tables":[{"auto":{"modes":["N"],"offset":2},"counter":"K","duration":7,"name":"P","points":[{"actions":["ActivateTask A"],"offset":0}],"repeating":false}],"tasks":[{"activations":1,"auto":["N","B","N"],"budget":0,"extended":false,"name":"A","preemptable":true,"prio":1,"script":""},{"activations":1,"auto":[],"budget":0,"extended":false,"name":"M","preemptable":true,"prio":1,"script":""}]}],"master":0,"modes":["B","C","N"],"spinlocks":[],"version":1}"#;
+text {"cap":16,"cores":[{"alarms":[{"action":"ActivateTask A","auto":{"cycle":0,"modes":["B","N"],"start":7},"counter":"K","name":"V"}],"counters":[{"max":7,"min":1,"name":"K","software":false}],"id":0,"isrs":[],"mode":"N","protection":"PRO_SHUTDOWN","resources":[],"start":[],"tables":[{"auto":{"modes":["N"],"offset":2},"counter":"K","duration":7,"name":"P","points":[{"actions":["ActivateTask A"],"offset":0}],"repeating":false}],"tasks":[{"activations":1,"auto":["N","B","N"],"budget":0,"extended":false,"name":"A","preemptable":true,"prio":1,"script":""},{"activations":1,"auto":[],"budget":0,"extended":false,"name":"M","preemptable":true,"prio":1,"script":""}]}],"master":0,"modes":["B","C","N"],"spinlocks":[],"version":1}
+is
+"#;
 
-// Spinlocks stay in their order, and each has the name of its successor.
-const SPINLOCKS: &str =
-    r#"{"cap":16,"cores":[{"alarms":[],"counters":[],"id":0,"isrs":[{"budget":0,"level":1,"name":"I","script":"TryToGetSpinlock L v7"}],"mode":"M","protection":"PRO_SHUTDOWN","resources":[],"start":[],"tables":[],"tasks":[{"activations":1,"auto":["M"],"budget":0,"extended":false,"name":"A","preemptable":true,"prio":1,"script":"GetSpinlock S;GetSpinlock ?;TryToGetSpinlock L v0;ReleaseSpinlock ?;ReleaseSpinlock S"}]}],"master":0,"modes":["M"],"spinlocks":[{"name":"S","next":"L"},{"name":"K","next":null},{"name":"L","next":"K"}],"version":1}"#;
+pub(super) const SECOND: &str = r#"
+// A core alone has all modes.
+text {"modes":["B","N"],"cores":[{"id":0,"mode":"DONOTCARE","start":[1]},{"id":1,"mode":"N","tasks":[{"name":"A","prio":1,"auto":["N"],"script":""}]},{"id":2}]}
+is {"cap":16,"cores":[{"alarms":[],"counters":[],"id":1,"isrs":[],"mode":"N","protection":"PRO_SHUTDOWN","resources":[],"start":[],"tables":[],"tasks":[{"activations":1,"auto":["N"],"budget":0,"extended":false,"name":"A","preemptable":true,"prio":1,"script":""}]}],"master":1,"modes":["B","N"],"spinlocks":[],"version":1}
 
-// A core that names none of the spinlocks, beside one that does.
-const APART: &str =
-    r#"{"spinlocks":[{"name":"S"},{"name":"L","next":"S"}],"cores":[{"id":0,"start":[1],"tasks":[{"name":"A","prio":1,"script":"GetSpinlock L"}]},{"id":1,"tasks":[{"name":"B","prio":1,"script":"ReleaseSpinlock ?"}]}]}"#;
+// A core alone has no spinlocks, and names none.
+text {"spinlocks":[{"name":"S"},{"name":"L","next":"S"}],"cores":[{"id":0,"start":[1],"tasks":[{"name":"A","prio":1,"script":"GetSpinlock L"}]},{"id":1,"tasks":[{"name":"B","prio":1,"script":"ReleaseSpinlock ?"}]}]}
+is {"cap":16,"cores":[{"alarms":[],"counters":[],"id":1,"isrs":[],"mode":"M","protection":"PRO_SHUTDOWN","resources":[],"start":[],"tables":[],"tasks":[{"activations":1,"auto":[],"budget":0,"extended":false,"name":"B","preemptable":true,"prio":1,"script":"ReleaseSpinlock ?"}]}],"master":1,"modes":["M"],"spinlocks":[],"version":1}
+"#;
 
-// Two cores of two modes, and one of any.
-const THREE_MODES: &str =
-    r#"{"modes":["B","N"],"cores":[{"id":0,"mode":"DONOTCARE","start":[1]},{"id":1,"mode":"N","tasks":[{"name":"A","prio":1,"auto":["N"],"script":""}]},{"id":2}]}"#;
-
-// A text, its core that is to be alone, if one is, and what is written.
-const WRITTEN: &[(&str, Option<u8>, &str)] = &[
-    // What has no member is written with its value by default.
-    (
-        TWO_CORES,
-        None,
-        r#"{"cap":16,"cores":[{"alarms":[],"counters":[],"id":0,"isrs":[],"mode":"M","protection":"PRO_SHUTDOWN","resources":[],"start":[1],"tables":[],"tasks":[{"activations":1,"auto":["M"],"budget":0,"extended":false,"name":"A","preemptable":true,"prio":1,"script":"ActivateTask B;TerminateTask"}]},{"alarms":[],"counters":[],"id":1,"isrs":[],"mode":"M","protection":"PRO_SHUTDOWN","resources":[],"start":[],"tables":[],"tasks":[{"activations":1,"auto":[],"budget":0,"extended":false,"name":"B","preemptable":true,"prio":1,"script":"TerminateTask"}]}],"master":0,"modes":["M"],"spinlocks":[],"version":1}"#,
-    ),
-    // A separate core beside others.
-    (
-        THREE_CORES,
-        Some(2),
-        r#"{"cap":2,"cores":[{"alarms":[],"counters":[],"id":2,"isrs":[],"mode":"M","protection":"PRO_SHUTDOWN","resources":[],"start":[],"tables":[],"tasks":[{"activations":1,"auto":["M"],"budget":0,"extended":false,"name":"V","preemptable":true,"prio":1,"script":"work;ActivateTask V;ActivateTask ?;TerminateTask"}]}],"master":2,"modes":["M"],"spinlocks":[],"version":1}"#,
-    ),
-    // A core without a mode is of the first, one of any has the word for it, and a core alone has all modes.
-    (
-        THREE_MODES,
-        None,
-        r#"{"cap":16,"cores":[{"alarms":[],"counters":[],"id":0,"isrs":[],"mode":"DONOTCARE","protection":"PRO_SHUTDOWN","resources":[],"start":[1],"tables":[],"tasks":[]},{"alarms":[],"counters":[],"id":1,"isrs":[],"mode":"N","protection":"PRO_SHUTDOWN","resources":[],"start":[],"tables":[],"tasks":[{"activations":1,"auto":["N"],"budget":0,"extended":false,"name":"A","preemptable":true,"prio":1,"script":""}]},{"alarms":[],"counters":[],"id":2,"isrs":[],"mode":"B","protection":"PRO_SHUTDOWN","resources":[],"start":[],"tables":[],"tasks":[]}],"master":0,"modes":["B","N"],"spinlocks":[],"version":1}"#,
-    ),
-    (
-        THREE_MODES,
-        Some(1),
-        r#"{"cap":16,"cores":[{"alarms":[],"counters":[],"id":1,"isrs":[],"mode":"N","protection":"PRO_SHUTDOWN","resources":[],"start":[],"tables":[],"tasks":[{"activations":1,"auto":["N"],"budget":0,"extended":false,"name":"A","preemptable":true,"prio":1,"script":""}]}],"master":1,"modes":["B","N"],"spinlocks":[],"version":1}"#,
-    ),
-    // Texts that are written as they were read; their core is the only one.
-    (TASKS, Some(0), TASKS),
-    (OPERATIONS, Some(0), OPERATIONS),
-    (EVENTS, Some(0), EVENTS),
-    (RESOURCES, Some(0), RESOURCES),
-    (COUNTERS, Some(0), COUNTERS),
-    (ALARMS, Some(0), ALARMS),
-    (TABLES, Some(0), TABLES),
-    (ISRS, Some(0), ISRS),
-    (MODES, Some(0), MODES),
-    (SPINLOCKS, None, SPINLOCKS),
-    // A core alone has no spinlocks.
-    (
-        APART,
-        Some(1),
-        r#"{"cap":16,"cores":[{"alarms":[],"counters":[],"id":1,"isrs":[],"mode":"M","protection":"PRO_SHUTDOWN","resources":[],"start":[],"tables":[],"tasks":[{"activations":1,"auto":[],"budget":0,"extended":false,"name":"B","preemptable":true,"prio":1,"script":"ReleaseSpinlock ?"}]}],"master":1,"modes":["M"],"spinlocks":[],"version":1}"#,
-    ),
-];
-
-#[test]
-fn what_is_read_is_written_and_read_back(rt: HostRuntime) -> Result<(), Fail> {
-    let alloc = rt.alloc();
-    for (text, alone, written) in WRITTEN {
-        let mut config = read_config(alloc, text)?;
-        if let Some(number) = alone {
-            let core = CoreId { number: *number };
-            assert!(rt; is_separate(&config, core));
-            config = cut(alloc, &config, core)?;
-        }
-        assert!(rt; config_text(alloc, &config)?.as_str() == *written);
-        let again = read_config(alloc, written)?;
-        assert!(rt; config_text(alloc, &again)?.as_str() == *written);
-    }
-    Ok(())
-}
+pub(super) const THIRD: &str = r#"
+// A separate core beside others.
+text {"cap":2,"cores":[{"id":0,"start":[1,9],"tasks":[{"name":"A","prio":2,"script":"ActivateTask B;ActivateTask ?"}]},{"id":1,"start":[2],"tasks":[{"name":"B","prio":1,"script":""}]},{"id":2,"tasks":[{"name":"V","prio":1,"auto":["M"],"script":"work;ActivateTask V;ActivateTask ?;TerminateTask"}]},{"id":3}]}
+is {"cap":2,"cores":[{"alarms":[],"counters":[],"id":2,"isrs":[],"mode":"M","protection":"PRO_SHUTDOWN","resources":[],"start":[],"tables":[],"tasks":[{"activations":1,"auto":["M"],"budget":0,"extended":false,"name":"V","preemptable":true,"prio":1,"script":"work;ActivateTask V;ActivateTask ?;TerminateTask"}]}],"master":2,"modes":["M"],"spinlocks":[],"version":1}
+"#;
