@@ -6,7 +6,8 @@ use Rattle.serde_json.specs.Data.{Data, Items, Members, array, object, no_items,
 use Rattle.serde_json.specs.{View.items_of, Written.has_float, Written.items_have_float, Written.members_have_float}
 use Rattle.oscheck.specs.Words.{Plan}
 use Rattle.osdraft.proofs.Loops.{always}
-use Rattle.oswrite.specs.Writing.{config_data, or_null_data}
+use Rattle.osdata.specs.Data.{or_null_data}
+use Rattle.oswrite.specs.Writing.{config_data}
 
 -- ---- data without floats that nests no deeper than a number says
 

@@ -1,20 +1,9 @@
 -- Texts that are joined by a byte, and cut at it again.
-use Rattle.std.proofs.Common.{◌≡◌, ℕ, true, not, ◌==◌, List, [], ◌∷◌, ◌++◌, length, map, refl, sym, ap, ◌∙◌}
+use Rattle.std.proofs.Common.{◌≡◌, ℕ, true, not, ◌==◌, List, [], ◌∷◌, ◌++◌, length, map, refl, ap, ◌∙◌}
 use Rattle.std.specs.List.{list_all, slice_split, join_by, join_with_byte, flat_map}
-use Rattle.std.proofs.{lemmas.Bool.not-true, lemmas.List.append-nil, lemmas.List.Folds.flat_map-map}
+use Rattle.std.proofs.lemmas.{Bool.not-true, List.append-nil}
 use Rattle.osforms.proofs.Joining.{has_none, split-joined, some-more}
 use Rattle.osread.specs.Reading.{parts_of}
-
--- ---- joined pieces are told by their texts
-
-join-map : {X : Type 0} (f : X → List ℕ) (separator : List ℕ) (xs : List X) → join_by f separator xs ≡ join_by (λ text. text) separator (map f xs)
-join-map f separator [] = refl
-join-map f separator (x ∷ xs) = ap (λ text. f x ++ text) (sym (flat_map-map (λ text. separator ++ text) f xs))
-
-pub join-pieces : {X Y : Type 0} (f : X → List ℕ) (g : Y → List ℕ) (separator : List ℕ) (xs : List X) (ys : List Y) → map f xs ≡ map g ys → join_by f separator xs ≡ join_by g separator ys
-join-pieces f g separator xs ys e = join-map f separator xs ∙ ap (join_by (λ text. text) separator) e ∙ sym (join-map g separator ys)
-
--- ---- cutting
 
 -- joined by one byte in either form
 join-bytes : {X : Type 0} (f : X → List ℕ) (byte : ℕ) (x : X) (xs : List X) → join_by f (byte ∷ []) (x ∷ xs) ≡ join_with_byte byte (map f (x ∷ xs))

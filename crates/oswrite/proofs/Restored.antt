@@ -27,7 +27,8 @@ use Rattle.osdraft.specs.Meaning.{core_mode, task_plan, isr_plan, resource_plan,
 use Rattle.osdraft.proofs.Found.{IsByte, byte-small, is-byte, HasCounters, named-counter}
 use Rattle.osdraft.proofs.Right.{three-parts, acting-right, each-right, is_right}
 use Rattle.osdraft.proofs.Meant.{near_kept, table-limits, posted-same}
-use Rattle.oswrite.specs.Writing.{core_mode_word, name_data, id_data, list_data, mode_data, task_data, isr_data, resource_data, counter_data, start_data, or_null_data, alarm_data, action_data, point_data, spinlock_data, spinlock_name_data, table_start_data, table_data, core_data, config_data, op_text, script_text}
+use Rattle.osdata.specs.Data.{core_mode_word, name_data, id_data, list_data, mode_data, task_data, isr_data, resource_data, counter_data, start_data, or_null_data, alarm_data, action_data, point_data, spinlock_data, spinlock_name_data, table_start_data, table_data, core_data, op_text, script_text}
+use Rattle.oswrite.specs.Writing.{config_data}
 use Rattle.std.proofs.lemmas.Bool.Decides.{nat_tests}
 use Rattle.oswrite.proofs.{Placed.object-named, Placed.apart, Joining.parts-pieces}
 use Rattle.oswrite.proofs.Said.{task_said, isr_said, resource_said, counter_said, start_said, counter_name, action_said, alarm_said, point_said, spinlock_said, table_start_said, table_said, core_said, config_said}

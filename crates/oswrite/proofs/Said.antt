@@ -4,7 +4,7 @@ use Rattle.osbase.specs.Objects.{counter_place}
 use Rattle.oscheck.specs.Words.{Alarm, AlarmStart, AlarmStartText, AlarmText, ConfigText, Core, CoreText, Counter, CounterRef, CounterText, ExpiryPoint, Isr, IsrText, ObjectKind, Plan, PointText, RemoteCall, Resource, ResourceText, Spinlock, SpinlockText, Table, TableStart, TableStartText, TableText, Task, TaskText}
 use Rattle.oscript.specs.Calls.{op_of_call}
 use Rattle.osplan.specs.{Limits.ceiling_of, Limits.number_of, Names.name_of, Names.name_of_mode, Names.spinlock_name}
-use Rattle.oswrite.specs.Writing.{core_mode_word, op_text, script_text}
+use Rattle.osdata.specs.Data.{core_mode_word, op_text, script_text}
 
 abbrev pub task_said : Plan → Task → TaskText
 task_said plan task = record { name = task.name; prio = Some task.priority; auto = map (name_of_mode plan) task.auto; activations = Some task.activations; extended = task.extended; preemptable = task.preemptable; budget = Some task.budget; script = script_text plan task.script }

@@ -1,8 +1,8 @@
 use Rattle.std.proofs.Common.{◌≡◌, ◌∙◌, map, ap, string_bytes, arith, codes}
 use Rattle.std.proofs.lemmas.{List.take_all, Result.IfOk-weaker}
-use Rattle.oswrite.specs.Writing.{op_text}
-use Rattle.oswrite.proofs.Joining.{join-pieces}
-use Rattle.oswrite.proofs.texts.script_text.Goals as goal
+use Rattle.osdata.specs.Data.{op_text}
+use Rattle.osdata.proofs.Joining.{join-pieces}
+use Rattle.osdata.proofs.values.script_text.Goals as goal
 
 pub returns : goal.returns
 returns c =
