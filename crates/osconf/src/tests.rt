@@ -84,29 +84,75 @@ fn repeated(alloc: Global, word: &str, between: &str, count: u32) -> Result<Stri
     Ok(all)
 }
 
+// The configuration in which stimuli find their cores and ISRs.
+fn named_in(alloc: Global, reader: Reader) -> Result<Config, Fail> {
+    match reader {
+        Reader::Interrupts => configured(alloc, isrs::TWO_CORES, ""),
+        _ => Ok(read_config(alloc, TWO_CORES)?),
+    }
+}
+
 fn fault_of(alloc: Global, reader: Reader, text: &str) -> Result<Option<ConfFault>, Fail> {
     match reader {
         Reader::Configuration | Reader::Written => Ok(read_config(alloc, text).err()),
-        Reader::Alone(number) => {
-            let config = read_config(alloc, text)?;
-            let core = CoreId { number };
-            let refused = cut(alloc, &config, core).err();
-            let is_told = is_separate(&config, core) == refused.is_none();
-            Ok(is_told.then_some(refused).ok_or("is_separate says so too")?)
-        }
-        Reader::Stimuli => {
-            let config = read_config(alloc, TWO_CORES)?;
-            Ok(read_stimuli(alloc, &config, text).err())
-        }
-        Reader::Interrupts => {
-            let config = configured(alloc, isrs::TWO_CORES, "")?;
-            Ok(read_stimuli(alloc, &config, text).err())
-        }
-        Reader::Schedule => {
-            let config = read_config(alloc, TWO_CORES)?;
-            Ok(read_schedule(alloc, &config, text).err())
-        }
+        Reader::Alone(number) => cut_fault(alloc, text, CoreId { number }),
+        Reader::Stimuli | Reader::Interrupts => stimuli_fault(alloc, reader, text),
+        Reader::Schedule => schedule_fault(alloc, text),
     }
+}
+
+fn cut_fault(alloc: Global, text: &str, core: CoreId) -> Result<Option<ConfFault>, Fail> {
+    let config = read_config(alloc, text)?;
+    let refused = cut(alloc, &config, core).err();
+    let is_told = is_separate(&config, core) == refused.is_none();
+    Ok(is_told.then_some(refused).ok_or("is_separate says so too")?)
+}
+
+fn stimuli_fault(alloc: Global, reader: Reader, text: &str) -> Result<Option<ConfFault>, Fail> {
+    let config = named_in(alloc, reader)?;
+    Ok(read_stimuli(alloc, &config, text).err())
+}
+
+fn schedule_fault(alloc: Global, text: &str) -> Result<Option<ConfFault>, Fail> {
+    let config = read_config(alloc, TWO_CORES)?;
+    Ok(read_schedule(alloc, &config, text).err())
+}
+
+// What is read, as it is printed for debugging; or the configuration's text.
+fn shown(alloc: Global, reader: Reader, text: &str) -> Result<String, Fail> {
+    match reader {
+        Reader::Configuration => shown_plan(alloc, text),
+        Reader::Written => written_text(alloc, text),
+        Reader::Alone(number) => cut_text(alloc, text, CoreId { number }),
+        Reader::Stimuli | Reader::Interrupts => shown_stimuli(alloc, reader, text),
+        Reader::Schedule => shown_schedule(alloc, text),
+    }
+}
+
+fn shown_plan(alloc: Global, text: &str) -> Result<String, Fail> {
+    let config = read_config(alloc, text)?;
+    Ok(format!(in alloc; "{:?}", config.plan())?)
+}
+
+fn written_text(alloc: Global, text: &str) -> Result<String, Fail> {
+    text_of(alloc, &read_config(alloc, text)?)
+}
+
+fn cut_text(alloc: Global, text: &str, core: CoreId) -> Result<String, Fail> {
+    let config = read_config(alloc, text)?;
+    text_of(alloc, &cut(alloc, &config, core)?)
+}
+
+fn shown_stimuli(alloc: Global, reader: Reader, text: &str) -> Result<String, Fail> {
+    let config = named_in(alloc, reader)?;
+    let stimuli = read_stimuli(alloc, &config, text)?;
+    Ok(format!(in alloc; "{:?}", stimuli.as_slice())?)
+}
+
+fn shown_schedule(alloc: Global, text: &str) -> Result<String, Fail> {
+    let config = read_config(alloc, TWO_CORES)?;
+    let turns = read_schedule(alloc, &config, text)?;
+    Ok(format!(in alloc; "{:?}", turns.as_slice())?)
 }
 
 // The configuration's text, which is read and written again as it stands.
@@ -115,32 +161,6 @@ fn text_of(alloc: Global, config: &Config) -> Result<String, Fail> {
     let again = config_text(alloc, &read_config(alloc, text.as_str())?)?;
     let is_same = again.as_str() == text.as_str();
     Ok(is_same.then_some(text).ok_or("the same text again")?)
-}
-
-// What is read, as it is printed for debugging; or the configuration's text.
-fn shown(alloc: Global, reader: Reader, text: &str) -> Result<String, Fail> {
-    match reader {
-        Reader::Configuration => {
-            Ok(format!(in alloc; "{:?}", read_config(alloc, text)?.plan())?)
-        }
-        Reader::Written => text_of(alloc, &read_config(alloc, text)?),
-        Reader::Alone(number) => {
-            let config = read_config(alloc, text)?;
-            text_of(alloc, &cut(alloc, &config, CoreId { number })?)
-        }
-        Reader::Stimuli => {
-            let config = read_config(alloc, TWO_CORES)?;
-            Ok(format!(in alloc; "{:?}", read_stimuli(alloc, &config, text)?.as_slice())?)
-        }
-        Reader::Interrupts => {
-            let config = configured(alloc, isrs::TWO_CORES, "")?;
-            Ok(format!(in alloc; "{:?}", read_stimuli(alloc, &config, text)?.as_slice())?)
-        }
-        Reader::Schedule => {
-            let config = read_config(alloc, TWO_CORES)?;
-            Ok(format!(in alloc; "{:?}", read_schedule(alloc, &config, text)?.as_slice())?)
-        }
-    }
 }
 
 // Plays a table, and counts its cases. Its lines are, in this order for each group of texts:
@@ -398,7 +418,7 @@ fn texts_that_are_read(rt: HostRuntime) -> Result<(), Fail> {
         (Reader::Interrupts, "@", read::INTERRUPTS),
         (Reader::Schedule, "@", read::SCHEDULES),
     ];
-    play_all(&rt, rt.alloc(), tables, 29)
+    play_all(&rt, rt.alloc(), tables, 38)
 }
 
 #[test]

@@ -1,5 +1,9 @@
 //! Resources, and the operations that name them.
 
+use super::configured;
+use osbase::{CoreId, ResourceRef};
+use std::test::Fail;
+
 // A core with two tasks and two resources, and a core with one of each.
 pub(super) const TWO_CORES: &str =
     r#"{"cores":[{"id":0,"tasks":[{"name":"A","prio":1,"script":"@"},{"name":"B","prio":1,"script":""}],"resources":[{"name":"R","ceiling":1},{"name":"S","ceiling":2}]},{"id":1,"tasks":[{"name":"C","prio":1,"script":""}],"resources":[{"name":"Q","ceiling":3}]}]}"#;
@@ -49,3 +53,17 @@ each [,] {"name":"R@","ceiling":1}
 fine 0|1|16
 Limit 17|300
 "#;
+
+#[test]
+fn a_resource_has_its_name(rt: HostRuntime) -> Result<(), Fail> {
+    let text =
+        r#"{"cores":[{"id":0,"resources":[{"name":"R","ceiling":1},{"name":"S","ceiling":2}]}]}"#;
+    let config = configured(rt.alloc(), "@", text)?;
+    let second = ResourceRef {
+        core: CoreId { number: 0 },
+        index: 1,
+    };
+    let name = config.plan().resource_name(second);
+    assert!(rt; name == "S", "{name}");
+    Ok(())
+}
