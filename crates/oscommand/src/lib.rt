@@ -2,7 +2,5 @@
 #![tactic(auto)]
 
 pub mod jobs;
-#[cfg(test)]
-mod tests;
 
 pub use jobs::{Job, job_of};

@@ -4,4 +4,3 @@ pub mod Shifting
 pub mod Senders
 pub mod Threaded
 pub mod Gathering
-pub mod Examples

@@ -3,4 +3,3 @@ pub mod Calling
 pub mod Working
 pub mod Runs
 pub mod Threads
-pub mod Examples

@@ -23,6 +23,3 @@ pub use seats::Seats;
 pub use shifts::core_worker;
 pub use turns::{Stop, Turned};
 pub use worker::{Worked, Worker};
-
-#[cfg(test)]
-mod tests;

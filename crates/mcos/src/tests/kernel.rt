@@ -1,23 +1,17 @@
 //! A kernel by itself, item by item.
 
-ghost use Rattle.std.specs.Prelude.{◌≡◌, ◌∷◌, [], if◌then◌else◌, nat_lt, IsTrue, IfOk, IsSome, sum_by, ◌+◌, ◌≤◌, true, false};
-ghost use Rattle.std.specs.List.{list_all};
-ghost use Rattle.osplan.specs.declared.plans.Resource.{Resource as ResourceValue};
-ghost use Rattle.osplan.specs.declared.plans.Task.{Task as TaskValue};
-ghost use Rattle.osplan.specs.Limits.{is_within_limits};
-ghost use Rattle.osplan.specs.Expressible.{is_expressible};
-ghost use Rattle.osplan.specs.View.{core_of, view_of};
-ghost use Rattle.osplan.specs.Objects.{outbox_needed};
-
 use osbase::{
-    Agreement, CORES, CoreId, CoreMode, CoreSet, Item, List, Mark, Message, ModeId, Name,
-    RemoteCall, Runner, ServiceId, Status, Stimulus, TaskRef,
+    Agreement, CORES, CoreId, CoreSet, Item, Mark, Message, ModeId, RemoteCall, Runner, ServiceId,
+    Status, Stimulus, TaskRef,
 };
-use oscript::Op;
+use osconf::read_config;
 use oskernel::{Kernel, Want};
-use osplan::{Config, Core, Plan, Protection, Task};
 use std::alloc::{AllocError, Global};
 use std::test::Fail;
+
+/// Task A of core 0, which starts core 1, activates task B of core 1.
+const TWO_CORES: &str =
+    r#"{"cores":[{"id":0,"start":[1],"tasks":[{"name":"A","prio":1,"auto":["M"],"script":"ActivateTask B;TerminateTask"}]},{"id":1,"tasks":[{"name":"B","prio":1,"script":"TerminateTask"}]}]}"#;
 
 const CORE_0: CoreId = CoreId { number: 0 };
 
@@ -34,72 +28,6 @@ const TASK_B: TaskRef = TaskRef {
     core: CORE_1,
     index: 0,
 };
-
-fn task(alloc: Global, name: &str, is_auto: bool, ops: &[Op]) -> Result<Task, AllocError>
-    ensures { IfOk result (λ task. task ≡ record { name = name.now; priority = 1; auto = (if is_auto then MODE ∷ [] else []); activations = 1; extended = false; preemptable = true; budget = 0; script = ops.now }) }
-{
-    let auto = if is_auto { &[MODE][..] } else { &[] };
-    Ok(Task {
-        name: Name::new(alloc, name)?,
-        priority: 1,
-        auto: List::from_vec(auto.to_vec(alloc)?),
-        activations: 1,
-        extended: false,
-        preemptable: true,
-        budget: 0,
-        script: List::from_vec(ops.to_vec(alloc)?),
-    })
-}
-
-fn core(alloc: Global, id: CoreId, start: &[CoreId], task: Task) -> Result<Core, AllocError>
-    ensures { IfOk result (λ core. core ≡ record { id = id; mode = CoreMode.Named MODE; start = start.now; protection = Protection.Shutdown; tasks = task ∷ []; isrs = []; resources = []; counters = []; alarms = []; tables = [] }) }
-{
-    let mut tasks = List::new(alloc);
-    tasks.push(task)?;
-    Ok(Core {
-        id,
-        mode: CoreMode::Named(MODE),
-        start: List::from_vec(start.to_vec(alloc)?),
-        protection: Protection::Shutdown,
-        tasks,
-        isrs: List::new(alloc),
-        resources: List::new(alloc),
-        counters: List::new(alloc),
-        alarms: List::new(alloc),
-        tables: List::new(alloc),
-    })
-}
-
-// Task A of core 0, which starts core 1, activates task B of core 1.
-fn two_cores(alloc: Global) -> Result<Plan, AllocError>
-    ensures limits { IfOk result (λ plan. IsTrue (is_within_limits plan)) }
-    ensures expressible { IfOk result (λ plan. IsTrue (is_expressible plan)) }
-    ensures configured { IfOk result (λ plan. IsSome (core_of plan CORE_0)) }
-    ensures priorities { IfOk result (λ plan. IsTrue (list_all (λ (t : TaskValue). nat_lt t.priority 32) (view_of plan CORE_0).own.tasks)) }
-    ensures ceilings { IfOk result (λ plan. IsTrue (list_all (λ (r : ResourceValue). nat_lt r.ceiling 32) (view_of plan CORE_0).own.resources)) }
-    ensures activations { IfOk result (λ plan. sum_by (λ (t : TaskValue). t.activations) (view_of plan CORE_0).own.tasks ≤ 64) }
-    ensures outbox { IfOk result (λ plan. outbox_needed (view_of plan CORE_0).own ≤ 64) }
-{
-    let mut modes = List::new(alloc);
-    modes.push(Name::new(alloc, "M")?)?;
-    let a = task(
-        alloc,
-        "A",
-        true,
-        &[Op::ActivateTask(Some(TASK_B)), Op::TerminateTask],
-    )?;
-    let b = task(alloc, "B", false, &[Op::TerminateTask])?;
-    let mut cores = List::new(alloc);
-    cores.push(core(alloc, CORE_0, &[CORE_1], a)?)?;
-    cores.push(core(alloc, CORE_1, &[], b)?)?;
-    Ok(Plan {
-        cap: 16,
-        master: CORE_0,
-        modes,
-        spinlocks: List::new(alloc),
-        cores,
-    })
-}
 
 fn started() -> CoreSet {
     let mut members = [false; CORES];
@@ -163,7 +91,8 @@ fn marks(alloc: Global) -> Result<Vec<Mark>, AllocError> {
 
 #[test]
 fn a_core_takes_its_items(rt: HostRuntime) -> Result<(), Fail> {
-    let config = Config::new(two_cores(rt.alloc())?);
+    let config = read_config(rt.alloc(), TWO_CORES)?;
+    let _core = config.plan().core(CORE_0).ok_or("core 0")?;
     let mut kernel: Kernel<32, 64, 64> = Kernel::new(&config, CORE_0);
     let mut printed = Vec::with_capacity(rt.alloc(), 8192)?;
     for item in items(rt.alloc())? {
@@ -177,7 +106,8 @@ fn a_core_takes_its_items(rt: HostRuntime) -> Result<(), Fail> {
 
 #[test]
 fn a_second_reply_is_refused(rt: HostRuntime) -> Result<(), Fail> {
-    let config = Config::new(two_cores(rt.alloc())?);
+    let config = read_config(rt.alloc(), TWO_CORES)?;
+    let _core = config.plan().core(CORE_0).ok_or("core 0")?;
     let mut kernel: Kernel<32, 64, 64> = Kernel::new(&config, CORE_0);
     let mut printed = Vec::with_capacity(rt.alloc(), 8192)?;
     for item in items(rt.alloc())?.iter().take(8) {

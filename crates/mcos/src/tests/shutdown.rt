@@ -1,474 +1,683 @@
 //! Runs that are shut down: one core, or all of them.
 
-use super::logs::{Logged, Replayed, replay_logs, replay_up_to};
-use super::starts::{CONFLICT, NO_MODE, TAKES_MODE};
-use super::{Listed, Run, check_of, compare, cut_of, play, play_listed, print, run_of};
-use std::str;
+use super::play_all;
 use std::test::Fail;
 
-/// Core 0 shuts all cores down while core 1 runs.
-pub(super) const ALL_DOWN: &str =
-    r#"{"cores":[{"id":0,"start":[1],"tasks":[{"name":"A","prio":1,"auto":["M"],"script":"ShutdownAllCores 0"}]},{"id":1,"tasks":[{"name":"B","prio":1,"auto":["M"],"script":"work;jump 0"}]}]}"#;
+pub(super) const ALL_DOWN: &str = r#"
+// Core 0 shuts all cores down while core 1 runs.
+config {"cores":[{"id":0,"start":[1],"tasks":[{"name":"A","prio":1,"auto":["M"],"script":"ShutdownAllCores 0"}]},{"id":1,"tasks":[{"name":"B","prio":1,"auto":["M"],"script":"work;jump 0"}]}]}
+stimuli {"0":"op","1":"op op op op op op"}
+run
+core 0
+start 1 E_OK
+hook Startup
+act A
+pre A
+halt 0 E_OK
+hook Shutdown E_OK
+core 1
+hook Startup
+act B
+pre B
+halt 0 E_OK
+hook Shutdown E_OK
+ended
 
-pub(super) const ALL_DOWN_STIMULI: &str = r#"{"0":"op","1":"op op op op op op"}"#;
+// A core that passes the second barrier after all were asked to shut down.
+turns "0o 1l 1o 0o 0l 1l 0o 1o 0l 0o 0o 1l 1l 0o 1o 0l 1l 0l 1l"
+run
+as before
 
-pub(super) const ALL_DOWN_TRACE: &str =
-    "core 0\nstart 1 E_OK\nhook Startup\nact A\npre A\nhalt 0 E_OK\nhook Shutdown E_OK\ncore 1\nhook Startup\nact B\npre B\nhalt 0 E_OK\nhook Shutdown E_OK\nended\n";
+stimuli {"0":"op","1":"op op op op op op"}
+items 0
+began 1 E_OK
+entered
+pass1 M
+readied
+pass2 0 1
+stim op
+halt 0 E_OK
+drained
+passend
+last 0 E_OK
 
-/// The same where core 1 had drained before.
-pub(super) const DRAINED_TRACE: &str =
-    "core 0\nstart 1 E_OK\nhook Startup\nact A\npre A\nhalt 0 E_OK\nhook Shutdown E_OK\ncore 1\nhook Startup\nact B\npre B\nhook Shutdown E_OK\nended\n";
+replay 0
+core 0
+start 1 E_OK
+hook Startup
+act A
+pre A
+halt 0 E_OK
+hook Shutdown E_OK
 
-/// Core 1 shuts itself down, and core 0 asks for a task of it.
-const ONE_DOWN: &str =
-    r#"{"cores":[{"id":0,"start":[1],"tasks":[{"name":"A","prio":1,"auto":["M"],"script":"work;ActivateTask B;TerminateTask"}]},{"id":1,"tasks":[{"name":"B","prio":1,"auto":["M"],"script":"ShutdownOS 0"}]}]}"#;
+items 1
+on
+entered
+pass1 M
+readied
+pass2 0 1
+stim op
+stim op
+halt 0 E_OK
+drained
+passend
+last 0 E_OK
 
-const ONE_DOWN_STIMULI: &str = r#"{"0":"op op op","1":"op"}"#;
+replay 1
+core 1
+hook Startup
+act B
+pre B
+halt 0 E_OK
+hook Shutdown E_OK
 
-/// Both cores ask for a shutdown of all.
-pub(super) const ASKERS: &str =
-    r#"{"cores":[{"id":0,"start":[1],"tasks":[{"name":"A","prio":1,"auto":["M"],"script":"ShutdownAllCores 4"}]},{"id":1,"tasks":[{"name":"B","prio":1,"auto":["M"],"script":"ShutdownAllCores 7"}]}]}"#;
+// A core that has drained takes no halt. It calls ShutdownHook at its end.
+stimuli {"0":"op"}
+run
+core 0
+start 1 E_OK
+hook Startup
+act A
+pre A
+halt 0 E_OK
+hook Shutdown E_OK
+core 1
+hook Startup
+act B
+pre B
+hook Shutdown E_OK
+ended
 
-pub(super) const ASKERS_STIMULI: &str = r#"{"0":"op","1":"op"}"#;
+// Who asked, and for what, is as the log says. A core may end with or without a shutdown of all.
+first
+on
+entered
+pass1 M
+readied
+pass2 0 1
 
-/// Core 0 asked first.
-pub(super) const FIRST_ASKED: &str =
-    "core 0\nstart 1 E_OK\nhook Startup\nact A\npre A\nhalt 0 E_OS_LIMIT\nhook Shutdown E_OS_LIMIT\ncore 1\nhook Startup\nact B\npre B\nhalt 0 E_OS_LIMIT\nhook Shutdown E_OS_LIMIT\nended\n";
+log
+halt 255 E_OS_STATE
+drained
+passend
+last
 
-/// Core 1 asked first.
-pub(super) const SECOND_ASKED: &str =
-    "core 0\nstart 1 E_OK\nhook Startup\nact A\npre A\nhalt 1 E_OS_STATE\nhook Shutdown E_OS_STATE\ncore 1\nhook Startup\nact B\npre B\nhalt 1 E_OS_STATE\nhook Shutdown E_OS_STATE\nended\n";
+replay 1
+core 1
+hook Startup
+act B
+pre B
+halt 255 E_OS_STATE
 
-/// Core 1 is down when core 0 asks for a shutdown of all.
-const DOWN_FIRST: &str =
-    r#"{"cores":[{"id":0,"start":[1],"tasks":[{"name":"A","prio":1,"auto":["M"],"script":"work;ShutdownAllCores 0"}]},{"id":1,"tasks":[{"name":"B","prio":1,"auto":["M"],"script":"ShutdownOS 5"}]}]}"#;
+log
+stim op
+drained
+passend
+last 7 E_OS_VALUE
 
-const DOWN_FIRST_STIMULI: &str = r#"{"0":"op op","1":"op op"}"#;
+replay 1
+core 1
+hook Startup
+act B
+pre B
+hook Shutdown E_OS_VALUE
 
-const DOWN_FIRST_TRACE: &str =
-    "core 0\nstart 1 E_OK\nhook Startup\nact A\npre A\nhalt 0 E_OK\nhook Shutdown E_OK\ncore 1\nhook Startup\nact B\npre B\nhook Shutdown E_OS_NOFUNC\nended\n";
+// After the halt there is no stimulus and no further halt; after the last stimulus there is none either.
+log
+halt 0 E_OK
+@
 
-/// Alarms of core 0 act on core 1, which shuts all cores down. A mailbox has room for one envelope.
-const POSTING: &str =
-    r#"{"cap":1,"cores":[{"id":0,"start":[1],"counters":[{"name":"C","max":9}],"alarms":[{"name":"L1","counter":"C","action":"ActivateTask P","auto":{"modes":["M"],"start":1,"cycle":0}},{"name":"L2","counter":"C","action":"ActivateTask Q","auto":{"modes":["M"],"start":1,"cycle":0}}]},{"id":1,"tasks":[{"name":"X","prio":2,"auto":["M"],"script":"ShutdownAllCores 7"},{"name":"P","prio":1,"script":"TerminateTask"},{"name":"Q","prio":1,"script":"TerminateTask"}]}]}"#;
+with stim op|halt 0 E_OK|passend
+replay 1
+core 1
+hook Startup
+act B
+pre B
+halt 0 E_OK
+fault 15 ItemRefused 7
 
-const POSTING_STIMULI: &str = r#"{"0":"op tick op","1":"op"}"#;
+log
+drained
+halt 0 E_OK
 
-const POSTING_TRACE: &str =
-    "core 0\nstart 1 E_OK\nhook Startup\ntick\nalarm L1\nout 1 ActivateTask P\nalarm L2\nout 1 ActivateTask Q\nhalt 1 E_OS_STATE\nhook Shutdown E_OS_STATE\ncore 1\nhook Startup\nact X\npre X\nhalt 1 E_OS_STATE\nhook Shutdown E_OS_STATE\nended\n";
+replay 1
+core 1
+hook Startup
+act B
+pre B
+fault 15 ItemRefused 7
 
-/// The halt finds both envelopes in the outbox, and the second one finds the mailbox full once.
-const POSTING_SCHEDULE: &str =
-    r#""0o 1l 1o 0o 0l 1l 0o 1o 0l 1l 0o 1o 0o 1o 0l 0o 0o 1s0 0o 1s0 1o 0o 0l 1l 0l 1l""#;
+// Nor is there one behind the last barrier,
+log
+drained
+passend
+halt 0 E_OK
 
-/// Two separate cores beside the master. All of them shut down, two before their stimuli are used up.
-const SEPARATE: &str =
-    r#"{"cores":[{"id":0,"start":[1,2],"tasks":[{"name":"A","prio":1,"auto":["M"],"script":"work;ShutdownOS 0"}]},{"id":1,"tasks":[{"name":"B","prio":1,"auto":["M"],"script":"ShutdownOS 4"}]},{"id":2,"tasks":[{"name":"V","prio":1,"auto":["M"],"script":"add v0 3;ShutdownOS 2"}]}]}"#;
+replay 1
+core 1
+hook Startup
+act B
+pre B
+fault 15 ItemRefused 8
 
-const SEPARATE_STIMULI: &str = r#"{"0":"op op op","1":"op","2":"op op op op"}"#;
+// and before the second one.
+first
+on
+entered
+pass1 M
+readied
 
-const SEPARATE_TRACE: &str =
-    "core 0\nstart 1 E_OK\nstart 2 E_OK\nhook Startup\nact A\npre A\nhook Shutdown E_OK\ncore 1\nhook Startup\nact B\npre B\nhook Shutdown E_OS_LIMIT\ncore 2\nhook Startup\nact V\npre V\nvar V v0 3\nhook Shutdown E_OS_CALLEVEL\nended\n";
+log
+halt 0 E_OK
 
-const RUNS: &[Run] = &[
-    (ALL_DOWN, ALL_DOWN_STIMULI, ALL_DOWN_TRACE),
-    (
-        ONE_DOWN,
-        ONE_DOWN_STIMULI,
-        "core 0\nstart 1 E_OK\nhook Startup\nact A\npre A\nout 1 ActivateTask B\nstat A ActivateTask E_OS_CORE\nhook Error E_OS_CORE\npost A\nend A\ncore 1\nhook Startup\nact B\npre B\nhook Shutdown E_OK\nended\n",
-    ),
-    // Of two that ask, the first decides for both.
-    (ASKERS, ASKERS_STIMULI, FIRST_ASKED),
-    // A core that has drained takes no halt. It calls ShutdownHook at its end.
-    (ALL_DOWN, r#"{"0":"op"}"#, DRAINED_TRACE),
-    // A core that is down has called it already.
-    (DOWN_FIRST, DOWN_FIRST_STIMULI, DOWN_FIRST_TRACE),
-    // A core that was halted refuses a request. The caller takes the halt when the reply has come.
-    (
-        r#"{"cores":[{"id":0,"start":[1],"tasks":[{"name":"A","prio":1,"auto":["M"],"script":"work;ActivateTask B;TerminateTask"}]},{"id":1,"tasks":[{"name":"X","prio":2,"auto":["M"],"script":"ShutdownAllCores 0"},{"name":"B","prio":1,"script":"TerminateTask"}]}]}"#,
-        r#"{"0":"op op op op","1":"op op"}"#,
-        "core 0\nstart 1 E_OK\nhook Startup\nact A\npre A\nout 1 ActivateTask B\nstat A ActivateTask E_OS_CORE\nhook Error E_OS_CORE\npost A\nend A\nhalt 1 E_OK\nhook Shutdown E_OK\ncore 1\nhook Startup\nact X\npre X\nhalt 1 E_OK\nhook Shutdown E_OK\nended\n",
-    ),
-    // It drops actions.
-    (POSTING, POSTING_STIMULI, POSTING_TRACE),
-    // A core that has asked and was not halted yet serves others, and dispatches nothing.
-    (
-        r#"{"cores":[{"id":0,"start":[1],"counters":[{"name":"C","max":9}],"alarms":[{"name":"L","counter":"C","action":"ActivateTask P","auto":{"modes":["M"],"start":1,"cycle":0}}]},{"id":1,"tasks":[{"name":"X","prio":2,"auto":["M"],"script":"ShutdownAllCores 0"},{"name":"P","prio":3,"script":"TerminateTask"}]}]}"#,
-        r#"{"0":"tick op op","1":"op op"}"#,
-        "core 0\nstart 1 E_OK\nhook Startup\ntick\nalarm L\nout 1 ActivateTask P\nhalt 1 E_OK\nhook Shutdown E_OK\ncore 1\nhook Startup\nact X\npre X\nact P\nin 0 ActivateTask P E_OK\nhalt 1 E_OK\nhook Shutdown E_OK\nended\n",
-    ),
-    // One core alone: an ISR shuts all cores down, an ISR shuts the core down, and so does a task with another one ready.
-    (
-        r#"{"cores":[{"id":0,"tasks":[{"name":"A","prio":1,"auto":["M"],"script":"work;TerminateTask"}],"isrs":[{"name":"I","level":1,"script":"ShutdownAllCores 11"}]}]}"#,
-        r#"{"0":"irq=I op op op"}"#,
-        "core 0\nhook Startup\nact A\npre A\nirq I\nenter I\nhalt 0 E_OS_PROTECTION_TIME\nhook Shutdown E_OS_PROTECTION_TIME\nended\n",
-    ),
-    (
-        r#"{"cores":[{"id":0,"tasks":[{"name":"A","prio":1,"auto":["M"],"script":"work;TerminateTask"}],"isrs":[{"name":"I","level":1,"script":"work;ShutdownOS 15"}]}]}"#,
-        r#"{"0":"irq=I op op op irq=I tick"}"#,
-        "core 0\nhook Startup\nact A\npre A\nirq I\nenter I\nhook Shutdown E_OS_NESTING_DEADLOCK\nended\n",
-    ),
-    (
-        r#"{"cores":[{"id":0,"tasks":[{"name":"A","prio":1,"auto":["M"],"script":"ActivateTask B;ShutdownOS 3;TerminateTask"},{"name":"B","prio":1,"script":"TerminateTask"}]}]}"#,
-        r#"{"0":"op op op op"}"#,
-        "core 0\nhook Startup\nact A\npre A\nact B\nstat A ActivateTask E_OK\nhook Shutdown E_OS_ID\nended\n",
-    ),
-    (SEPARATE, SEPARATE_STIMULI, SEPARATE_TRACE),
-];
+replay 1
+core 1
+hook Startup
+fault 15 ItemRefused 5
 
-const SCHEDULED: &[Listed] = &[
-    // Core 1 has asked itself: its look does not halt it, its own turn does, and brings what core 0 asked for.
-    (
-        (
-            ASKERS,
-            ASKERS_STIMULI,
-            "core 0\nstart 1 E_OK\nhook Startup\nact A\npre A\nhalt 0 E_OS_LIMIT\ncore 1\nhook Startup\nact B\npre B\nstalled\n",
-        ),
-        r#""0o 1l 1o 0o 0l 1l 0o 1o 0l 1l 0o 1o 0o 1l""#,
-        3,
-    ),
-    (
-        (ASKERS, ASKERS_STIMULI, FIRST_ASKED),
-        r#""0o 1l 1o 0o 0l 1l 0o 1o 0l 1l 0o 1o 0o 1l 1o 0o 1o 0l 1l 0l 1l""#,
-        0,
-    ),
-    (
-        (ASKERS, ASKERS_STIMULI, SECOND_ASKED),
-        r#""0o 1l 1o 0o 0l 1l 0o 1o 0l 1l 0o 1o 1o 0l 0o 1o 0o 0l 1l 0l 1l""#,
-        0,
-    ),
-    // A core that is down takes no halt, whether it has drained or not.
-    (
-        (
-            DOWN_FIRST,
-            DOWN_FIRST_STIMULI,
-            "core 0\nstart 1 E_OK\nhook Startup\nact A\npre A\nhalt 0 E_OK\ncore 1\nhook Startup\nact B\npre B\nhook Shutdown E_OS_NOFUNC\nstalled\n",
-        ),
-        r#""0o 1l 1o 0o 0l 1l 0o 1o 0l 1l 0o 1o 0o 0o 1l 1o 1l""#,
-        3,
-    ),
-    // A core that passes the second barrier after all were asked to shut down.
-    (
-        (ALL_DOWN, ALL_DOWN_STIMULI, ALL_DOWN_TRACE),
-        r#""0o 1l 1o 0o 0l 1l 0o 1o 0l 0o 0o 1l 1l 0o 1o 0l 1l 0l 1l""#,
-        0,
-    ),
-    (
-        (POSTING, POSTING_STIMULI, POSTING_TRACE),
-        POSTING_SCHEDULE,
-        0,
-    ),
-];
+// A core that has asked awaits the halt, whoever asked first.
+first
+began 1 E_OK
+entered
+pass1 M
+readied
+pass2 0 1
+
+log
+stim op
+halt 1 E_OS_LIMIT
+drained
+
+replay 0
+core 0
+start 1 E_OK
+hook Startup
+act A
+pre A
+halt 1 E_OS_LIMIT
+
+log
+stim op
+@
+
+with stim op|drained
+replay 0
+core 0
+start 1 E_OK
+hook Startup
+act A
+pre A
+fault 15 ItemRefused 7
+"#;
+
+pub(super) const ASKERS: &str = r#"
+// Both cores ask for a shutdown of all.
+config {"cores":[{"id":0,"start":[1],"tasks":[{"name":"A","prio":1,"auto":["M"],"script":"ShutdownAllCores 4"}]},{"id":1,"tasks":[{"name":"B","prio":1,"auto":["M"],"script":"ShutdownAllCores 7"}]}]}
+stimuli {"0":"op","1":"op"}
+// Of two that ask, the first decides for both.
+run
+core 0
+start 1 E_OK
+hook Startup
+act A
+pre A
+halt 0 E_OS_LIMIT
+hook Shutdown E_OS_LIMIT
+core 1
+hook Startup
+act B
+pre B
+halt 0 E_OS_LIMIT
+hook Shutdown E_OS_LIMIT
+ended
+
+// Core 1 has asked itself: its look does not halt it, its own turn does, and brings what core 0 asked for.
+turns "0o 1l 1o 0o 0l 1l 0o 1o 0l 1l 0o 1o 0o 1l 1o 0o 1o 0l 1l 0l 1l"
+run
+as before
+
+// The same up to that look.
+turns "0o 1l 1o 0o 0l 1l 0o 1o 0l 1l 0o 1o 0o 1l"
+run -> 3
+core 0
+start 1 E_OK
+hook Startup
+act A
+pre A
+halt 0 E_OS_LIMIT
+core 1
+hook Startup
+act B
+pre B
+stalled
+
+// Core 1 asks first.
+turns "0o 1l 1o 0o 0l 1l 0o 1o 0l 1l 0o 1o 1o 0l 0o 1o 0o 0l 1l 0l 1l"
+run
+core 0
+start 1 E_OK
+hook Startup
+act A
+pre A
+halt 1 E_OS_STATE
+hook Shutdown E_OS_STATE
+core 1
+hook Startup
+act B
+pre B
+halt 1 E_OS_STATE
+hook Shutdown E_OS_STATE
+ended
+"#;
+
+const RUNS: &str = r#"
+// Core 1 shuts itself down, and core 0 asks for a task of it.
+config {"cores":[{"id":0,"start":[1],"tasks":[{"name":"A","prio":1,"auto":["M"],"script":"work;ActivateTask B;TerminateTask"}]},{"id":1,"tasks":[{"name":"B","prio":1,"auto":["M"],"script":"ShutdownOS 0"}]}]}
+stimuli {"0":"op op op","1":"op"}
+run
+core 0
+start 1 E_OK
+hook Startup
+act A
+pre A
+out 1 ActivateTask B
+stat A ActivateTask E_OS_CORE
+hook Error E_OS_CORE
+post A
+end A
+core 1
+hook Startup
+act B
+pre B
+hook Shutdown E_OK
+ended
+
+items 1
+on
+entered
+pass1 M
+readied
+pass2 0 1
+stim op
+drained
+in 0 0 req ActivateTask B
+post 0
+passend
+last
+
+replay 1
+core 1
+hook Startup
+act B
+pre B
+hook Shutdown E_OK
+
+// A core that awaits a reply takes no halt.
+first
+began 1 E_OK
+entered
+pass1 M
+readied
+pass2 0 1
+
+log
+stim op
+stim op
+halt 1 E_OK
+
+replay 0
+core 0
+start 1 E_OK
+hook Startup
+act A
+pre A
+out 1 ActivateTask B
+fault 15 ItemRefused 8
+
+log
+stim op
+stim op
+post 1
+halt 1 E_OK
+
+replay 0
+core 0
+start 1 E_OK
+hook Startup
+act A
+pre A
+out 1 ActivateTask B
+fault 15 ItemRefused 9
+
+log
+stim op
+stim op
+post 1
+in 1 0 rep E_OS_CORE
+halt 1 E_OK
+
+replay 0
+core 0
+start 1 E_OK
+hook Startup
+act A
+pre A
+out 1 ActivateTask B
+stat A ActivateTask E_OS_CORE
+hook Error E_OS_CORE
+halt 1 E_OK
+
+// A core that is down takes no stimulus and no halt, and calls no hook a second time.
+first
+on
+entered
+pass1 M
+readied
+pass2 0 1
+
+log
+stim op
+@
+
+with stim op|halt 0 E_OS_ID
+replay 1
+core 1
+hook Startup
+act B
+pre B
+hook Shutdown E_OK
+fault 15 ItemRefused 7
+
+log
+stim op
+drained
+passend
+last 0 E_OS_ID
+
+replay 1
+core 1
+hook Startup
+act B
+pre B
+hook Shutdown E_OK
+
+// Core 1 is down when core 0 asks for a shutdown of all.
+config {"cores":[{"id":0,"start":[1],"tasks":[{"name":"A","prio":1,"auto":["M"],"script":"work;ShutdownAllCores 0"}]},{"id":1,"tasks":[{"name":"B","prio":1,"auto":["M"],"script":"ShutdownOS 5"}]}]}
+stimuli {"0":"op op","1":"op op"}
+// It has called ShutdownHook already.
+run
+core 0
+start 1 E_OK
+hook Startup
+act A
+pre A
+halt 0 E_OK
+hook Shutdown E_OK
+core 1
+hook Startup
+act B
+pre B
+hook Shutdown E_OS_NOFUNC
+ended
+
+items 1
+on
+entered
+pass1 M
+readied
+pass2 0 1
+stim op
+drained
+passend
+last 0 E_OK
+
+replay 1
+core 1
+hook Startup
+act B
+pre B
+hook Shutdown E_OS_NOFUNC
+
+// A core that is down takes no halt, whether it has drained or not.
+turns "0o 1l 1o 0o 0l 1l 0o 1o 0l 1l 0o 1o 0o 0o 1l 1o 1l"
+run -> 3
+core 0
+start 1 E_OK
+hook Startup
+act A
+pre A
+halt 0 E_OK
+core 1
+hook Startup
+act B
+pre B
+hook Shutdown E_OS_NOFUNC
+stalled
+
+// A core that was halted refuses a request. The caller takes the halt when the reply has come.
+config {"cores":[{"id":0,"start":[1],"tasks":[{"name":"A","prio":1,"auto":["M"],"script":"work;ActivateTask B;TerminateTask"}]},{"id":1,"tasks":[{"name":"X","prio":2,"auto":["M"],"script":"ShutdownAllCores 0"},{"name":"B","prio":1,"script":"TerminateTask"}]}]}
+stimuli {"0":"op op op op","1":"op op"}
+run
+core 0
+start 1 E_OK
+hook Startup
+act A
+pre A
+out 1 ActivateTask B
+stat A ActivateTask E_OS_CORE
+hook Error E_OS_CORE
+post A
+end A
+halt 1 E_OK
+hook Shutdown E_OK
+core 1
+hook Startup
+act X
+pre X
+halt 1 E_OK
+hook Shutdown E_OK
+ended
+
+// Alarms of core 0 act on core 1, which shuts all cores down. A mailbox has room for one envelope.
+config {"cap":1,"cores":[{"id":0,"start":[1],"counters":[{"name":"C","max":9}],"alarms":[{"name":"L1","counter":"C","action":"ActivateTask P","auto":{"modes":["M"],"start":1,"cycle":0}},{"name":"L2","counter":"C","action":"ActivateTask Q","auto":{"modes":["M"],"start":1,"cycle":0}}]},{"id":1,"tasks":[{"name":"X","prio":2,"auto":["M"],"script":"ShutdownAllCores 7"},{"name":"P","prio":1,"script":"TerminateTask"},{"name":"Q","prio":1,"script":"TerminateTask"}]}]}
+stimuli {"0":"op tick op","1":"op"}
+// A core that was halted drops actions.
+run
+core 0
+start 1 E_OK
+hook Startup
+tick
+alarm L1
+out 1 ActivateTask P
+alarm L2
+out 1 ActivateTask Q
+halt 1 E_OS_STATE
+hook Shutdown E_OS_STATE
+core 1
+hook Startup
+act X
+pre X
+halt 1 E_OS_STATE
+hook Shutdown E_OS_STATE
+ended
+
+// The halt finds both envelopes in the outbox, and the second one finds the mailbox full once.
+turns "0o 1l 1o 0o 0l 1l 0o 1o 0l 1l 0o 1o 0o 1o 0l 0o 0o 1s0 0o 1s0 1o 0o 0l 1l 0l 1l"
+run
+as before
+
+// The envelopes are posted after the halt.
+items 0
+began 1 E_OK
+entered
+pass1 M
+readied
+pass2 0 1
+stim op
+stim tick
+halt 1 E_OS_STATE
+post 1
+post 1
+drained
+passend
+last 1 E_OS_STATE
+
+replay 0
+core 0
+start 1 E_OK
+hook Startup
+tick
+alarm L1
+out 1 ActivateTask P
+alarm L2
+out 1 ActivateTask Q
+halt 1 E_OS_STATE
+hook Shutdown E_OS_STATE
+
+items 1
+on
+entered
+pass1 M
+readied
+pass2 0 1
+stim op
+halt 1 E_OS_STATE
+in 0 0 act ActivateTask P
+in 0 1 act ActivateTask Q
+drained
+passend
+last 1 E_OS_STATE
+
+replay 1
+core 1
+hook Startup
+act X
+pre X
+halt 1 E_OS_STATE
+hook Shutdown E_OS_STATE
+
+// A core that has asked and was not halted yet serves others, and dispatches nothing.
+config {"cores":[{"id":0,"start":[1],"counters":[{"name":"C","max":9}],"alarms":[{"name":"L","counter":"C","action":"ActivateTask P","auto":{"modes":["M"],"start":1,"cycle":0}}]},{"id":1,"tasks":[{"name":"X","prio":2,"auto":["M"],"script":"ShutdownAllCores 0"},{"name":"P","prio":3,"script":"TerminateTask"}]}]}
+stimuli {"0":"tick op op","1":"op op"}
+run
+core 0
+start 1 E_OK
+hook Startup
+tick
+alarm L
+out 1 ActivateTask P
+halt 1 E_OK
+hook Shutdown E_OK
+core 1
+hook Startup
+act X
+pre X
+act P
+in 0 ActivateTask P E_OK
+halt 1 E_OK
+hook Shutdown E_OK
+ended
+
+// One core alone: an ISR shuts all cores down, an ISR shuts the core down, and so does a task with another one
+// ready.
+config {"cores":[{"id":0,"tasks":[{"name":"A","prio":1,"auto":["M"],"script":"work;TerminateTask"}],"isrs":[{"name":"I","level":1,"script":"ShutdownAllCores 11"}]}]}
+stimuli {"0":"irq=I op op op"}
+run
+core 0
+hook Startup
+act A
+pre A
+irq I
+enter I
+halt 0 E_OS_PROTECTION_TIME
+hook Shutdown E_OS_PROTECTION_TIME
+ended
+
+config {"cores":[{"id":0,"tasks":[{"name":"A","prio":1,"auto":["M"],"script":"work;TerminateTask"}],"isrs":[{"name":"I","level":1,"script":"work;ShutdownOS 15"}]}]}
+stimuli {"0":"irq=I op op op irq=I tick"}
+run
+core 0
+hook Startup
+act A
+pre A
+irq I
+enter I
+hook Shutdown E_OS_NESTING_DEADLOCK
+ended
+
+config {"cores":[{"id":0,"tasks":[{"name":"A","prio":1,"auto":["M"],"script":"ActivateTask B;ShutdownOS 3;TerminateTask"},{"name":"B","prio":1,"script":"TerminateTask"}]}]}
+stimuli {"0":"op op op op"}
+run
+core 0
+hook Startup
+act A
+pre A
+act B
+stat A ActivateTask E_OK
+hook Shutdown E_OS_ID
+ended
+
+// Two separate cores beside the master. All of them shut down, two before their stimuli are used up.
+config {"cores":[{"id":0,"start":[1,2],"tasks":[{"name":"A","prio":1,"auto":["M"],"script":"work;ShutdownOS 0"}]},{"id":1,"tasks":[{"name":"B","prio":1,"auto":["M"],"script":"ShutdownOS 4"}]},{"id":2,"tasks":[{"name":"V","prio":1,"auto":["M"],"script":"add v0 3;ShutdownOS 2"}]}]}
+stimuli {"0":"op op op","1":"op","2":"op op op op"}
+run
+core 0
+start 1 E_OK
+start 2 E_OK
+hook Startup
+act A
+pre A
+hook Shutdown E_OK
+core 1
+hook Startup
+act B
+pre B
+hook Shutdown E_OS_LIMIT
+core 2
+hook Startup
+act V
+pre V
+var V v0 3
+hook Shutdown E_OS_CALLEVEL
+ended
+
+check
+ok
+core 0 bound
+core 1 separate
+core 2 separate
+
+// The separate cores by themselves.
+cut 1
+{"cap":16,"cores":[{"alarms":[],"counters":[],"id":1,"isrs":[],"mode":"M","protection":"PRO_SHUTDOWN","resources":[],"start":[],"tables":[],"tasks":[{"activations":1,"auto":["M"],"budget":0,"extended":false,"name":"B","preemptable":true,"prio":1,"script":"ShutdownOS 4"}]}],"master":1,"modes":["M"],"spinlocks":[],"version":1}
+
+config
+stimuli {"1":"op"}
+run
+core 1
+hook Startup
+act B
+pre B
+hook Shutdown E_OS_LIMIT
+ended
+
+config {"cores":[{"id":0,"start":[1,2],"tasks":[{"name":"A","prio":1,"auto":["M"],"script":"work;ShutdownOS 0"}]},{"id":1,"tasks":[{"name":"B","prio":1,"auto":["M"],"script":"ShutdownOS 4"}]},{"id":2,"tasks":[{"name":"V","prio":1,"auto":["M"],"script":"add v0 3;ShutdownOS 2"}]}]}
+cut 2
+{"cap":16,"cores":[{"alarms":[],"counters":[],"id":2,"isrs":[],"mode":"M","protection":"PRO_SHUTDOWN","resources":[],"start":[],"tables":[],"tasks":[{"activations":1,"auto":["M"],"budget":0,"extended":false,"name":"V","preemptable":true,"prio":1,"script":"add v0 3;ShutdownOS 2"}]}],"master":2,"modes":["M"],"spinlocks":[],"version":1}
+
+config
+stimuli {"2":"op op op op"}
+run
+core 2
+hook Startup
+act V
+pre V
+var V v0 3
+hook Shutdown E_OS_CALLEVEL
+ended
+"#;
 
 #[test]
-fn shutdowns_come_to_their_texts_and_statuses(rt: HostRuntime) -> Result<(), Fail> {
-    let alloc = rt.alloc();
-    play(&rt, alloc, RUNS)?;
-    play_listed(&rt, alloc, SCHEDULED)
-}
-
-#[test]
-fn a_separate_core_that_is_shut_down_prints_its_block_alone(rt: HostRuntime) -> Result<(), Fail> {
-    let alloc = rt.alloc();
-    let standings = "ok\ncore 0 bound\ncore 1 separate\ncore 2 separate\n";
-    let texts = [Some(SEPARATE)];
-    compare(&rt, alloc, &check_of(), &texts, (standings, "", 0))?;
-    let alone = [
-        (
-            1,
-            r#"{"1":"op"}"#,
-            "core 1\nhook Startup\nact B\npre B\nhook Shutdown E_OS_LIMIT\nended\n",
-        ),
-        (
-            2,
-            r#"{"2":"op op op op"}"#,
-            "core 2\nhook Startup\nact V\npre V\nvar V v0 3\nhook Shutdown E_OS_CALLEVEL\nended\n",
-        ),
-    ];
-    for (core, stimuli, out) in alone.as_slice() {
-        let cut = print(&rt, alloc, &cut_of(*core), &texts)?;
-        assert_eq!(rt; cut.status, 0);
-        let config = str::from_utf8(cut.out.as_slice()).ok().ok_or("a text")?;
-        let files = [Some(config), Some(*stimuli)];
-        compare(&rt, alloc, &run_of(None), &files, (out, "", 0))?;
-    }
-    Ok(())
-}
-
-const LOGS: &[Logged] = &[
-    (
-        ALL_DOWN,
-        ALL_DOWN_STIMULI,
-        None,
-        0,
-        "began 1 E_OK\nentered\npass1 M\nreadied\npass2 0 1\nstim op\nhalt 0 E_OK\ndrained\npassend\nlast 0 E_OK\n",
-        "core 0\nstart 1 E_OK\nhook Startup\nact A\npre A\nhalt 0 E_OK\nhook Shutdown E_OK\n",
-    ),
-    (
-        ALL_DOWN,
-        ALL_DOWN_STIMULI,
-        None,
-        1,
-        "on\nentered\npass1 M\nreadied\npass2 0 1\nstim op\nstim op\nhalt 0 E_OK\ndrained\npassend\nlast 0 E_OK\n",
-        "core 1\nhook Startup\nact B\npre B\nhalt 0 E_OK\nhook Shutdown E_OK\n",
-    ),
-    (
-        ONE_DOWN,
-        ONE_DOWN_STIMULI,
-        None,
-        1,
-        "on\nentered\npass1 M\nreadied\npass2 0 1\nstim op\ndrained\nin 0 0 req ActivateTask B\npost 0\npassend\nlast\n",
-        "core 1\nhook Startup\nact B\npre B\nhook Shutdown E_OK\n",
-    ),
-    (
-        DOWN_FIRST,
-        DOWN_FIRST_STIMULI,
-        None,
-        1,
-        "on\nentered\npass1 M\nreadied\npass2 0 1\nstim op\ndrained\npassend\nlast 0 E_OK\n",
-        "core 1\nhook Startup\nact B\npre B\nhook Shutdown E_OS_NOFUNC\n",
-    ),
-    // The envelopes are posted after the halt.
-    (
-        POSTING,
-        POSTING_STIMULI,
-        Some(POSTING_SCHEDULE),
-        0,
-        "began 1 E_OK\nentered\npass1 M\nreadied\npass2 0 1\nstim op\nstim tick\nhalt 1 E_OS_STATE\npost 1\npost 1\ndrained\npassend\nlast 1 E_OS_STATE\n",
-        "core 0\nstart 1 E_OK\nhook Startup\ntick\nalarm L1\nout 1 ActivateTask P\nalarm L2\nout 1 ActivateTask Q\nhalt 1 E_OS_STATE\nhook Shutdown E_OS_STATE\n",
-    ),
-    (
-        POSTING,
-        POSTING_STIMULI,
-        Some(POSTING_SCHEDULE),
-        1,
-        "on\nentered\npass1 M\nreadied\npass2 0 1\nstim op\nhalt 1 E_OS_STATE\nin 0 0 act ActivateTask P\nin 0 1 act ActivateTask Q\ndrained\npassend\nlast 1 E_OS_STATE\n",
-        "core 1\nhook Startup\nact X\npre X\nhalt 1 E_OS_STATE\nhook Shutdown E_OS_STATE\n",
-    ),
-    (
-        CONFLICT,
-        "{}",
-        None,
-        0,
-        "began 1 E_OK\nbegan 5 E_OS_ID\nentered\npass1 conflict\n",
-        "core 0\nstart 1 E_OK\nstart 5 E_OS_ID\nconflict\n",
-    ),
-    (
-        NO_MODE,
-        "{}",
-        None,
-        1,
-        "on\nentered\npass1 none\nreadied\npass2 0 1\ndrained\npassend\nlast\n",
-        "core 1\nhook Startup\n",
-    ),
-    (
-        TAKES_MODE,
-        r#"{"0":"op"}"#,
-        None,
-        0,
-        "began 1 E_OK\nentered\npass1 N\nreadied\npass2 0 1\nstim op\ndrained\npassend\nlast\n",
-        "core 0\nstart 1 E_OK\nhook Startup\nact A\npre A\npost A\nend A\n",
-    ),
-];
-
-#[test]
-fn logs_of_modes_and_shutdowns_replay_to_their_blocks(rt: HostRuntime) -> Result<(), Fail> {
-    replay_logs(&rt, rt.alloc(), LOGS, 0)
-}
-
-/// The first items of core 0 and of core 1, up to the second barrier.
-const FIRST: &str = "began 1 E_OK\nentered\npass1 M\nreadied\npass2 0 1\n";
-
-const SECOND: &str = "on\nentered\npass1 M\nreadied\npass2 0 1\n";
-
-const REPLAYS: &[Replayed] = &[
-    // Who asked, and for what, is as the log says. A core may end with or without a shutdown of all.
-    (
-        ALL_DOWN,
-        1,
-        SECOND,
-        "halt 255 E_OS_STATE\ndrained\npassend\nlast\n",
-        "core 1\nhook Startup\nact B\npre B\nhalt 255 E_OS_STATE\n",
-        0,
-    ),
-    (
-        ALL_DOWN,
-        1,
-        SECOND,
-        "stim op\ndrained\npassend\nlast 7 E_OS_VALUE\n",
-        "core 1\nhook Startup\nact B\npre B\nhook Shutdown E_OS_VALUE\n",
-        0,
-    ),
-    // After the halt there is no stimulus and no further halt; after the last stimulus there is none either.
-    (
-        ALL_DOWN,
-        1,
-        SECOND,
-        "halt 0 E_OK\nstim op\n",
-        "core 1\nhook Startup\nact B\npre B\nhalt 0 E_OK\n",
-        7,
-    ),
-    (
-        ALL_DOWN,
-        1,
-        SECOND,
-        "halt 0 E_OK\nhalt 0 E_OK\n",
-        "core 1\nhook Startup\nact B\npre B\nhalt 0 E_OK\n",
-        7,
-    ),
-    (
-        ALL_DOWN,
-        1,
-        SECOND,
-        "halt 0 E_OK\npassend\n",
-        "core 1\nhook Startup\nact B\npre B\nhalt 0 E_OK\n",
-        7,
-    ),
-    (
-        ALL_DOWN,
-        1,
-        SECOND,
-        "drained\nhalt 0 E_OK\n",
-        "core 1\nhook Startup\nact B\npre B\n",
-        7,
-    ),
-    // Nor is there one before the second barrier, nor behind the last one.
-    (
-        ALL_DOWN,
-        1,
-        "on\nentered\npass1 M\nreadied\n",
-        "halt 0 E_OK\n",
-        "core 1\nhook Startup\n",
-        5,
-    ),
-    (
-        ALL_DOWN,
-        1,
-        SECOND,
-        "drained\npassend\nhalt 0 E_OK\n",
-        "core 1\nhook Startup\nact B\npre B\n",
-        8,
-    ),
-    // A core that has asked awaits the halt, whoever asked first.
-    (
-        ALL_DOWN,
-        0,
-        FIRST,
-        "stim op\nhalt 1 E_OS_LIMIT\ndrained\n",
-        "core 0\nstart 1 E_OK\nhook Startup\nact A\npre A\nhalt 1 E_OS_LIMIT\n",
-        0,
-    ),
-    (
-        ALL_DOWN,
-        0,
-        FIRST,
-        "stim op\nstim op\n",
-        "core 0\nstart 1 E_OK\nhook Startup\nact A\npre A\n",
-        7,
-    ),
-    (
-        ALL_DOWN,
-        0,
-        FIRST,
-        "stim op\ndrained\n",
-        "core 0\nstart 1 E_OK\nhook Startup\nact A\npre A\n",
-        7,
-    ),
-    // A core that awaits a reply takes no halt.
-    (
-        ONE_DOWN,
-        0,
-        FIRST,
-        "stim op\nstim op\nhalt 1 E_OK\n",
-        "core 0\nstart 1 E_OK\nhook Startup\nact A\npre A\nout 1 ActivateTask B\n",
-        8,
-    ),
-    (
-        ONE_DOWN,
-        0,
-        FIRST,
-        "stim op\nstim op\npost 1\nhalt 1 E_OK\n",
-        "core 0\nstart 1 E_OK\nhook Startup\nact A\npre A\nout 1 ActivateTask B\n",
-        9,
-    ),
-    (
-        ONE_DOWN,
-        0,
-        FIRST,
-        "stim op\nstim op\npost 1\nin 1 0 rep E_OS_CORE\nhalt 1 E_OK\n",
-        "core 0\nstart 1 E_OK\nhook Startup\nact A\npre A\nout 1 ActivateTask B\nstat A ActivateTask E_OS_CORE\nhook Error E_OS_CORE\nhalt 1 E_OK\n",
-        0,
-    ),
-    // A core that is down takes no stimulus and no halt, and calls no hook a second time.
-    (
-        ONE_DOWN,
-        1,
-        SECOND,
-        "stim op\nstim op\n",
-        "core 1\nhook Startup\nact B\npre B\nhook Shutdown E_OK\n",
-        7,
-    ),
-    (
-        ONE_DOWN,
-        1,
-        SECOND,
-        "stim op\nhalt 0 E_OS_ID\n",
-        "core 1\nhook Startup\nact B\npre B\nhook Shutdown E_OK\n",
-        7,
-    ),
-    (
-        ONE_DOWN,
-        1,
-        SECOND,
-        "stim op\ndrained\npassend\nlast 0 E_OS_ID\n",
-        "core 1\nhook Startup\nact B\npre B\nhook Shutdown E_OK\n",
-        0,
-    ),
-    // A core that names a mode passes in it or in a conflict; one that names none in any.
-    (TAKES_MODE, 1, "on\nentered\n", "pass1 M\n", "core 1\n", 3),
-    (
-        TAKES_MODE,
-        1,
-        "on\nentered\n",
-        "pass1 none\n",
-        "core 1\n",
-        3,
-    ),
-    (
-        TAKES_MODE,
-        1,
-        "on\nentered\n",
-        "pass1 conflict\nreadied\n",
-        "core 1\nconflict\n",
-        4,
-    ),
-    (
-        TAKES_MODE,
-        0,
-        "began 1 E_OK\nentered\n",
-        "pass1 M\nreadied\npass2 0\n",
-        "core 0\nstart 1 E_OK\nhook Startup\nact B\npre B\n",
-        0,
-    ),
-    (
-        TAKES_MODE,
-        0,
-        "began 1 E_OK\nentered\n",
-        "pass1 none\nreadied\npass2 0\n",
-        "core 0\nstart 1 E_OK\nhook Startup\n",
-        0,
-    ),
-    (
-        TAKES_MODE,
-        0,
-        "began 1 E_OK\nentered\n",
-        "pass1 conflict\n",
-        "core 0\nstart 1 E_OK\nconflict\n",
-        0,
-    ),
-];
-
-#[test]
-fn a_core_takes_a_halt_and_a_mode_where_it_may(rt: HostRuntime) -> Result<(), Fail> {
-    replay_up_to(&rt, rt.alloc(), REPLAYS)
+fn shutdowns_come_to_their_texts(rt: HostRuntime) -> Result<(), Fail> {
+    play_all(&rt, rt.alloc(), &[ALL_DOWN, ASKERS, RUNS], 52)
 }

@@ -1,18 +1,11 @@
 //! Runs by threads. Each prints what every order of the cores' turns prints, or is compared with itself.
 
-use super::logs::replay_of;
-use super::shutdown::{
-    ALL_DOWN, ALL_DOWN_STIMULI, ALL_DOWN_TRACE, ASKERS, ASKERS_STIMULI, DRAINED_TRACE, FIRST_ASKED,
-    SECOND_ASKED,
-};
-use super::spinlocks::{
-    OWED, OWED_STIMULI, OWED_TRACE, POLLING, POLLING_STIMULI, REFUSED, REFUSED_STIMULI, SHARED,
-    SHARED_STIMULI, SHARED_TRACE,
-};
-use super::{Printed, compare, print};
+use super::shutdown::{ALL_DOWN, ASKERS};
+use super::spinlock_ends::OWED;
+use super::spinlock_logs::{POLLING, REFUSED, SHARED};
+use super::{compare, given, play_all, print, replay_of, run_of, threads_of};
 use crate::threads::Yielding;
-use osbase::{CoreId, Report};
-use oscommand::Job;
+use osbase::Report;
 use osconf::{Config, read_config, read_stimuli};
 use oslog::items_text;
 use osthreads::{MailKind, run_threads};
@@ -28,33 +21,139 @@ use std::{slice, str};
 const MANY: u64 = 1_000_000_000;
 
 /// Some turns, for a run that does not end.
-const FEW: u64 = 1_000;
+pub(super) const FEW: u64 = 1_000;
 
-/// Two cores, each of whose first task activates the other's second one, and a separate core.
-pub(super) const BOUND_AND_SEPARATE: &str =
-    r#"{"cores":[{"id":0,"start":[1,2],"tasks":[{"name":"A","prio":2,"auto":["M"],"script":"ActivateTask D;TerminateTask"},{"name":"C","prio":1,"script":"TerminateTask"}]},{"id":1,"tasks":[{"name":"B","prio":2,"auto":["M"],"script":"ActivateTask C;TerminateTask"},{"name":"D","prio":1,"script":"TerminateTask"}]},{"id":2,"tasks":[{"name":"V","prio":1,"auto":["M"],"script":"add v0 3;TerminateTask"}]}]}"#;
+pub(super) const BOUND_AND_SEPARATE: &str = r#"
+// Two cores, each of whose first task activates the other's second one, and a separate core.
+config {"cores":[{"id":0,"start":[1,2],"tasks":[{"name":"A","prio":2,"auto":["M"],"script":"ActivateTask D;TerminateTask"},{"name":"C","prio":1,"script":"TerminateTask"}]},{"id":1,"tasks":[{"name":"B","prio":2,"auto":["M"],"script":"ActivateTask C;TerminateTask"},{"name":"D","prio":1,"script":"TerminateTask"}]},{"id":2,"tasks":[{"name":"V","prio":1,"auto":["M"],"script":"add v0 3;TerminateTask"}]}]}
+check
+ok
+core 0 bound
+core 1 bound
+core 2 separate
 
-pub(super) const STIMULI: &str = r#"{"0":"op op op","1":"op op op","2":"op op"}"#;
+stimuli {"0":"op op op","1":"op op op","2":"op op"}
+run
+core 0
+start 1 E_OK
+start 2 E_OK
+hook Startup
+act A
+pre A
+out 1 ActivateTask D
+act C
+in 1 ActivateTask C E_OK
+stat A ActivateTask E_OK
+post A
+end A
+pre C
+post C
+end C
+core 1
+hook Startup
+act B
+pre B
+out 0 ActivateTask C
+act D
+in 0 ActivateTask D E_OK
+stat B ActivateTask E_OK
+post B
+end B
+pre D
+post D
+end D
+core 2
+hook Startup
+act V
+pre V
+var V v0 3
+post V
+end V
+ended
+
+// Sixteen rounds of three cores, each round the other way round than the default schedule's.
+turns "2l 2o 1l 1s0 1o 0l 0s1 0o 2l 2o 1l 1s0 1o 0l 0s1 0o 2l 2o 1l 1s0 1o 0l 0s1 0o 2l 2o 1l 1s0 1o 0l 0s1 0o 2l 2o 1l 1s0 1o 0l 0s1 0o 2l 2o 1l 1s0 1o 0l 0s1 0o 2l 2o 1l 1s0 1o 0l 0s1 0o 2l 2o 1l 1s0 1o 0l 0s1 0o 2l 2o 1l 1s0 1o 0l 0s1 0o 2l 2o 1l 1s0 1o 0l 0s1 0o 2l 2o 1l 1s0 1o 0l 0s1 0o 2l 2o 1l 1s0 1o 0l 0s1 0o 2l 2o 1l 1s0 1o 0l 0s1 0o 2l 2o 1l 1s0 1o 0l 0s1 0o 2l 2o 1l 1s0 1o 0l 0s1 0o 2l 2o 1l 1s0 1o 0l 0s1 0o"
+run
+as before
+
+threads 1000000000 2
+on
+entered
+pass1 M
+readied
+pass2 0 1 2
+stim op
+stim op
+drained
+passend
+last
+"#;
+
+const RUNS: &str = r#"
+// A core gives up once so many turns in a row changed nothing.
+config {"cores":[{"id":0,"tasks":[{"name":"A","prio":1,"auto":["M"],"script":"work;TerminateTask"}]}]}
+stimuli {"0":"op op"}
+threads 1 -> 3
+core 0
+hook Startup
+act A
+pre A
+stalled
+
+threads 2
+core 0
+hook Startup
+act A
+pre A
+post A
+end A
+ended
+
+config {"cores":[{"id":0,"start":[1],"tasks":[{"name":"A","prio":1,"auto":["M"],"script":"ActivateTask B;TerminateTask"}]},{"id":1,"tasks":[{"name":"B","prio":1,"script":"TerminateTask"}]}]}
+stimuli {}
+threads 1 -> 3
+core 0
+core 1
+stalled
+
+config {"cores":[{"id":0},{"id":5}]}
+stimuli {}
+threads 1000
+core 0
+hook Startup
+core 5
+ended
+
+// Faults come in their order.
+config {}
+stimuli x
+threads 1000000000 9
+fault 2 Shape
+
+config {"cores":[{"id":0,"tasks":[{"name":"A","prio":1,"auto":["M"],"script":"work;TerminateTask"}]}]}
+stimuli x
+threads 1000000000 9
+fault 5 UnknownName
+
+threads 1000000000
+fault 1 NotJson
+
+config {"cores":[{"id":0,"tasks":[{"name":"A","prio":1,"auto":["M"],"script":"work;TerminateTask"}]}]}
+threads 1000000000 0
+fault 21 Unreadable
+"#;
 
 /// The separate core's block, and the last line.
-pub(super) const SEPARATE_END: &str =
-    "core 2\nhook Startup\nact V\npre V\nvar V v0 3\npost V\nend V\nended\n";
+const SEPARATE_END: &str = "core 2\nhook Startup\nact V\npre V\nvar V v0 3\npost V\nend V\nended\n";
 
-/// The separate core's log.
-const SEPARATE_LOG: &str =
-    "on\nentered\npass1 M\nreadied\npass2 0 1 2\nstim op\nstim op\ndrained\npassend\nlast\n";
-
-/// A core with a task of two operations.
-const ALONE: &str =
-    r#"{"cores":[{"id":0,"tasks":[{"name":"A","prio":1,"auto":["M"],"script":"work;TerminateTask"}]}]}"#;
-
-fn threads_of(turns: u64, items: Option<u8>) -> Job<'static> {
-    Job::Threads {
-        config: "config.json",
-        stimuli: "stim.json",
-        turns,
-        items: items.map(|number| CoreId { number }),
-    }
+#[test]
+fn runs_by_threads_come_to_their_texts(rt: HostRuntime) -> Result<(), Fail> {
+    play_all(
+        &rt,
+        rt.alloc(),
+        &[BOUND_AND_SEPARATE, RUNS, OWED, SHARED],
+        49,
+    )
 }
 
 #[test]
@@ -62,20 +161,20 @@ fn cores_that_call_each_other_end_and_a_separate_one_prints_its_block(
     rt: HostRuntime,
 ) -> Result<(), Fail> {
     let alloc = rt.alloc();
-    let texts = [Some(BOUND_AND_SEPARATE), Some(STIMULI)];
-    let run: Printed = print(&rt, alloc, &threads_of(MANY, None), &texts)?;
+    let (config, stimuli) = given(BOUND_AND_SEPARATE)?;
+    let texts = [Some(config), Some(stimuli)];
+    let run = print(&rt, alloc, &threads_of(MANY, None), &texts)?;
     assert_eq!(rt; run.status, 0);
     assert!(rt; run.err.is_empty());
     let out = str::from_utf8(run.out.as_slice()).ok().ok_or("a text")?;
     assert!(rt; out.contains("stat A ActivateTask E_OK\n"));
     assert!(rt; out.contains("stat B ActivateTask E_OK\n"));
     assert!(rt; out.ends_with(SEPARATE_END));
-    let log = threads_of(MANY, Some(2));
-    compare(&rt, alloc, &log, &texts, (SEPARATE_LOG, "", 0))
+    Ok(())
 }
 
 // The block of a report as `run` prints it.
-fn block_of(alloc: Global, config: &Config, report: &Report) -> Result<String, Fail> {
+pub(super) fn block_of(alloc: Global, config: &Config, report: &Report) -> Result<String, Fail> {
     let mut out = MemorySink::new(Vec::new(alloc));
     write_reports(config, &mut out, slice::from_ref(report))
         .ok()
@@ -107,15 +206,16 @@ fn replays(
 fn each_log_of_a_run_by_threads_replays_to_its_block(rt: HostRuntime) -> Result<(), Fail> {
     let alloc = rt.alloc();
     let examples = [
-        (BOUND_AND_SEPARATE, STIMULI, 3, MANY),
-        (ALL_DOWN, ALL_DOWN_STIMULI, 2, MANY),
-        (ASKERS, ASKERS_STIMULI, 2, MANY),
-        (OWED, OWED_STIMULI, 2, MANY),
-        (POLLING, POLLING_STIMULI, 2, MANY),
-        (SHARED, SHARED_STIMULI, 3, MANY),
-        (REFUSED, REFUSED_STIMULI, 2, FEW),
+        (BOUND_AND_SEPARATE, 3, MANY),
+        (ALL_DOWN, 2, MANY),
+        (ASKERS, 2, MANY),
+        (OWED, 2, MANY),
+        (POLLING, 2, MANY),
+        (SHARED, 3, MANY),
+        (REFUSED, 2, FEW),
     ];
-    for (text, stimuli, cores, turns) in examples.as_slice() {
+    for (table, cores, turns) in examples.as_slice() {
+        let (text, stimuli) = given(table)?;
         let config = read_config(alloc, text)?;
         let stimuli = read_stimuli(alloc, &config, stimuli)?;
         let run = run_threads(
@@ -134,96 +234,47 @@ fn each_log_of_a_run_by_threads_replays_to_its_block(rt: HostRuntime) -> Result<
     Ok(())
 }
 
-// A run by threads ends, and prints one of these two texts.
+// A run by threads of a table's first files ends. It prints what their run by the default schedule does, or what the run of
+// these files does.
 fn prints_either(
     rt: &(impl Abort + Threads + Wait + Sync),
     alloc: Global,
-    texts: &[Option<&str>],
-    (one, other): (&str, &str),
+    table: &str,
+    schedule: Option<&'static str>,
+    files: &[Option<&str>],
 ) -> Result<(), Fail> {
-    let run = print(rt, alloc, &threads_of(MANY, None), texts)?;
+    let (config, stimuli) = given(table)?;
+    let texts = [Some(config), Some(stimuli)];
+    let one = print(rt, alloc, &run_of(None), &texts)?;
+    let other = print(rt, alloc, &run_of(schedule), files)?;
+    let run = print(rt, alloc, &threads_of(MANY, None), &texts)?;
     assert_eq!(rt; run.status, 0);
     assert!(rt; run.err.is_empty());
     let out = run.out.as_slice();
-    assert!(rt; out == one.as_bytes() || out == other.as_bytes());
+    assert!(rt; out == one.out.as_slice() || out == other.out.as_slice());
     Ok(())
 }
 
 #[test]
 fn all_cores_see_who_asked_first_for_their_shutdown(rt: HostRuntime) -> Result<(), Fail> {
     let alloc = rt.alloc();
-    let askers = [Some(ASKERS), Some(ASKERS_STIMULI)];
-    prints_either(&rt, alloc, &askers, (FIRST_ASKED, SECOND_ASKED))?;
+    let (askers, stimuli) = given(ASKERS)?;
+    let second_first = r#""0o 1l 1o 0o 0l 1l 0o 1o 0l 1l 0o 1o 1o 0l 0o 1o 0o 0l 1l 0l 1l""#;
+    let files = [Some(askers), Some(stimuli), Some(second_first)];
+    prints_either(&rt, alloc, ASKERS, Some("turns.json"), &files)?;
     // The second core may have drained before it sees the halt.
-    let all = [Some(ALL_DOWN), Some(ALL_DOWN_STIMULI)];
-    prints_either(&rt, alloc, &all, (ALL_DOWN_TRACE, DRAINED_TRACE))
-}
-
-#[test]
-fn cores_that_share_a_spinlock_end(rt: HostRuntime) -> Result<(), Fail> {
-    let examples = [
-        (OWED, OWED_STIMULI, OWED_TRACE),
-        (SHARED, SHARED_STIMULI, SHARED_TRACE),
-    ];
-    for (config, stimuli, out) in examples.as_slice() {
-        let texts = [Some(*config), Some(*stimuli)];
-        let job = threads_of(MANY, None);
-        compare(&rt, rt.alloc(), &job, &texts, (out, "", 0))?;
-    }
-    Ok(())
+    let (all_down, _) = given(ALL_DOWN)?;
+    let files = [Some(all_down), Some(r#"{"0":"op"}"#)];
+    prints_either(&rt, alloc, ALL_DOWN, None, &files)
 }
 
 #[test]
 fn a_core_that_waits_for_a_spinlock_gives_up_whoever_took_it(rt: HostRuntime) -> Result<(), Fail> {
-    let texts = [Some(REFUSED), Some(REFUSED_STIMULI)];
+    let (config, stimuli) = given(REFUSED)?;
+    let texts = [Some(config), Some(stimuli)];
     let run = print(&rt, rt.alloc(), &threads_of(FEW, None), &texts)?;
     assert_eq!(rt; run.status, 3);
     assert!(rt; run.err.is_empty());
     assert!(rt; run.out.as_slice().ends_with(b"stalled\n"));
-    Ok(())
-}
-
-// Turns, a core's stimuli, and what is printed.
-#[test]
-fn a_core_gives_up_once_so_many_turns_in_a_row_changed_nothing(
-    rt: HostRuntime,
-) -> Result<(), Fail> {
-    let alloc = rt.alloc();
-    let alone = "core 0\nhook Startup\nact A\npre A\n";
-    let stalled = format!(in alloc; "{alone}stalled\n")?;
-    let ended = format!(in alloc; "{alone}post A\nend A\nended\n")?;
-    let never_started = r#"{"cores":[{"id":0},{"id":5}]}"#;
-    let examples = [
-        (ALONE, r#"{"0":"op op"}"#, 1, stalled.as_str(), 3),
-        (ALONE, r#"{"0":"op op"}"#, 2, ended.as_str(), 0),
-        (super::BORDER, "{}", 1, "core 0\ncore 1\nstalled\n", 3),
-        (
-            never_started,
-            "{}",
-            1000,
-            "core 0\nhook Startup\ncore 5\nended\n",
-            0,
-        ),
-    ];
-    for (config, stimuli, turns, out, status) in examples.as_slice() {
-        let texts = [Some(*config), Some(*stimuli)];
-        let job = threads_of(*turns, None);
-        compare(&rt, alloc, &job, &texts, (out, "", *status))?;
-    }
-    Ok(())
-}
-
-#[test]
-fn faults_of_a_run_by_threads_come_in_their_order(rt: HostRuntime) -> Result<(), Fail> {
-    let examples = [
-        (Some("{}"), Some("x"), Some(9), "fault 2 Shape\n"),
-        (Some(ALONE), Some("x"), Some(9), "fault 5 UnknownName\n"),
-        (Some(ALONE), Some("x"), None, "fault 1 NotJson\n"),
-        (Some(ALONE), None, Some(0), "fault 21 Unreadable\n"),
-    ];
-    for (config, stimuli, items, err) in examples.as_slice() {
-        let job = threads_of(MANY, *items);
-        compare(&rt, rt.alloc(), &job, &[*config, *stimuli], ("", err, 1))?;
-    }
     Ok(())
 }
