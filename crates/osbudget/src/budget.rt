@@ -54,7 +54,9 @@ impl Used {
 }
 
 impl Default for Used {
-    fn default() -> Self {
+    fn default() -> Self
+        ensures { result ≡ 0 }
+    {
         Used::new()
     }
 }

@@ -63,7 +63,9 @@ impl Locks {
 }
 
 impl Default for Locks {
-    fn default() -> Self {
+    fn default() -> Self
+        ensures { result ≡ 0 }
+    {
         Locks::new()
     }
 }
