@@ -82,6 +82,7 @@ fn isr_named(core: &Core, name: &[u8]) -> Option<IsrRef>
 }
 
 // The stimulus of this word.
+#[inline(always)]
 fn stimulus_of(core: &Core, word: &[u8]) -> Option<Stimulus>
     ensures { result ≡ stimulus_of core.now word.now }
 {
@@ -106,7 +107,8 @@ impl WordReader<Stimulus> for StimulusReader<'_> {
         stimulus_of(self.core, word)
     }
 
-    // The words that come most are compared where they would stand, and their ends are not looked for.
+    // The words that come most are compared where they would stand, and their ends are not looked for. What reads a
+    // stimulus is inlined, so that no byte is compared twice.
     #[inline(always)]
     fn front<'t>(&self, text: &'t [u8]) -> Option<(Option<Stimulus>, &'t [u8])> {
         match text {
