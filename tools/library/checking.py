@@ -10,6 +10,7 @@ import tempfile
 from dataclasses import dataclass, replace
 from typing import Iterable, List, Sequence, Tuple, TypeVar
 
+from library import ending
 from library.formats import MOST_TURNS
 from library.items import Item
 from library.runs import Source, blocks_of
@@ -54,8 +55,7 @@ def spread(values: List[Value], most: int) -> List[Value]:
 
 def _of_turns(timeline: Timeline, source: Source, path: str, end: int) -> Iterable[str]:
     """Where a run of the first turns prints other lines than those that are placed there."""
-    with open(path, "w", encoding="utf-8") as file:
-        json.dump(" ".join(first_turns(timeline.run, end)), file)
+    ending.save(path, json.dumps(" ".join(first_turns(timeline.run, end))))
     blocks = blocks_of(replace(source, schedule=path).printed().text)
     for core, items in timeline.by_core.items():
         placed = [item for item in items if item.turn <= end]
@@ -65,8 +65,7 @@ def _of_turns(timeline: Timeline, source: Source, path: str, end: int) -> Iterab
 def _of_items(timeline: Timeline, source: Source, path: str, core: int, end: int) -> Iterable[str]:
     """Where a replay of a core's first items prints other lines than those that are placed there."""
     placed = timeline.by_core[core][:end]
-    with open(path, "w", encoding="utf-8") as file:
-        file.write("".join(item.text + "\n" for item in placed))
+    ending.save(path, "".join(item.text + "\n" for item in placed))
     block = source.replayed(core, path).splitlines()[1:]
     yield from _differences("after %d items of core %d" % (end, core), placed, block)
 

@@ -1,11 +1,9 @@
-"""The words that the tools for runs share: which run it is, and how a tool ends."""
+"""The words that the tools for runs share: which run it is."""
 
 import argparse
-import signal
-import sys
-from typing import Callable, Iterable
+from typing import Iterable
 
-from library.program import Failed, program_of
+from library.program import program_of
 from library.runs import Source, read_run
 from library.timeline import Timeline, timeline_of
 
@@ -40,14 +38,3 @@ def count(word: str) -> int:
     if not word.isdecimal() or int(word) < 1:
         raise argparse.ArgumentTypeError("%r is no number from 1 on" % word)
     return int(word)
-
-
-def ended(main: Callable[[], int]) -> int:
-    """Runs a tool. What it fails for is a line on the standard error, and status 1."""
-    # A reader that ends early, as `head` does, ends the script without a word.
-    signal.signal(signal.SIGPIPE, signal.SIG_DFL)
-    try:
-        return main()
-    except Failed as failed:
-        print(failed, file=sys.stderr)
-        return 1

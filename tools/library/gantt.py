@@ -8,8 +8,8 @@ from dataclasses import dataclass
 from typing import Dict, Iterable, List, NamedTuple, Optional, Tuple
 from xml.sax.saxutils import escape
 
+from library.ending import Failed
 from library.jobs import INTERRUPTED, READY, RUNNING, WAITING, Envelope, Jobs
-from library.program import Failed
 from library.states import held_by_task, rows_of, stretches_by_name
 from library.timeline import Timeline
 from library.turns import default_round

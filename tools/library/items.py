@@ -10,6 +10,7 @@ from dataclasses import dataclass, field
 from typing import Dict, List, NamedTuple, Optional, Tuple
 
 from library.drafts import Draft
+from library.ending import Failed
 from library.formats import (
     HALTS_ALL,
     IGNORED_IF_SUSPENDED,
@@ -21,7 +22,6 @@ from library.formats import (
     operations_of,
 )
 from library.model import ALARM, ISR, SCRIPTED, TABLE, TASK
-from library.program import Failed
 from library.runs import Run
 
 CORE = "core"  # of a deed: another core's envelope is served

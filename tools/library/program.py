@@ -6,13 +6,11 @@ import subprocess
 from dataclasses import dataclass
 from typing import Optional, Sequence
 
+from library.ending import Failed
+
 ROOT = os.path.dirname(os.path.dirname(os.path.dirname(os.path.abspath(__file__))))
 BUILT = os.path.join(ROOT, "crates", "mcos", "out", "mcos")
 STALLED = 3
-
-
-class Failed(Exception):
-    """Why a tool has nothing to print: lines for the standard error."""
 
 
 @dataclass(frozen=True)

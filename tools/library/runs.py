@@ -5,10 +5,12 @@ import re
 from dataclasses import dataclass
 from typing import Dict, List, Optional, Sequence, Tuple
 
+from library import ending
 from library.drafts import Draft
+from library.ending import Failed
 from library.formats import words_of
 from library.judging import judge_configuration
-from library.program import Failed, Printed, printed
+from library.program import Printed, printed
 
 _CORE = re.compile(r"core ([0-9]+)")
 
@@ -86,18 +88,9 @@ def _tuples(texts: Dict[int, Sequence[str]]) -> Dict[int, Tuple[str, ...]]:
     return {core: tuple(lines) for core, lines in texts.items()}
 
 
-def _read(path: str) -> bytes:
-    """The bytes of a file."""
-    try:
-        with open(path, "rb") as file:
-            return file.read()
-    except OSError as error:
-        raise Failed("%s: cannot be read: %s" % (path, error.strerror)) from None
-
-
 def _draft(path: str) -> Draft:
     """The configuration that the program has accepted."""
-    judgement = judge_configuration(_read(path))
+    judgement = judge_configuration(ending.read(path))
     if judgement.least or judgement.draft is None:
         raise Failed("%s: mcos accepts it, and tools/explain says %s" % (path, judgement.findings[0].fault))
     return judgement.draft
@@ -105,4 +98,4 @@ def _draft(path: str) -> Draft:
 
 def _turns(path: str) -> Tuple[str, ...]:
     """The turns of a schedule that the program has accepted."""
-    return tuple(words_of(json.loads(_read(path))))
+    return tuple(words_of(json.loads(ending.read(path))))

@@ -8,9 +8,9 @@ from collections import Counter, deque
 from itertools import chain, islice, repeat
 from typing import Dict, List, NamedTuple, Optional, Sequence, Set
 
+from library.ending import Failed
 from library.formats import TURN
 from library.items import OK, Item, items_of
-from library.program import Failed
 from library.runs import Run
 
 SERVE = "s"

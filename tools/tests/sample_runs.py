@@ -16,6 +16,7 @@ sys.dont_write_bytecode = True
 if TOOLS not in sys.path:
     sys.path.insert(0, TOOLS)
 from library import runs, timeline  # noqa: E402
+from library.ending import Failed  # noqa: E402
 
 PROGRAM = os.path.abspath(os.environ.get("MCOS", os.path.join(ROOT, "crates", "mcos", "out", "mcos")))
 EXAMPLES = os.path.join(ROOT, "examples")
@@ -129,4 +130,7 @@ def called(main, *words):
             status = main(words)
         except SystemExit as ended:
             status = ended.code
+        except Failed as failed:
+            status = 1
+            print(failed, file=messages)
     return status, output.getvalue(), messages.getvalue()

@@ -1,8 +1,6 @@
 """What `tools/border` prints, and that its words for the cores are those of `mcos check`."""
 
-import contextlib
 import glob
-import io
 import json
 import os
 import runpy
@@ -11,15 +9,12 @@ import sys
 import tempfile
 import unittest
 
-TOOLS = os.path.dirname(os.path.dirname(os.path.abspath(__file__)))
-ROOT = os.path.dirname(TOOLS)
-sys.dont_write_bytecode = True
-sys.path[:0] = [TOOLS, os.path.dirname(os.path.abspath(__file__))]
+sys.path.insert(0, os.path.dirname(os.path.abspath(__file__)))
 import documents  # noqa: E402
+from sample_runs import PROGRAM, ROOT, TOOLS, called, needs_program  # noqa: E402
 from library import border, judging, model  # noqa: E402
 
 MAIN = runpy.run_path(os.path.join(TOOLS, "border"))["main"]
-PROGRAM = os.environ.get("MCOS", os.path.join(ROOT, "crates", "mcos", "out", "mcos"))
 
 # Three cores with starts, an alarm, a table, requests and a reference that does not cross; three that are off.
 CONFIGURATION = """{"cores": [
@@ -417,40 +412,30 @@ class Reports(unittest.TestCase):
 
 
 class Commands(unittest.TestCase):
-    def run_border(self, *words):
-        """The status, the output and the messages of the script with these words."""
-        output, messages = io.StringIO(), io.StringIO()
-        with contextlib.redirect_stdout(output), contextlib.redirect_stderr(messages):
-            try:
-                status = MAIN(words)
-            except SystemExit as ended:
-                status = ended.code
-        return status, output.getvalue(), messages.getvalue()
-
     def test_printed(self):
         with tempfile.TemporaryDirectory() as folder:
             path = os.path.join(folder, "c.json")
             with open(path, "w", encoding="utf-8") as file:
                 file.write(CONFIGURATION)
-            self.assertEqual(self.run_border(path), (0, REPORT, ""))
-            self.assertEqual(self.run_border("--dot", path), (0, GRAPH, ""))
+            self.assertEqual(called(MAIN, path), (0, REPORT, ""))
+            self.assertEqual(called(MAIN, "--dot", path), (0, GRAPH, ""))
 
     def test_refused(self):
         for name, fault in (("limit", "fault 3 Limit"), ("not_json", "fault 1 NotJson"), ("shape", "fault 2 Shape")):
             path = os.path.join(ROOT, "examples", "faults", name + ".json")
             with self.subTest(name=name):
                 expected = "%s: %s; run tools/explain %s\n" % (path, fault, path)
-                self.assertEqual(self.run_border(path), (1, "", expected))
+                self.assertEqual(called(MAIN, path), (1, "", expected))
         expected = "none.json: cannot be read: No such file or directory\n"
-        self.assertEqual(self.run_border("none.json"), (1, "", expected))
+        self.assertEqual(called(MAIN, "none.json"), (1, "", expected))
 
     def test_wrong_usage(self):
         for words in ((), ("a", "b"), ("--svg", "a")):
             with self.subTest(words=words):
-                self.assertEqual(self.run_border(*words)[:2], (2, ""))
+                self.assertEqual(called(MAIN, *words)[:2], (2, ""))
 
 
-@unittest.skipUnless(os.path.exists(PROGRAM), "%s is not built" % PROGRAM)
+@needs_program
 class AsTheProgram(unittest.TestCase):
     def hold(self, path):
         """Holds the words for the cores to those of `mcos check`, and says whether it accepts the configuration."""

@@ -1,8 +1,6 @@
 """What `tools/expand` prints, refuses and maps."""
 
-import contextlib
 import glob
-import io
 import json
 import os
 import runpy
@@ -11,15 +9,12 @@ import sys
 import tempfile
 import unittest
 
-TOOLS = os.path.dirname(os.path.dirname(os.path.abspath(__file__)))
-ROOT = os.path.dirname(TOOLS)
-sys.dont_write_bytecode = True
-sys.path[:0] = [TOOLS, os.path.dirname(os.path.abspath(__file__))]
+sys.path.insert(0, os.path.dirname(os.path.abspath(__file__)))
 import documents  # noqa: E402
+from sample_runs import PROGRAM, ROOT, TOOLS, called, needs_program  # noqa: E402
 from library import expanding, source_map  # noqa: E402
 from library.places import Place, read_document  # noqa: E402
 
-PROGRAM = os.environ.get("MCOS", os.path.join(ROOT, "crates", "mcos", "out", "mcos"))
 MAIN = runpy.run_path(os.path.join(TOOLS, "expand"))["main"]
 
 # A script of the task `Own` with the events Rx, Tx, Tick, where the task `Far` has the event Go; what it expands to.
@@ -345,17 +340,6 @@ class Whole(unittest.TestCase):
         with open(os.path.join(self.folder, name), "w", encoding="utf-8") as file:
             file.write(text)
 
-    def run_expand(self, *words):
-        """The status, the output and the messages of the script with these words, in the folder."""
-        output, messages = io.TextIOWrapper(io.BytesIO(), encoding="utf-8"), io.StringIO()
-        with contextlib.redirect_stdout(output), contextlib.redirect_stderr(messages):
-            try:
-                status = MAIN(words)
-            except SystemExit as ended:
-                status = ended.code
-        output.flush()
-        return status, output.buffer.getvalue().decode("utf-8"), messages.getvalue()
-
     def test_the_layout_stays(self):
         self.write("a.json", SOURCE)
         done = subprocess.run([os.path.join(TOOLS, "expand"), "a.json"], capture_output=True, encoding="utf-8")
@@ -364,7 +348,7 @@ class Whole(unittest.TestCase):
     def test_the_document(self):
         self.write("source.json", documents.example("This is `source.json`:"))
         expanded = documents.example("`tools/expand source.json` prints")
-        self.assertEqual(self.run_expand("source.json", "--map", "source.map"), (0, expanded, ""))
+        self.assertEqual(called(MAIN, "source.json", "--map", "source.map"), (0, expanded, ""))
         with open("source.map", encoding="utf-8") as file:
             map_lines = [line.rstrip(",}\n") for line in file]
         for line in documents.example("with an entry on each line:").splitlines():
@@ -372,7 +356,7 @@ class Whole(unittest.TestCase):
                 self.assertIn(line.rstrip(",}"), map_lines)
         self.write("source.json", documents.example("This is `source.json`:").replace("jump again", "jump agian"))
         refused = documents.example("and a word of stimuli or of a schedule that is none.")
-        self.assertEqual(self.run_expand("source.json"), (1, "", refused))
+        self.assertEqual(called(MAIN, "source.json"), (1, "", refused))
 
     def test_a_full_disk(self):
         self.write("a.json", SOURCE)
@@ -385,7 +369,7 @@ class Whole(unittest.TestCase):
 
     def test_map(self):
         self.write("a.json", SOURCE)
-        self.assertEqual(self.run_expand("--map", "a.map", "a.json"), (0, EXPANDED, ""))
+        self.assertEqual(called(MAIN, "--map", "a.map", "a.json"), (0, EXPANDED, ""))
         with open(os.path.join(self.folder, "a.map"), encoding="utf-8") as file:
             places = source_map.read_map(file.read())
         self.assertEqual(places.source, "a.json")
@@ -425,54 +409,54 @@ class Whole(unittest.TestCase):
     def test_refused(self):
         self.write("a.json", '{"0": "op",\n "1": "tik"}')
         message = "a.json:2:8: stimuli are `op`, `tick` and `irq=I`, not `tik`; did you mean `tick`?\n"
-        self.assertEqual(self.run_expand("a.json", "--map", "a.map"), (1, "", message))
+        self.assertEqual(called(MAIN, "a.json", "--map", "a.map"), (1, "", message))
         self.assertFalse(os.path.exists(os.path.join(self.folder, "a.map")))
 
     def test_a_member_twice(self):
         self.write("a.json", '{"cores": [],\n "cores": []}')
         message = "a.json:2:2: the member `cores` stands twice in this object, first in line 1\n"
-        self.assertEqual(self.run_expand("a.json"), (1, "", message))
+        self.assertEqual(called(MAIN, "a.json"), (1, "", message))
 
     def test_files(self):
         self.write("a.json", '{"cores": [')
         message = "a.json:1:12: no JSON: the file ends here, and a value is wanted: `[` of line 1 is open\n"
-        self.assertEqual(self.run_expand("a.json"), (1, "", message))
+        self.assertEqual(called(MAIN, "a.json"), (1, "", message))
         message = "none.json: cannot be read: No such file or directory\n"
-        self.assertEqual(self.run_expand("none.json"), (1, "", message))
+        self.assertEqual(called(MAIN, "none.json"), (1, "", message))
         self.write("b.json", "{}")
         message = "./no/b.map: cannot be written: No such file or directory\n"
-        self.assertEqual(self.run_expand("--map", "./no/b.map", "b.json"), (1, "", message))
+        self.assertEqual(called(MAIN, "--map", "./no/b.map", "b.json"), (1, "", message))
 
     def test_kinds(self):
         self.write("a.json", '{"x": "2*op", "0": "2*op"}')
-        self.assertEqual(self.run_expand("a.json"), (0, '{"x": "2*op", "0": "2*op"}', ""))
-        self.assertEqual(self.run_expand("--stimuli", "a.json"), (0, '{"x": "2*op", "0": "op op"}', ""))
+        self.assertEqual(called(MAIN, "a.json"), (0, '{"x": "2*op", "0": "2*op"}', ""))
+        self.assertEqual(called(MAIN, "--stimuli", "a.json"), (0, '{"x": "2*op", "0": "op op"}', ""))
         self.write("b.json", '"2*0o"')
-        self.assertEqual(self.run_expand("b.json"), (0, '"0o 0o"', ""))
+        self.assertEqual(called(MAIN, "b.json"), (0, '"0o 0o"', ""))
         self.assertEqual(
-            self.run_expand("--stimuli", "b.json"), (1, "", "b.json:1:1: stimuli are an object, and this is none\n")
+            called(MAIN, "--stimuli", "b.json"), (1, "", "b.json:1:1: stimuli are an object, and this is none\n")
         )
 
     def test_cut(self):
         self.write("s.json", '{"0": "3*tik",\n "2": "2*op tick"}\n')
-        self.assertEqual(self.run_expand("--cut", "2", "s.json", "--map", "s.map"), (0, '{"2": "op op tick"}\n', ""))
+        self.assertEqual(called(MAIN, "--cut", "2", "s.json", "--map", "s.map"), (0, '{"2": "op op tick"}\n', ""))
         with open(os.path.join(self.folder, "s.map"), encoding="utf-8") as file:
             places = source_map.read_map(file.read())
         self.assertEqual([places.place("/2", number) for number in range(3)], [(2, 10), (2, 10), (2, 13)])
         self.assertEqual(list(places.values), ["", "/2"])
-        self.assertEqual(self.run_expand("--cut", "5", "s.json"), (0, "{}\n", "s.json: note: core 5 has no stimuli\n"))
+        self.assertEqual(called(MAIN, "--cut", "5", "s.json"), (0, "{}\n", "s.json: note: core 5 has no stimuli\n"))
         self.write("n.json", '{"0": 5}')
         self.assertEqual(
-            self.run_expand("--cut", "0", "n.json"), (1, "", "n.json:1:7: the stimuli of core 0 are no text\n")
+            called(MAIN, "--cut", "0", "n.json"), (1, "", "n.json:1:7: the stimuli of core 0 are no text\n")
         )
         self.write("c.json", SOURCE)
         message = "c.json:1:1: --cut wants stimuli, and this is a configuration\n"
-        self.assertEqual(self.run_expand("--cut", "0", "c.json"), (1, "", message))
+        self.assertEqual(called(MAIN, "--cut", "0", "c.json"), (1, "", message))
 
     def test_wrong_usage(self):
         for words in ((), ("a", "b"), ("--cut", "8", "a"), ("--cut",), ("--frob", "a")):
             with self.subTest(words=words):
-                status, output, _ = self.run_expand(*words)
+                status, output, _ = called(MAIN, *words)
                 self.assertEqual((status, output), (2, ""))
 
     def test_examples_stay_as_they_are(self):
@@ -487,7 +471,7 @@ class Whole(unittest.TestCase):
                     self.assertEqual((expansion(text).refusals, expansion(text).text), ([], text))
 
 
-@unittest.skipUnless(os.path.exists(PROGRAM), "%s is not built" % PROGRAM)
+@needs_program
 class AsTheProgram(unittest.TestCase):
     def setUp(self):
         folder = tempfile.TemporaryDirectory()

@@ -1,30 +1,20 @@
 """Tests of tools/explain: each usual mistake is found, with its file, line, column and number."""
 
 import contextlib
-import importlib.machinery
-import importlib.util
-import io
 import os
+import runpy
 import subprocess
 import sys
 import tempfile
 import unittest
 from typing import NamedTuple, Tuple
-from unittest import mock
 
-sys.dont_write_bytecode = True
-
-TOOLS = os.path.dirname(os.path.dirname(os.path.abspath(__file__)))
-ROOT = os.path.dirname(TOOLS)
-sys.path.insert(0, TOOLS)
+sys.path.insert(0, os.path.dirname(os.path.abspath(__file__)))
+from sample_runs import PROGRAM, ROOT, TOOLS, called, needs_program  # noqa: E402
 from library.formats import MOST_STIMULI, MOST_TURNS  # noqa: E402
 from library.judging import judge_configuration, judge_files, judge_schedule, judge_stimuli  # noqa: E402
 
-_LOADER = importlib.machinery.SourceFileLoader("explain", os.path.join(TOOLS, "explain"))
-SCRIPT = importlib.util.module_from_spec(importlib.util.spec_from_loader("explain", _LOADER))
-_LOADER.exec_module(SCRIPT)
-
-MCOS = os.environ.get("MCOS", os.path.join(ROOT, "crates/mcos/out/mcos"))
+MAIN = runpy.run_path(os.path.join(TOOLS, "explain"))["main"]
 
 # Three cores without a fault; nothing in it is noted.
 BASE = """\
@@ -1047,14 +1037,9 @@ def run(program, *words, folder=None):
 
 def explain(folder, *words):
     """What tools/explain does in a folder: its exit status, its lines and its standard error. No process is started."""
-    out, error = io.StringIO(), io.StringIO()
-    with contextlib.chdir(folder), contextlib.redirect_stdout(out), contextlib.redirect_stderr(error):
-        with mock.patch.object(sys, "argv", ["explain", *words]):
-            try:
-                status = SCRIPT.main()
-            except SystemExit as ended:
-                status = ended.code
-    return status, out.getvalue().splitlines(), error.getvalue()
+    with contextlib.chdir(folder):
+        status, output, messages = called(MAIN, *words)
+    return status, output.splitlines(), messages
 
 
 class Configurations(unittest.TestCase):
@@ -1359,13 +1344,13 @@ class Statuses(unittest.TestCase):
                 self.assertEqual([] if status == "E_OK" else [status], named)
 
 
-@unittest.skipUnless(os.path.exists(MCOS), "no program at %s; MCOS names another one" % MCOS)
+@needs_program
 class Program(unittest.TestCase):
     """The first fault is the one that the program reports."""
 
     def answer(self, *words):
         """The fault that the program reports, and its name."""
-        status, _, error = run(MCOS, *words)
+        status, _, error = run(PROGRAM, *words)
         return error.strip() if status == 1 else ""
 
     def test_each_text(self):
@@ -1394,7 +1379,7 @@ class Program(unittest.TestCase):
             for configuration, line in frames():
                 with self.subTest(line=line):
                     save(config, configuration)
-                    status, out, _ = run(MCOS, "run", config, stimuli)
+                    status, out, _ = run(PROGRAM, "run", config, stimuli)
                     self.assertEqual(0, status)
                     self.assertIn(line, out.splitlines())
 

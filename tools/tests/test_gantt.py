@@ -10,7 +10,7 @@ from xml.etree import ElementTree
 sys.path.insert(0, os.path.dirname(os.path.abspath(__file__)))
 import sample_runs  # noqa: E402
 from sample_runs import PROGRAM, TOOLS, called, first_timeline, needs_program  # noqa: E402
-from library import gantt, jobs, program  # noqa: E402
+from library import ending, gantt, jobs  # noqa: E402
 
 MAIN = runpy.run_path(os.path.join(TOOLS, "gantt"))["main"]
 NAMESPACE = "{http://www.w3.org/2000/svg}"
@@ -80,7 +80,7 @@ class First(unittest.TestCase):
                 self.assertEqual(gantt._step(least), step)
 
     def test_no_such_tick(self):
-        with self.assertRaisesRegex(program.Failed, "tick 1 of core 0: this core has taken no tick"):
+        with self.assertRaisesRegex(ending.Failed, "tick 1 of core 0: this core has taken no tick"):
             gantt.span_of_ticks(self.jobs.timeline, 0, 1, None)
 
 
@@ -114,7 +114,7 @@ class Commands(unittest.TestCase):
             ("--core 7 --to 1", "tick 1 of core 7: this core has taken no tick"),
             ("--from 5 --to 4", "nothing lies between the tick 5 and the tick 4"),
         ):
-            with self.subTest(text=text), self.assertRaisesRegex(program.Failed, error):
+            with self.subTest(text=text), self.assertRaisesRegex(ending.Failed, error):
                 MAIN(words + text.split(" "))
 
 

@@ -5,20 +5,19 @@ import os
 import re
 import shutil
 import subprocess
+import sys
 import tempfile
 import unittest
 from dataclasses import dataclass
 from typing import Dict, List, Optional, Tuple
 
-TOOLS = os.path.dirname(os.path.dirname(os.path.abspath(__file__)))
-ROOT = os.path.dirname(TOOLS)
-PROGRAM = os.path.abspath(os.environ.get("MCOS", os.path.join(ROOT, "crates", "mcos", "out", "mcos")))
+sys.path.insert(0, os.path.dirname(os.path.abspath(__file__)))
+from sample_runs import PROGRAM, ROOT, TOOLS, needs_program  # noqa: E402
+
 PAGE = os.path.join(ROOT, "docs", "mcos.1")
 FORMATS = os.path.join(ROOT, "docs", "FORMATS.md")
 BASH_COMPLETION = os.path.join(TOOLS, "completion", "mcos.bash")
 ZSH_COMPLETION = os.path.join(TOOLS, "completion", "_mcos")
-
-needs_program = unittest.skipUnless(os.path.isfile(PROGRAM), "there is no program %s" % PROGRAM)
 
 
 def needs_command(name):

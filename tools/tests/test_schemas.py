@@ -10,18 +10,14 @@ import sys
 import tempfile
 import unittest
 
-TOOLS = os.path.dirname(os.path.dirname(os.path.abspath(__file__)))
-ROOT = os.path.dirname(TOOLS)
-sys.dont_write_bytecode = True
-sys.path.insert(0, TOOLS)
+sys.path.insert(0, os.path.dirname(os.path.abspath(__file__)))
+from sample_runs import PROGRAM, ROOT, TOOLS, needs_program  # noqa: E402
 from library import formats, schemas  # noqa: E402
 
 try:
     import jsonschema
 except ImportError:
     jsonschema = None
-
-PROGRAM = os.environ.get("MCOS", os.path.join(ROOT, "crates", "mcos", "out", "mcos"))
 
 LONG_NAME = "A" * 128
 SIGNED = str(2**63 - 1)
@@ -366,7 +362,7 @@ class Values(unittest.TestCase):
         self.assertFalse(self.stimuli.is_valid([]))
 
 
-@unittest.skipUnless(os.path.exists(PROGRAM), "%s is not built" % PROGRAM)
+@needs_program
 class AsTheProgram(unittest.TestCase):
     """What a schema refuses, `mcos` refuses too."""
 

@@ -9,11 +9,13 @@ import os
 import re
 import shutil
 import subprocess
+import sys
 import tempfile
 import unittest
 
-ROOT = os.path.dirname(os.path.dirname(os.path.dirname(os.path.abspath(__file__))))
-PROGRAM = os.path.abspath(os.environ.get("MCOS", os.path.join(ROOT, "crates", "mcos", "out", "mcos")))
+sys.path.insert(0, os.path.dirname(os.path.abspath(__file__)))
+from sample_runs import PROGRAM, ROOT, needs_program  # noqa: E402
+
 STORIES = sorted(glob.glob(os.path.join(ROOT, "examples", "*", "README.md")))
 
 
@@ -59,7 +61,7 @@ class Stories(unittest.TestCase):
                 if not is_session(block):
                     self.assertIn("\n" + without_remarks(block), expected, story)
 
-    @unittest.skipUnless(os.path.isfile(PROGRAM), "there is no program %s" % PROGRAM)
+    @needs_program
     def test_sessions_print_what_they_say(self):
         for story in STORIES:
             with tempfile.TemporaryDirectory() as scratch:

@@ -11,7 +11,7 @@ sys.path.insert(0, os.path.dirname(os.path.abspath(__file__)))
 import documents  # noqa: E402
 import sample_runs  # noqa: E402
 from sample_runs import PROGRAM, TOOLS, called, first_run, first_timeline, needs_program  # noqa: E402
-from library import checking, items, program, runs, timeline, turns  # noqa: E402
+from library import checking, ending, items, runs, timeline, turns  # noqa: E402
 
 MAIN = runpy.run_path(os.path.join(TOOLS, "timeline"))["main"]
 
@@ -239,9 +239,9 @@ class Items(unittest.TestCase):
             (["var X v0 1"], "is printed by no item"),
             (["stat X GetResource E_OK"], "is printed by no item"),
         ):
-            with self.subTest(lines=lines), self.assertRaisesRegex(program.Failed, text):
+            with self.subTest(lines=lines), self.assertRaisesRegex(ending.Failed, text):
                 items.items_of(run_of_script("work;work", 2, lines), 0)
-        with self.assertRaisesRegex(program.Failed, "core 0, item 5 `stim op`: the end of the block is not what"):
+        with self.assertRaisesRegex(ending.Failed, "core 0, item 5 `stim op`: the end of the block is not what"):
             items.items_of(run_of_script("set v0 1", 1, []), 0)
 
 
@@ -339,7 +339,7 @@ class Turns(unittest.TestCase):
     def test_a_log_of_another_schedule(self):
         run = first_run()
         run.logs[1] = ("on", "pass1 M")
-        with self.assertRaisesRegex(program.Failed, "has no turn"):
+        with self.assertRaisesRegex(ending.Failed, "has no turn"):
             turns.placed_items(runs.Run(run.draft, {0: run.blocks[0], 1: ("hook Startup",)}, run.logs, True))
 
     def test_spread(self):
@@ -387,13 +387,13 @@ class Commands(unittest.TestCase):
                 self.assertEqual(called(MAIN, *words)[:2], (2, ""))
 
     def test_no_program(self):
-        with self.assertRaisesRegex(program.Failed, "no/such/mcos: cannot be run: No such file or directory"):
+        with self.assertRaisesRegex(ending.Failed, "no/such/mcos: cannot be run: No such file or directory"):
             MAIN(["--mcos", "no/such/mcos", *sample_runs.ENGINE])
 
     @needs_program
     def test_a_fault(self):
         path = os.path.join(sample_runs.EXAMPLES, "faults", "limit.json")
-        with self.assertRaisesRegex(program.Failed, "fault 3 Limit"):
+        with self.assertRaisesRegex(ending.Failed, "fault 3 Limit"):
             MAIN(["--mcos", PROGRAM, path, sample_runs.ENGINE[1]])
 
     @needs_program
