@@ -85,6 +85,8 @@ def span_of_ticks(timeline: Timeline, core: int, first: Optional[int], last: Opt
         if tick is not None and tick not in turns:
             known = "has taken %d ticks" % len(turns) if turns else "has taken no tick"
             raise Failed("tick %d of core %d: this core %s" % (tick, core, known))
+    if not timeline.items:
+        raise Failed("the run has no turn in which something happens")
     begin = turns[first] if first is not None else 1
     end = turns.get(last + 1, timeline.turns + 1) if last is not None else timeline.turns + 1
     if begin >= end:

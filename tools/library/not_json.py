@@ -122,7 +122,7 @@ def number_goes_on(text: str, start: int, end: int) -> Optional[str]:
 def _bad_number(word: str) -> str:
     """Why a word that looks like a number is none of JSON."""
     digits = word.lstrip("+-")
-    if re.fullmatch(r"0[xX][0-9A-Fa-f]+", digits):
+    if re.fullmatch(r"0[xX][0-9A-Fa-f]{1,16}", digits):
         return "numbers are decimal: %d, not %s" % (int(digits, 16), shown(word))
     if word.startswith("+"):
         return "a number has no `+`: %s" % shown(word)

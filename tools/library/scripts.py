@@ -225,7 +225,7 @@ def wrong_form(argument: Argument, word: str) -> str:
         return "%s is no variable: they are `v0` to `v7`" % shown(word)
     if argument.is_object:
         return "%s is no name of %s" % (shown(word), a(argument.kind))
-    if re.fullmatch(r"-?0[xX][0-9A-Fa-f]+", word):
+    if re.fullmatch(r"-?0[xX][0-9A-Fa-f]{1,16}", word):
         return "%s is no decimal number: write `%d`" % (shown(word), int(word, 16))
     if re.fullmatch(r"-?0+[0-9]+|-0|\+[0-9]+", word):
         return "%s has a sign or zeros too many: write `%s`" % (shown(word), _plain_number(word))

@@ -77,7 +77,7 @@ def read_map(text: str) -> SourceMap:
         values = {pointer: _place(place) for pointer, place in whole["values"].items()}
         parts = {pointer: [_place(place) for place in places] for pointer, places in whole["parts"].items()}
         return SourceMap(str(whole["source"]), values, parts)
-    except (KeyError, TypeError, AttributeError) as error:
+    except (ValueError, KeyError, TypeError, AttributeError, OverflowError, RecursionError) as error:
         raise ValueError("this is no map of tools/expand: %r" % error) from None
 
 

@@ -513,6 +513,16 @@ CASES = (
         ),
     ),
     Case(
+        "a hexadecimal mask that is too long",
+        "WaitEvent 1",
+        "WaitEvent 0x" + "F" * 5000,
+        "0xF",
+        (
+            "config.json:19:28: fault 10 BadScript: /cores/1/tasks/0/script: "
+            "operation 0 `WaitEvent 0x%s..`: `0x%s..` is no decimal number" % ("F" * 26, "F" * 36),
+        ),
+    ),
+    Case(
         "a ninth variable",
         "add v0 1",
         "add v8 1",
@@ -1198,6 +1208,18 @@ class Files(unittest.TestCase):
         ]
         self.assertEqual((1, expected), (status, lines))
         self.assertEqual(2, explain(self.folder, "--map", "source.json", "config.json")[0])
+
+    def test_a_wrong_map(self):
+        place = '{"source": "a", "values": {"": %s}, "parts": {}}'
+        for text in ("", "[]", "{}", place % "[1]", place % "[1, []]", place % '["a", 1]', place % "[1e999, 1]", "[" * 9999):
+            with self.subTest(text=text[:60]):
+                self.write("map", text)
+                status, lines, error = explain(self.folder, "--map", "map", "config.json")
+                self.assertEqual((2, []), (status, lines))
+                self.assertIn("error: argument --map: map: this is no map of tools/expand: ", error)
+        status, lines, error = explain(self.folder, "--map", "none", "config.json")
+        self.assertEqual((2, []), (status, lines))
+        self.assertIn("error: argument --map: none: cannot be read: No such file or directory\n", error)
 
     def test_wrong_usage(self):
         self.assertEqual(2, explain(self.folder)[0])

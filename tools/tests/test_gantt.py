@@ -10,7 +10,7 @@ from xml.etree import ElementTree
 sys.path.insert(0, os.path.dirname(os.path.abspath(__file__)))
 import sample_runs  # noqa: E402
 from sample_runs import PROGRAM, TOOLS, called, first_timeline, needs_program  # noqa: E402
-from library import ending, gantt, jobs  # noqa: E402
+from library import ending, gantt, jobs, timeline  # noqa: E402
 
 MAIN = runpy.run_path(os.path.join(TOOLS, "gantt"))["main"]
 NAMESPACE = "{http://www.w3.org/2000/svg}"
@@ -82,6 +82,11 @@ class First(unittest.TestCase):
     def test_no_such_tick(self):
         with self.assertRaisesRegex(ending.Failed, "tick 1 of core 0: this core has taken no tick"):
             gantt.span_of_ticks(self.jobs.timeline, 0, 1, None)
+
+    def test_no_turns(self):
+        empty = timeline.Timeline(self.jobs.timeline.run, ())
+        with self.assertRaisesRegex(ending.Failed, "^the run has no turn in which something happens$"):
+            gantt.span_of_ticks(empty, 0, None, None)
 
 
 class Commands(unittest.TestCase):

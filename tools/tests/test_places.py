@@ -52,6 +52,7 @@ REFUSED = (
     (b"[01]", 1, 2, "/0", "no leading zeros"),
     (b"[+1]", 1, 2, "/0", "no `+`"),
     (b"[0x1F]", 1, 2, "/0", "numbers are decimal: 31, not `0x1F`"),
+    (b"[0x" + b"F" * 5000 + b"]", 1, 2, "/0", "`0x" + "F" * 36 + "..` is no number"),
     (b"[1.]", 1, 2, "/0", "`1.` is no number"),
     (b"[.5]", 1, 2, "/0", "`.5` is no number"),
     (b"[-]", 1, 2, "/0", "`-` is no number"),
