@@ -2,9 +2,13 @@
 
 The programs' sources lie in bench/programs under names that no crate has, since the merge gate refuses a source
 that no listed crate holds."""
+import argparse
 import contextlib
+import importlib.machinery
+import importlib.util
 import json
 import os
+import re
 import shutil
 import statistics
 import subprocess
@@ -119,11 +123,41 @@ def built(program):
     return os.path.abspath(program)
 
 
+def needed(command):
+    """The path of a command of the system that a script cannot do without."""
+    return shutil.which(command) or sys.exit("no command `%s`, which this script needs" % command)
+
+
+def positive(word):
+    """A number of the command line, from 1 on."""
+    if not word.isdecimal() or int(word) < 1:
+        raise argparse.ArgumentTypeError("%r is no number from 1 on" % word)
+    return int(word)
+
+
+def bench_run():
+    """The script bench/run, whose configurations and stimuli other scripts have too."""
+    loader = importlib.machinery.SourceFileLoader("run", os.path.join(ROOT, "bench", "run"))
+    run = importlib.util.module_from_spec(importlib.util.spec_from_loader("run", loader))
+    loader.exec_module(run)
+    return run
+
+
+def instructions_of(program, folder, words, status=0):
+    """How many instructions the program takes in this folder by these words, and what it prints."""
+    tool = [needed("valgrind"), "--tool=callgrind", "--callgrind-out-file=/dev/null"]
+    ran = subprocess.run([*tool, program, *words], cwd=folder, capture_output=True)
+    found = re.search(rb"refs:\s*([\d,]+)", ran.stderr)
+    if ran.returncode != status or not found:
+        sys.exit("%s %s: %s" % (program, " ".join(words), ran.stderr.decode(errors="replace")[-500:]))
+    return int(found.group(1).replace(b",", b"")), ran.stdout
+
+
 def peak_of(words, **options):
     """Runs a program by these words, and gives its peak memory in KiB. GNU time starts it, since a child of Python's own
     is counted with the memory that Python had."""
     with tempfile.NamedTemporaryFile(mode="r") as file:
-        ran = subprocess.run([TIME, "-q", "-f", "%M", "-o", file.name, *words], **options)
+        ran = subprocess.run([needed(TIME), "-q", "-f", "%M", "-o", file.name, *words], **options)
         if ran.returncode:
             sys.exit("%s ended with status %d" % (words[0], ran.returncode))
         return int(file.read())
