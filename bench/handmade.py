@@ -7,6 +7,7 @@ from library.formats import (
     MOST_LEVELS,
     MOST_STIMULI,
     MOST_TURNS,
+    NAMED_LISTS,
     OBJECTS,
     OPERATIONS,
     ListOf,
@@ -72,6 +73,7 @@ def configurations():
     yield from words()
     yield from actions()
     yield from names()
+    yield from words_of_cores()
     yield from swapped()
 
 
@@ -297,7 +299,7 @@ NAMES = ("M", "m", "", "1", "a b", "T\u00e4", "_a", "a_", "TA", "TB", "RB", "x" 
 
 def names():
     """Names of objects, of the master, of modes and of spinlocks."""
-    kinds = ("tasks", "resources", "counters", "alarms", "tables")
+    kinds = tuple(NAMED_LISTS)
     for kind in kinds:
         for name in NAMES:
             yield "%s named %r" % (kind, name), changed((["cores", 1, kind, 0, "name"], name))
@@ -329,6 +331,22 @@ def names():
             yield "member %r at %r" % (name, path), changed((path + [name], []))
 
 
+def words_of_cores():
+    """The modes of the configuration, and what a core says of them and of protection."""
+    for name in NAMES + ("DONOTCARE", "conflict", "none", "IA", "K"):
+        for modes in ([name], ["M", name], [name, name]):
+            yield "modes %r" % modes, changed((["modes"], modes))
+        yield "mode %r" % name, changed((["cores", 0, "mode"], name))
+        yield "mode %r of two" % name, changed((["modes"], ["M", "N"]), (["cores", 0, "mode"], name))
+    for count in (0, 1, 7, 8, 9):
+        yield "%d modes" % count, changed((["modes"], ["M"] + ["N%d" % at for at in range(count - 1)]))
+    protections = ("PRO_IGNORE", "PRO_TERMINATETASKISR", "PRO_TERMINATEAPPL", "PRO_TERMINATEAPPL_RESTART", "PRO_SHUTDOWN")
+    for word in protections + ("pro_ignore", "PRO_KILL", "", 0, None, []):
+        yield "protection %r" % word, changed((["cores", 0, "protection"], word))
+    for script in ("", "GetResource RA", "ReleaseResource RA", "GetResource ?", "GetResource RB", "GetResource", "TerminateTask"):
+        yield "ISR %r" % script, changed((["cores", 0, "isrs", 0, "script"], script))
+
+
 def swapped():
     """Other files in place of the configuration, and values that are no objects."""
     texts = (
@@ -339,7 +357,13 @@ def swapped():
         yield "configuration %s" % text, text.encode()
 
 
-STIMULI_CONFIGURATION = {"cores": [{"id": 0, "start": [2]}, {"id": 2}, {"id": 7}]}
+STIMULI_CONFIGURATION = {
+    "cores": [
+        {"id": 0, "start": [2], "isrs": [{"name": "I", "level": 1, "script": ""}]},
+        {"id": 2, "isrs": [{"name": "J", "level": 1, "script": ""}]},
+        {"id": 7},
+    ]
+}
 
 
 def stimuli():
@@ -348,7 +372,8 @@ def stimuli():
         yield "key %r" % key, data({key: "op"})
     texts = (
         "", "op", "tick", "op tick op", " ", " op", "op ", "op  op", "tik", "OP", "op;op", "op\n", "op\nop",
-        "op\top", "op*3", "3*op", "work", "op\u00a0op", "optick", "opop",
+        "op\top", "op*3", "3*op", "work", "op\u00a0op", "optick", "opop", "irq=I", "irq=I op irq=I", "irq=J", "irq=", "irq",
+        "irq=i", "irq= I", "irq =I", "irq=I;op", "IRQ=I", "irq=II", "irq=" + "x" * 129,
     )  # fmt: skip
     for text in texts:
         yield "stimuli %r" % text, data({"0": text})
