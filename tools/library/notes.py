@@ -271,7 +271,6 @@ class _Notes:
                     if not _has_autostart(each) and (NAMED_LISTS[kind], each.name) not in used:
                         self.report.note(each.spot("name"), text % each.name)
 
-
     def _unshared(self) -> None:
         """Spinlocks that nothing gets, or one core alone."""
         for spinlock in self.draft.spinlocks:

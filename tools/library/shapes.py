@@ -57,7 +57,7 @@ def _other_file(root: Json) -> Optional[str]:
 def _judge_object(report: Report, node: Json, kind: Object, value: ObjectOf) -> None:
     """Judges an object of a kind, as the member wants it in which it stands."""
     if not isinstance(node, JsonObject):
-        report.fault(SHAPE, node, "%s is %s, not %s" % (TITLES[kind.name], _wanted(value, kind), _found(report, node)))
+        report.fault(SHAPE, node, "%s is %s, not %s" % (TITLES[kind.name], _wanted(value), _found(report, node)))
         return
     present = set(node.members)
     for name, member in node.members.items():
@@ -66,7 +66,7 @@ def _judge_object(report: Report, node: Json, kind: Object, value: ObjectOf) -> 
             text = "%s has no member %s" % (TITLES[kind.name], shown(name))
             report.fault_of_member(SHAPE, node, name, text + unknown_member(kind, name, present))
         else:
-            _judge_value(report, member.value, known.value, "`%s`" % name, kind, not known.is_required)
+            _judge_value(report, member.value, known.value, "`%s`" % name, not known.is_required)
     _judge_missing(report, node, kind)
 
 
@@ -77,7 +77,7 @@ def _judge_missing(report: Report, node: JsonObject, kind: Object) -> None:
     meant = {meant_member(kind, name, present) for name in unknown}
     for member in kind.members:
         if member.is_required and member.name not in present and member.name not in meant:
-            text = "%s has no `%s` (%s)" % (_title(node, kind), member.name, _wanted(member.value, kind))
+            text = "%s has no `%s` (%s)" % (_title(node, kind), member.name, _wanted(member.value))
             report.fault(SHAPE, node, text)
 
 
@@ -89,18 +89,18 @@ def _title(node: JsonObject, kind: Object) -> str:
     return TITLES[kind.name]
 
 
-def _judge_value(report: Report, node: Json, value: Value, title: str, kind: Object, has_default: bool = False) -> None:
+def _judge_value(report: Report, node: Json, value: Value, title: str, has_default: bool = False) -> None:
     """Judges the value of a member, or an element of it."""
     if _may_be_null(value) and isinstance(node, JsonWord) and node.value is None:
         return
     if isinstance(value, ObjectOf):
         _judge_object(report, node, OBJECTS[value.name], value)
     elif not _has_type(node, value):
-        text = "%s is %s, not %s" % (title, _wanted(value, kind), _found(report, node))
+        text = "%s is %s, not %s" % (title, _wanted(value), _found(report, node))
         report.fault(SHAPE, node, text + _remedy(report, node, value, has_default))
     elif isinstance(value, ListOf):
         for element in node.elements:
-            _judge_value(report, element, value.element, "an element of " + title, kind)
+            _judge_value(report, element, value.element, "an element of " + title)
     elif isinstance(value, _NAMES):
         _judge_name(report, node)
     elif isinstance(value, OneOf) and node.text not in value.words:
@@ -143,15 +143,15 @@ def _has_type(node: Json, value: Value) -> bool:
     return isinstance(node, JsonText)
 
 
-def _wanted(value: Value, kind: Object) -> str:
-    """What a value in an object of a kind is to be."""
+def _wanted(value: Value) -> str:
+    """What a value is to be."""
     if isinstance(value, Number):
         return _wanted_number(value)
     if isinstance(value, ObjectOf):
         members = listed("`%s`" % member.name for member in OBJECTS[value.name].members)
         return "an object with %s%s" % (members, ", or `null`" if value.or_null else "")
     if isinstance(value, ListOf):
-        return _wanted_list(value, kind)
+        return _wanted_list(value)
     if isinstance(value, OneOf):
         return "one of %s" % _words(value)
     return _WANTED[type(value)]
@@ -182,8 +182,8 @@ _WANTED = {
 }
 
 
-def _wanted_list(value: ListOf, kind: Object) -> str:
-    """What a list in an object of a kind is to be."""
+def _wanted_list(value: ListOf) -> str:
+    """What a list is to be."""
     if value == MODES:
         return 'a list of modes, as `["M"]`, or `[]`'
     if isinstance(value.element, NewModeName):

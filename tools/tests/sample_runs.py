@@ -5,6 +5,7 @@ import glob
 import io
 import json
 import os
+import shutil
 import sys
 import tempfile
 import unittest
@@ -104,6 +105,15 @@ def written(configuration, stimuli):
             with open(path, "w", encoding="utf-8") as file:
                 file.write(text)
         yield runs.Source(PROGRAM, *paths)
+
+
+@contextlib.contextmanager
+def at_a_strange_path():
+    """The paths of examples/first in a folder whose name has a line end and what no picture may have."""
+    with tempfile.TemporaryDirectory() as scratch:
+        folder = os.path.join(scratch, "a\n\x01<b")
+        shutil.copytree(os.path.join(EXAMPLES, "first"), folder)
+        yield [os.path.join(folder, name) for name in ("config.json", "stim.json")]
 
 
 def interrupts():

@@ -320,6 +320,15 @@ class Commands(unittest.TestCase):
                 self.assertEqual((status, messages), (0, ""))
                 read(output)
 
+    @needs_program
+    def test_a_path_with_a_line_end(self):
+        with sample_runs.at_a_strange_path() as paths:
+            for name, read in (("btf", BtfReader), ("chrome", read_chrome), ("vcd", read_vcd)):
+                with self.subTest(name=name):
+                    status, output, messages = called(MAIN, "--mcos", PROGRAM, name, *paths)
+                    self.assertEqual((status, messages), (0, ""))
+                    read(output)
+
 
 @needs_program
 class Examples(unittest.TestCase):

@@ -112,6 +112,14 @@ class Commands(unittest.TestCase):
         self.assertEqual(output, wanted)
 
     @needs_program
+    def test_a_path_with_a_line_end(self):
+        with sample_runs.at_a_strange_path() as paths:
+            status, output, messages = called(MAIN, "--mcos", PROGRAM, *paths)
+        self.assertEqual((status, messages), (0, ""))
+        title = ElementTree.fromstring(output).find(NAMESPACE + "title").text
+        self.assertIn("/a\\n\\u0001<b/config.json, ", title)
+
+    @needs_program
     def test_ticks(self):
         words = ["--mcos", PROGRAM, *sample_runs.ENGINE]
         for text, error in (
