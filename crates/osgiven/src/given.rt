@@ -107,17 +107,25 @@ impl WordReader<Stimulus> for StimulusReader<'_> {
         stimulus_of(self.core, word)
     }
 
-    // The words that come most are compared where they would stand, and their ends are not looked for. What reads a
-    // stimulus is inlined, so that no byte is compared twice.
+    // `op` comes most: it is compared first, where it would stand, and its end is not looked for. What reads a stimulus
+    // is inlined, so that no byte is compared twice.
     #[inline(always)]
     fn front<'t>(&self, text: &'t [u8]) -> Option<(Option<Stimulus>, &'t [u8])> {
         match text {
             [b'o', b'p', b' ', later @ ..] => Some((stimulus_of(self.core, &text[..2]), later)),
-            [b't', b'i', b'c', b'k', b' ', later @ ..] => {
-                Some((stimulus_of(self.core, &text[..4]), later))
-            }
-            _ => first_stimulus(self.core, text),
+            _ => other_front(self.core, text),
         }
+    }
+}
+
+// The same of a text that may begin with another word: `tick` is compared where it would stand.
+#[inline(always)]
+fn other_front<'t>(core: &Core, text: &'t [u8]) -> Option<(Option<Stimulus>, &'t [u8])>
+    ensures { IsStep (stimulus_of core.now) text.now (option_map (λ (front : Option Word × Bor (List ℕ)). (front.0, front.1.now)) result) }
+{
+    match text {
+        [b't', b'i', b'c', b'k', b' ', later @ ..] => Some((stimulus_of(core, &text[..4]), later)),
+        _ => first_stimulus(core, text),
     }
 }
 
