@@ -129,7 +129,9 @@ fn other_front<'t>(core: &Core, text: &'t [u8]) -> Option<(Option<Stimulus>, &'t
     }
 }
 
-// The same of any text: its first space is looked for.
+// The same of any text: its first space is looked for. It stays a call, since it is rare, and so the loop over words
+// stays short.
+#[inline(never)]
 fn first_stimulus<'t>(core: &Core, text: &'t [u8]) -> Option<(Option<Stimulus>, &'t [u8])>
     ensures { IsStep (stimulus_of core.now) text.now (option_map (λ (front : Option Word × Bor (List ℕ)). (front.0, front.1.now)) result) }
 {

@@ -56,7 +56,7 @@ pub fn read_words<T: Drop, R: WordReader<T>>(
     read_all(alloc, reader, text.as_bytes(), room)
 }
 
-// Never put in the place of its call, so that its loop has all registers for itself.
+// It stays a call, so that its loop has all registers for itself.
 #[inline(never)]
 fn read_all<T: Drop, R: WordReader<T>>(
     alloc: Global,
