@@ -15,6 +15,7 @@ fn digit_of(c: u8) -> Option<u8>
 }
 
 /// A core number in decimal, without a leading zero.
+#[inline(always)]
 pub fn core_number(digits: &[u8]) -> Option<u8>
     ensures { result ≡ core_number digits.now }
 {
