@@ -136,7 +136,7 @@ abbrev pub is_budget : Option ℕ → Bool
 is_budget budget = is_between 0 GREATEST_BUDGET budget
 
 -- A task: priority 0 to 31, of which 0 is the lowest [OSEK/VDX OS 2.2.3, section 4.5; the highest is own], as many activations
--- as it may have [section 4.3], and its budget.
+-- as it may have [OSEK/VDX OS 2.2.3, section 4.3], and its budget.
 abbrev pub is_task_within : TaskSizes → Bool
 is_task_within s = is_between 0 31 s.priority && is_between 1 (most_activations s.extended) s.activations && is_budget s.budget
 
