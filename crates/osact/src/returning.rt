@@ -15,7 +15,7 @@ use osbase::{Awaited, CoreId, Mark, Message, OpenCall, RemoteCall, Runner, Servi
 use osstate::CoreState;
 
 /// What a service answers: its status, and with E_OK the value of one that has a value.
-#[derive(Clone, Copy, Debug, PartialEq, Eq)]
+#[derive(Clone, Copy, PartialEq, Eq)]
 pub struct Answer {
     pub status: Status,
     pub value: Option<i64>,

@@ -5,7 +5,8 @@ use Rattle.std.proofs.lemmas.Bool.{and_parts, eqb-true}
 use Rattle.std.proofs.lemmas.Option.{same_Some}
 use Rattle.osbase.specs.declared.statuses.Status.{Status}
 use Rattle.osbase.specs.declared.statuses.Status.TheVariants.{EOk, EOsAccess, EOsCallevel, EOsId, EOsLimit, EOsNofunc, EOsResource, EOsState, EOsValue, EOsMissingend, EOsDisabledint, EOsProtectionTime, EOsCore, EOsSpinlock, EOsInterferenceDeadlock, EOsNestingDeadlock}
-use Rattle.osbase.specs.Words.{status_number, status_numbered, statuses}
+use Rattle.osbase.specs.declared.statuses.TheConstants.{STATUS_LIST}
+use Rattle.osbase.specs.Words.{status_number, status_numbered}
 
 -- The status of a status' number is that status,
 pub status_back : (status : Status) → status_numbered (status_number status) ≡ Some status
@@ -42,4 +43,4 @@ number-at n (s ∷ ss) (suc i) are less = number-at (suc n) ss i (and_parts (sta
 
 -- The number of a number's status is that number.
 pub number_back : (n : ℕ) → n < 16 → status_number (unwrap_or (status_numbered n) EOk) ≡ n
-number_back n less = number-at 0 statuses n refl less ∙ omega arith
+number_back n less = number-at 0 STATUS_LIST n refl less ∙ omega arith

@@ -1,7 +1,8 @@
 -- The printed words and numbers of statuses and services.
-use Rattle.std.specs.Prelude.{ℕ, Option, List, [], ◌∷◌, codes, slice_get}
+use Rattle.std.specs.Prelude.{ℕ, Option, List, codes, slice_get}
 use Rattle.osbase.specs.declared.statuses.Status.{Status}
 use Rattle.osbase.specs.declared.statuses.Status.TheVariants.{EOk, EOsAccess, EOsCallevel, EOsId, EOsLimit, EOsNofunc, EOsResource, EOsState, EOsValue, EOsMissingend, EOsDisabledint, EOsProtectionTime, EOsCore, EOsSpinlock, EOsInterferenceDeadlock, EOsNestingDeadlock}
+use Rattle.osbase.specs.declared.statuses.TheConstants.{STATUS_LIST}
 use Rattle.osbase.specs.declared.statuses.ServiceId.{ServiceId}
 use Rattle.osbase.specs.declared.statuses.ServiceId.TheVariants as Service
 
@@ -24,13 +25,9 @@ status_number EOsSpinlock = 13
 status_number EOsInterferenceDeadlock = 14
 status_number EOsNestingDeadlock = 15
 
--- The statuses in the order of their numbers.
-abbrev pub statuses : List Status
-statuses = EOk ∷ EOsAccess ∷ EOsCallevel ∷ EOsId ∷ EOsLimit ∷ EOsNofunc ∷ EOsResource ∷ EOsState ∷ EOsValue ∷ EOsMissingend ∷ EOsDisabledint ∷ EOsProtectionTime ∷ EOsCore ∷ EOsSpinlock ∷ EOsInterferenceDeadlock ∷ EOsNestingDeadlock ∷ []
-
 -- The status of a number, if one has it.
 abbrev pub status_numbered : ℕ → Option Status
-status_numbered number = slice_get statuses number
+status_numbered number = slice_get STATUS_LIST number
 
 -- The word of a status, as the standards spell it.
 abbrev pub status_name : Status → List ℕ

@@ -8,7 +8,7 @@ use crate::references::{CoreId, Runner, SpinlockId};
 use crate::statuses::{ServiceId, Status};
 
 /// Where a core stands between being started and its end.
-#[derive(Clone, Copy, Debug, PartialEq, Eq)]
+#[derive(Clone, Copy, PartialEq, Eq)]
 pub enum Phase {
     Off,
     Boot,
@@ -41,7 +41,7 @@ impl Phase {
 
 /// Whether a core goes on, or went down by itself, or was halted with all others: a core that does not go on schedules
 /// nothing any more and serves no other core, whatever its phase is (AUTOSAR SWS OS 4.x, ShutdownOS and ShutdownAllCores).
-#[derive(Clone, Copy, Debug, PartialEq, Eq)]
+#[derive(Clone, Copy, PartialEq, Eq)]
 pub enum Course {
     Going,
     Down,
@@ -76,7 +76,7 @@ impl Course {
 
 /// A job of a task or an ISR. Its stamp is the place in the history of its activation, or of its
 /// last release from waiting: of two jobs the one with the smaller stamp is the older.
-#[derive(Clone, Copy, Debug, PartialEq, Eq)]
+#[derive(Clone, Copy, PartialEq, Eq)]
 pub struct Job {
     pub runner: Runner,
     pub stamp: u64,
@@ -84,7 +84,7 @@ pub struct Job {
 
 /// A resource that a job holds: its index among its core's own, of which alone a job holds any, and its
 /// ceiling priority (OSEK/VDX OS 2.2.3, section 8.5).
-#[derive(Clone, Copy, Debug, PartialEq, Eq)]
+#[derive(Clone, Copy, PartialEq, Eq)]
 pub struct HeldResource {
     pub index: u8,
     pub ceiling: u8,
@@ -92,14 +92,14 @@ pub struct HeldResource {
 
 /// The events of a task, each a bit of a mask: those that are set, and those that it waits for, if it waits
 /// (OSEK/VDX OS 2.2.3, section 7).
-#[derive(Clone, Copy, Debug, PartialEq, Eq)]
+#[derive(Clone, Copy, PartialEq, Eq)]
 pub struct TaskEvents {
     pub set: u32,
     pub awaited: Option<u32>,
 }
 
 /// What a call of a job waits for.
-#[derive(Clone, Copy, Debug, PartialEq, Eq)]
+#[derive(Clone, Copy, PartialEq, Eq)]
 pub enum Awaited {
     /// The reply of another core to this service.
     Reply { service: ServiceId, core: CoreId },
@@ -114,7 +114,7 @@ pub enum Awaited {
 }
 
 /// A call of a job that is not done yet.
-#[derive(Clone, Copy, Debug, PartialEq, Eq)]
+#[derive(Clone, Copy, PartialEq, Eq)]
 pub struct OpenCall {
     pub runner: Runner,
     pub awaits: Awaited,
@@ -122,14 +122,14 @@ pub struct OpenCall {
 
 /// A spinlock that the core got, and the runner whose oldest job has it: none once its release is owed
 /// (AUTOSAR SWS OS 4.x, GetSpinlock).
-#[derive(Clone, Copy, Debug, PartialEq, Eq)]
+#[derive(Clone, Copy, PartialEq, Eq)]
 pub struct GotSpinlock {
     pub lock: SpinlockId,
     pub holder: Option<Runner>,
 }
 
 /// An envelope of the outbox, and the core that it is for.
-#[derive(Clone, Copy, Debug, PartialEq, Eq)]
+#[derive(Clone, Copy, PartialEq, Eq)]
 pub struct Sent {
     pub to: CoreId,
     pub envelope: Envelope,

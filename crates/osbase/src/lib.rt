@@ -20,9 +20,9 @@ pub use histories::{
 };
 pub use items::{Agreement, CoreMode, CoreSet, Item, Stimulus};
 pub use limits::{
-    ACTIONS, ALARMS, CONFIGURED_CORES, CORE_NUMBERS, CORES, COUNTERS, GREATEST_BUDGET,
-    GREATEST_DURATION, GREATEST_VALUE, INTERRUPTS, ISRS, JOBS, LEVELS, MAILBOX, MODES, OPERATIONS,
-    POINTS, POSTED, RESOURCES, RUNNERS, SPINLOCKS, TABLES, TASKS,
+    ACTIONS, ALARMS, CALLS_AT_ONCE, CONFIGURED_CORES, CORE_NUMBERS, CORES, COUNTERS,
+    GREATEST_BUDGET, GREATEST_DURATION, GREATEST_VALUE, INTERRUPTS, ISRS, JOBS, LEVELS, MAILBOX,
+    MODES, OPERATIONS, OUTBOX, POINTS, POSTED, RESOURCES, RUNNERS, SPINLOCKS, TABLES, TASKS,
 };
 pub use lists::{List, Name};
 pub use marks::Mark;
@@ -33,5 +33,5 @@ pub use references::{
     AlarmRef, CoreId, CounterRef, IsrRef, ModeId, ResourceRef, Runner, SpinlockId, TableRef,
     TaskRef, Variable,
 };
-pub use statuses::{ServiceId, Status};
+pub use statuses::{STATUS_LIST, ServiceId, Status};
 pub use turns::{Choice, CoreStimuli, Report, Schedule, Stimuli, Turn, stimuli_for};

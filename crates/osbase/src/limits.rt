@@ -68,3 +68,9 @@ pub const ACTIONS: usize = 8;
 
 /// The most envelopes that a core's alarms and tables may add to its outbox at once.
 pub const POSTED: usize = 56;
+
+/// The most envelopes that a core's calls add to its outbox at once: its own call, and a reply to each other core.
+pub const CALLS_AT_ONCE: usize = CONFIGURED_CORES;
+
+/// The most envelopes of a core's outbox.
+pub const OUTBOX: usize = POSTED + CALLS_AT_ONCE;

@@ -12,7 +12,7 @@ use crate::references::{
 
 /// The kinds of objects: those that a core has, of which operations and calls name all but ISRs, and those that all
 /// cores have in common, the application modes and the spinlocks.
-#[derive(Clone, Copy, Debug, PartialEq, Eq)]
+#[derive(Clone, Copy, PartialEq, Eq)]
 pub enum ObjectKind {
     Mode,
     Spinlock,
@@ -37,14 +37,14 @@ impl ObjectKind {
 pub const NOBODY: CoreId = CoreId { number: 255 };
 
 /// Where an object stands: its core, or `NOBODY`, and its place among the objects of its kind there.
-#[derive(Clone, Copy, Debug, PartialEq, Eq)]
+#[derive(Clone, Copy, PartialEq, Eq)]
 pub struct Place {
     pub core: CoreId,
     pub index: u8,
 }
 
 /// An object of any kind.
-#[derive(Clone, Copy, Debug, PartialEq, Eq)]
+#[derive(Clone, Copy, PartialEq, Eq)]
 pub struct Object {
     pub kind: ObjectKind,
     pub place: Place,

@@ -25,6 +25,26 @@ pub enum Status {
     EOsNestingDeadlock,
 }
 
+/// The statuses in the order of their numbers.
+pub const STATUS_LIST: [Status; 16] = [
+    Status::EOk,
+    Status::EOsAccess,
+    Status::EOsCallevel,
+    Status::EOsId,
+    Status::EOsLimit,
+    Status::EOsNofunc,
+    Status::EOsResource,
+    Status::EOsState,
+    Status::EOsValue,
+    Status::EOsMissingend,
+    Status::EOsDisabledint,
+    Status::EOsProtectionTime,
+    Status::EOsCore,
+    Status::EOsSpinlock,
+    Status::EOsInterferenceDeadlock,
+    Status::EOsNestingDeadlock,
+];
+
 impl Status {
     /// The number that a script's variable gets for this status.
     pub fn number(self) -> u8
@@ -33,30 +53,11 @@ impl Status {
         self as u8
     }
 
-    /// The status of this number, if one has it: 0 to 15.
+    /// The status of this number, if one has it.
     pub fn numbered(number: u64) -> Option<Status>
         ensures { result ≡ status_numbered number }
     {
-        let status = match number {
-            0 => Status::EOk,
-            1 => Status::EOsAccess,
-            2 => Status::EOsCallevel,
-            3 => Status::EOsId,
-            4 => Status::EOsLimit,
-            5 => Status::EOsNofunc,
-            6 => Status::EOsResource,
-            7 => Status::EOsState,
-            8 => Status::EOsValue,
-            9 => Status::EOsMissingend,
-            10 => Status::EOsDisabledint,
-            11 => Status::EOsProtectionTime,
-            12 => Status::EOsCore,
-            13 => Status::EOsSpinlock,
-            14 => Status::EOsInterferenceDeadlock,
-            15 => Status::EOsNestingDeadlock,
-            _ => return None,
-        };
-        Some(status)
+        STATUS_LIST.get(number as usize).copied()
     }
 
     /// The word that a trace prints.

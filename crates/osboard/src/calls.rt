@@ -7,14 +7,14 @@ use osseat::SharedObject;
 pub const BOARD_CORES: usize = 8;
 
 /// A set of application modes: a flag for each mode.
-#[derive(Clone, Copy, Debug, PartialEq, Eq)]
+#[derive(Clone, Copy, PartialEq, Eq)]
 pub struct ModeSet {
     pub members: [bool; MODES],
 }
 
 /// The cores that were started, that have entered StartOS, that are ready, and that have drained, and the modes
 /// that were named.
-#[derive(Clone, Copy, Debug, PartialEq, Eq)]
+#[derive(Clone, Copy, PartialEq, Eq)]
 pub struct BoardView {
     pub started: CoreSet,
     pub entered: CoreSet,
@@ -24,7 +24,7 @@ pub struct BoardView {
 }
 
 /// All that stands on the board.
-#[derive(Clone, Copy, Debug, PartialEq, Eq)]
+#[derive(Clone, Copy, PartialEq, Eq)]
 pub struct BoardState {
     pub view: BoardView,
     /// Who asked first for a shutdown of all cores, and with which status.
@@ -32,7 +32,7 @@ pub struct BoardState {
 }
 
 /// What a core asks of the board.
-#[derive(Clone, Copy, Debug, PartialEq, Eq)]
+#[derive(Clone, Copy, PartialEq, Eq)]
 pub enum BoardCall {
     /// Starts the core that is named.
     Start(CoreId),
@@ -51,7 +51,7 @@ pub enum BoardCall {
 }
 
 /// What it is answered.
-#[derive(Clone, Copy, Debug, PartialEq, Eq)]
+#[derive(Clone, Copy, PartialEq, Eq)]
 pub enum BoardReply {
     Started(Status),
     Acknowledged,

@@ -6,7 +6,7 @@ ghost use Rattle.osbudget.specs.Budget.{is_reached};
 use std::marker::Model;
 
 /// How many ticks a job has used: those at which it was the running job, since it began or last waited.
-#[derive(Debug, Drop)]
+#[derive(Drop)]
 pub struct Used {
     ticks: u64,
 }

@@ -29,7 +29,7 @@ use osshape::Objects;
 use std::alloc::{AllocError, Global};
 
 // Gives every name a place, so that a text is judged whatever its names stand for.
-#[derive(Clone, Copy, Debug)]
+#[derive(Clone, Copy)]
 struct AnyName;
 
 impl Places for AnyName {

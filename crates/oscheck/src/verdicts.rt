@@ -4,7 +4,7 @@ ghost use Rattle.std.specs.Prelude.{◌≡◌};
 ghost use Rattle.oscheck.specs.Verdict.{all_right, both, with_names};
 
 /// What is right of a part of a text, in the order of the faults.
-#[derive(Clone, Copy, Debug, PartialEq, Eq)]
+#[derive(Clone, Copy, PartialEq, Eq)]
 pub struct Verdict {
     /// Each name has its object.
     pub known: bool,
@@ -55,7 +55,7 @@ impl Verdict {
 }
 
 /// A part of a text as it is read, and what is right of it.
-#[derive(Debug, Drop)]
+#[derive(Drop)]
 pub struct Judged<T> {
     pub value: T,
     pub verdict: Verdict,

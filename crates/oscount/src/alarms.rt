@@ -8,14 +8,14 @@ use crate::counters::{self, Counter};
 
 /// The value of its counter at which an alarm in use is due next, and after how many counts it is due again; 0
 /// for an alarm that is not (OSEK/VDX OS 2.2.3, section 9.2).
-#[derive(Clone, Copy, Debug, PartialEq, Eq)]
+#[derive(Clone, Copy, PartialEq, Eq)]
 pub struct Expiry {
     pub value: u32,
     pub cycle: u32,
 }
 
 /// An alarm; in use, where it has a value at which it is due (OSEK/VDX OS 2.2.3, section 9.2).
-#[derive(Clone, Copy, Debug, PartialEq, Eq)]
+#[derive(Clone, Copy, PartialEq, Eq)]
 pub struct Alarm {
     pub expiry: Option<Expiry>,
 }

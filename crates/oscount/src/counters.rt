@@ -5,7 +5,7 @@ ghost use Rattle.osbase.specs.Counting.{counts_to, value_after};
 ghost use Rattle.oscount.specs.Clocks.{advanced, counter_at, wrapped};
 
 /// A counter (OSEK/VDX OS 2.2.3, section 9.1): its value goes from 0 to its greatest, and then to 0 again.
-#[derive(Clone, Copy, Debug, Default, PartialEq, Eq)]
+#[derive(Clone, Copy, Default, PartialEq, Eq)]
 pub struct Counter {
     /// The greatest value (AUTOSAR SWS OS 4.x, OsCounterMaxAllowedValue).
     pub max: u32,

@@ -149,7 +149,7 @@ pub type Script = List<Op>;
 
 /// Where a job stands: the operation that comes next, the status of its last service (E_OK before
 /// any), and the variables of its task or ISR, which outlive the job.
-#[derive(Clone, Copy, Debug, PartialEq, Eq)]
+#[derive(Clone, Copy, PartialEq, Eq)]
 pub struct Frame {
     pub pc: usize,
     pub status: Status,

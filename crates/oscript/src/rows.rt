@@ -8,7 +8,7 @@ use crate::Op;
 use osbase::{AlarmRef, CoreId, Object, ObjectKind, Place, Reference, ServiceId, Status, Variable};
 
 /// What an argument of an operation has to be.
-#[derive(Clone, Copy, Debug, PartialEq, Eq)]
+#[derive(Clone, Copy, PartialEq, Eq)]
 pub enum Kind {
     /// The name of an object of this kind, or `?`.
     Object(ObjectKind),
@@ -25,7 +25,7 @@ pub enum Kind {
 }
 
 /// The arguments of an operation, or their kinds.
-#[derive(Clone, Copy, Debug, PartialEq, Eq)]
+#[derive(Clone, Copy, PartialEq, Eq)]
 pub enum Args<A> {
     Zero,
     One(A),
@@ -34,7 +34,7 @@ pub enum Args<A> {
 }
 
 /// What an operation does, without its arguments.
-#[derive(Clone, Copy, Debug, PartialEq, Eq)]
+#[derive(Clone, Copy, PartialEq, Eq)]
 pub enum Verb {
     Work,
     Set,
@@ -77,7 +77,7 @@ pub enum Verb {
 
 /// One row of the grammar: an operation's word, the kinds of its arguments, and the service that it
 /// calls, whose status it answers, if it is one.
-#[derive(Clone, Copy, Debug, PartialEq, Eq)]
+#[derive(Clone, Copy, PartialEq, Eq)]
 pub struct Row {
     pub word: &'static str,
     pub kinds: Args<Kind>,
@@ -239,7 +239,7 @@ pub fn row_of(verb: Verb) -> Row
 }
 
 /// An argument of an operation. In place of an object or a core, `None` is the invalid identifier, `?`.
-#[derive(Clone, Copy, Debug, PartialEq, Eq)]
+#[derive(Clone, Copy, PartialEq, Eq)]
 pub enum Arg<R> {
     Object(ObjectKind, Option<R>),
     /// Events; 0 stands for a mask that is out of its range.
@@ -252,7 +252,7 @@ pub enum Arg<R> {
 
 /// An operation as its verb and its arguments, whose objects are known as `R` says: by their names, or
 /// by their places.
-#[derive(Clone, Copy, Debug, PartialEq, Eq)]
+#[derive(Clone, Copy, PartialEq, Eq)]
 pub struct Form<R> {
     pub verb: Verb,
     pub args: Args<Arg<R>>,

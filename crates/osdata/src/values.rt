@@ -53,7 +53,7 @@ fn or_null_value<T, W: Writer<T>>(
 }
 
 // Writes the parts of a plan, by the names of its modes and objects.
-#[derive(Clone, Copy, Debug)]
+#[derive(Clone, Copy)]
 struct PlanWriter<'p> {
     plan: &'p Plan,
 }

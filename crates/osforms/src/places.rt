@@ -19,7 +19,7 @@ pub trait Places {
 }
 
 // Gives every name a place, so that a text is judged whatever its names stand for.
-#[derive(Clone, Copy, Debug)]
+#[derive(Clone, Copy)]
 pub struct AnyName;
 
 impl Places for AnyName {

@@ -95,7 +95,7 @@ fn stimulus_of(core: &Core, word: &[u8]) -> Option<Stimulus>
 }
 
 // Reads a stimulus of a core.
-#[derive(Clone, Copy, Debug)]
+#[derive(Clone, Copy)]
 struct StimulusReader<'p> {
     core: &'p Core,
 }
@@ -282,7 +282,7 @@ fn turn_of(plan: &Plan, word: &[u8]) -> Option<Turn>
 }
 
 // Reads a turn.
-#[derive(Clone, Copy, Debug)]
+#[derive(Clone, Copy)]
 struct TurnReader<'p> {
     plan: &'p Plan,
 }

@@ -2,6 +2,7 @@
 use Rattle.std.specs.Prelude.{ℕ, ℤ, pos, ◌==◌, Bool, true, false, if◌then◌else◌, Option, Some, None, List, [], ◌∷◌}
 use Rattle.std.specs.List.{enumerate_from, list_any}
 use Rattle.std.specs.Option.{option_map_or}
+use Rattle.osbase.specs.declared.limits.TheConstants.{OUTBOX}
 use Rattle.osbase.specs.declared.statuses.Status.{Status}
 use Rattle.osbase.specs.declared.statuses.Status.TheVariants.{EOk, EOsCore}
 use Rattle.osbase.specs.declared.statuses.ServiceId.{ServiceId}
@@ -213,7 +214,7 @@ after v h item = dispatches v (does (effect item) v (Took item ∷ h))
 
 -- How many envelopes a core's outbox may hold. [own]
 abbrev pub outbox_size : ℕ
-outbox_size = 64
+outbox_size = OUTBOX
 
 -- A core by itself: the items applied in order, where each in turn may be taken. Its marks are the trace. [own]
 abbrev pub solo_from : View → History → List Item → Option History

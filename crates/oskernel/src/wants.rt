@@ -43,7 +43,7 @@ pub enum Want {
 }
 
 /// What a core's look at the board waits for.
-#[derive(Clone, Copy, Debug, PartialEq, Eq)]
+#[derive(Clone, Copy, PartialEq, Eq)]
 pub enum Watch {
     /// That it is started.
     On,

@@ -36,7 +36,7 @@ use Rattle.osplan.proofs.SpinlockObjects.{spinlock-there}
 use Rattle.osplan.proofs.Within.{limit-parts}
 use Rattle.oslog.specs.declared.rows.Kind.{Kind}
 use Rattle.oslog.specs.declared.rows.Kind.TheVariants as K
-use Rattle.oslog.specs.declared.words.TheConstants.{STATUSES}
+use Rattle.osbase.specs.declared.statuses.TheConstants.{STATUS_LIST}
 use Rattle.oslog.proofs.Named.{named-there}
 
 -- ---- numbers
@@ -107,7 +107,7 @@ object-is kind object found e =
     ∙ ap (λ (p : Place). let o : Object = record { kind = kind; place = p } in o) place
 
 status-word : (w : List ℕ) (s : Status) → status_of w ≡ Some s → status_name s ≡ w
-status-word w s e = (bytes_eq-Decides (status_name s) w).0 (find-holds (λ (s : Status). bytes_eq (status_name s) w) STATUSES s e)
+status-word w s e = (bytes_eq-Decides (status_name s) w).0 (find-holds (λ (s : Status). bytes_eq (status_name s) w) STATUS_LIST s e)
 
 -- what stands behind a text at the front of a word
 behind-is : (front word rest : List ℕ) → behind front word ≡ Some rest → front ++ rest ≡ word

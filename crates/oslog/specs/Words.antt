@@ -27,7 +27,7 @@ use Rattle.oslog.specs.declared.rows.Kind.{Kind}
 use Rattle.oslog.specs.declared.rows.Kind.TheVariants as K
 use Rattle.oslog.specs.declared.rows.Tail.{Tail}
 use Rattle.oslog.specs.declared.rows.Tail.TheVariants as T
-use Rattle.oslog.specs.declared.words.TheConstants.{STATUSES}
+use Rattle.osbase.specs.declared.statuses.TheConstants.{STATUS_LIST}
 
 -- ---- writing
 
@@ -58,7 +58,7 @@ tail_words plan parts T.Cores = core_words parts.cores
 -- ---- reading
 
 abbrev pub status_of : List ℕ → Option Status
-status_of word = find (λ (s : Status). bytes_eq (status_name s) word) STATUSES
+status_of word = find (λ (s : Status). bytes_eq (status_name s) word) STATUS_LIST
 
 abbrev pub core_of : List ℕ → Option CoreId
 core_of word = option_map (λ n. record { number = n }) (number_in 0 255 word)

@@ -12,7 +12,7 @@ use osbase::{
 };
 
 /// What the parts of a line say, one of each kind. What the row of a form does not have is not asked.
-#[derive(Clone, Copy, Debug, PartialEq, Eq)]
+#[derive(Clone, Copy, PartialEq, Eq)]
 pub struct Parts {
     pub core: CoreId,
     pub count: u64,

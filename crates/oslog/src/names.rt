@@ -16,7 +16,7 @@ use std::alloc::{AllocError, Global};
 use std::collections::HashMap;
 
 /// The names of a plan.
-#[derive(Clone, Copy, Debug)]
+#[derive(Clone, Copy)]
 pub struct PlanNames<'p> {
     pub plan: &'p Plan,
 }

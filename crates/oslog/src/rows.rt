@@ -6,7 +6,7 @@ ghost use Rattle.oslog.specs.declared.rows.Keyword.{Keyword as Word};
 ghost use Rattle.oslog.specs.declared.rows.Tail.TheVariants as tails;
 
 /// A form of an item. Where an item says one of several things, each is a form of its own.
-#[derive(Clone, Copy, Debug, PartialEq, Eq)]
+#[derive(Clone, Copy, PartialEq, Eq)]
 pub enum Line {
     Op,
     Tick,
@@ -67,7 +67,7 @@ pub const LINES: [Line; 25] = [
 ];
 
 /// A word of a log's own.
-#[derive(Clone, Copy, Debug, PartialEq, Eq)]
+#[derive(Clone, Copy, PartialEq, Eq)]
 pub enum Keyword {
     On,
     Began,
@@ -133,7 +133,7 @@ impl Keyword {
 }
 
 /// What a word of a line has to be. No row has two words of one kind, but for keywords.
-#[derive(Clone, Copy, Debug, PartialEq, Eq)]
+#[derive(Clone, Copy, PartialEq, Eq)]
 pub enum Kind {
     Keyword(Keyword),
     /// The number of a core, configured or not: 0 to 255.
@@ -159,7 +159,7 @@ const YES: Kind = Kind::Keyword(Keyword::Yes);
 const NO: Kind = Kind::Keyword(Keyword::No);
 
 /// What stands behind the words of a line.
-#[derive(Clone, Copy, Debug, PartialEq, Eq)]
+#[derive(Clone, Copy, PartialEq, Eq)]
 pub enum Tail {
     Nothing,
     /// The words of an operation that goes across cores.
@@ -169,7 +169,7 @@ pub enum Tail {
 }
 
 /// One row of the grammar: the word at the front, the words behind it, and what follows them.
-#[derive(Clone, Copy, Debug)]
+#[derive(Clone, Copy)]
 pub struct Row {
     pub first: Keyword,
     pub kinds: &'static [Kind],

@@ -6,34 +6,14 @@ ghost use Rattle.osforms.specs.Form.{rest_words};
 ghost use Rattle.oslog.specs.Words.{core_of, cores_from, status_of};
 
 use crate::forms::no_cores;
-use osbase::{CORES, CoreId, CoreSet, Status};
+use osbase::{CORES, CoreId, CoreSet, STATUS_LIST, Status};
 use osforms::{cut, number_in};
-
-/// Every status. A name is looked for from the front.
-const STATUSES: [Status; 16] = [
-    Status::EOk,
-    Status::EOsAccess,
-    Status::EOsCallevel,
-    Status::EOsId,
-    Status::EOsLimit,
-    Status::EOsNofunc,
-    Status::EOsResource,
-    Status::EOsState,
-    Status::EOsValue,
-    Status::EOsMissingend,
-    Status::EOsDisabledint,
-    Status::EOsProtectionTime,
-    Status::EOsCore,
-    Status::EOsSpinlock,
-    Status::EOsInterferenceDeadlock,
-    Status::EOsNestingDeadlock,
-];
 
 /// The status of this name.
 pub fn status_of(word: &str) -> Option<Status>
     ensures { result ≡ status_of word.now }
 {
-    STATUSES
+    STATUS_LIST
         .iter()
         .copied()
         .find(|status| status.name() == word)

@@ -5,6 +5,7 @@ use Rattle.osbase.specs.declared.objects.ObjectKind.{ObjectKind}
 use Rattle.osbase.specs.declared.objects.ObjectKind.TheVariants.{Mode, Spinlock, Task, Isr, Resource, Counter, Alarm, Table}
 use Rattle.osbase.specs.declared.objects.Object.{Object}
 use Rattle.osbase.specs.declared.objects.TheConstants.{NOBODY}
+use Rattle.osbase.specs.declared.limits.TheConstants.{CALLS_AT_ONCE}
 use Rattle.osbase.specs.declared.messages.RemoteCall.{RemoteCall}
 use Rattle.osbase.specs.declared.references.ModeId.{ModeId}
 use Rattle.osbase.specs.History.{greater, same_core}
@@ -124,6 +125,6 @@ greatest_posted core table = greatest_of (map (posted_at core) table.points)
 abbrev pub posted_at_once : Core → ℕ
 posted_at_once core = count_by (λ (alarm : AlarmValue). is_posting core alarm.action) core.alarms + sum_by (greatest_posted core) core.tables
 
--- How many places a core's outbox needs at least: for all that its alarms and schedule tables may post at once, and 8 more. [own]
+-- How many places a core's outbox needs at least: for all that its alarms and schedule tables, and its calls, may post at once. [own]
 abbrev pub outbox_needed : Core → ℕ
-outbox_needed core = 8 + posted_at_once core
+outbox_needed core = CALLS_AT_ONCE + posted_at_once core

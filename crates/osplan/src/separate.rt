@@ -146,7 +146,7 @@ pub fn is_separate(config: &Config, core: CoreId) -> bool
 }
 
 /// What a core is to the other cores of its configuration.
-#[derive(Clone, Copy, Debug, PartialEq, Eq)]
+#[derive(Clone, Copy, PartialEq, Eq)]
 pub enum Standing {
     /// Started, and no other core has a say in what it prints.
     Separate,

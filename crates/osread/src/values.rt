@@ -35,7 +35,7 @@ pub trait JsonReader<'v, U> {
 pub type Whole = Option<u64>;
 
 /// Reads a whole number.
-#[derive(Clone, Copy, Debug)]
+#[derive(Clone, Copy)]
 pub struct WholeReader;
 
 impl<'v> JsonReader<'v, Whole> for WholeReader {
@@ -55,7 +55,7 @@ impl<'v> JsonReader<'v, Whole> for WholeReader {
 }
 
 /// Reads a truth value.
-#[derive(Clone, Copy, Debug)]
+#[derive(Clone, Copy)]
 pub struct BoolReader;
 
 impl<'v> JsonReader<'v, bool> for BoolReader {
@@ -72,7 +72,7 @@ impl<'v> JsonReader<'v, bool> for BoolReader {
 }
 
 /// A text of a value, which it borrows.
-#[derive(Debug, Drop)]
+#[derive(Drop)]
 pub struct Text<'v> {
     text: &'v str,
 }
@@ -100,7 +100,7 @@ impl<'v> Text<'v> {
 }
 
 /// Reads a text.
-#[derive(Clone, Copy, Debug)]
+#[derive(Clone, Copy)]
 pub struct TextReader;
 
 impl<'v> JsonReader<'v, Text<'v>> for TextReader {
@@ -117,7 +117,7 @@ impl<'v> JsonReader<'v, Text<'v>> for TextReader {
 }
 
 /// Reads a text that has the form of a name.
-#[derive(Clone, Copy, Debug)]
+#[derive(Clone, Copy)]
 pub struct NameReader;
 
 impl<'v> JsonReader<'v, Text<'v>> for NameReader {
@@ -145,7 +145,7 @@ fn name_in(text: &str) -> Result<Text<'_>, Refusal>
 }
 
 /// Reads null, or such a value.
-#[derive(Clone, Copy, Debug)]
+#[derive(Clone, Copy)]
 pub struct OrNull<R> {
     pub of: R,
 }
@@ -164,7 +164,7 @@ impl<'v, U: Drop, R: JsonReader<'v, U>> JsonReader<'v, Option<U>> for OrNull<R> 
 }
 
 /// Reads a list of such values.
-#[derive(Clone, Copy, Debug)]
+#[derive(Clone, Copy)]
 pub struct ListOf<R> {
     pub of: R,
 }
@@ -194,7 +194,7 @@ fn read_values<'v, U: Drop, R: JsonReader<'v, U>>(
 }
 
 // Reads the elements of a list as values.
-#[derive(Clone, Copy, Debug)]
+#[derive(Clone, Copy)]
 struct ElementReader<'r, R> {
     reader: &'r R,
 }

@@ -6,7 +6,7 @@ ghost use Rattle.osbase.specs.Interrupts.{deeper, shallower};
 use std::marker::Model;
 
 /// How often a job has suspended interrupts and not resumed them, at most 255 times.
-#[derive(Debug, Drop)]
+#[derive(Drop)]
 pub struct Locks {
     depth: u8,
 }

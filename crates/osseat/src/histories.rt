@@ -8,7 +8,7 @@ use osbase::{CoreId, List};
 use std::collections::LinkedList;
 
 /// A call of a core, with its answer.
-#[derive(Clone, Copy, Debug, PartialEq, Eq)]
+#[derive(Clone, Copy, PartialEq, Eq)]
 pub struct Entry<C, R> {
     pub core: CoreId,
     pub call: C,
@@ -16,7 +16,7 @@ pub struct Entry<C, R> {
 }
 
 /// What an object is made with: the cores that get a seat, and what else it is told.
-#[derive(Debug, Drop)]
+#[derive(Drop)]
 pub struct Plan<A> {
     pub cores: List<CoreId>,
     pub about: A,

@@ -12,7 +12,7 @@ use osread::{Text, Whole};
 use std::alloc::{AllocError, Global};
 
 /// A declared object, by its name. Under `NOBODY` stands what all cores have in common.
-#[derive(Debug, Drop)]
+#[derive(Drop)]
 pub struct Declaration<'t> {
     pub name: Text<'t>,
     pub kind: ObjectKind,

@@ -25,7 +25,7 @@ use serde_json::Value;
 use std::alloc::{AllocError, Global};
 
 /// A task as a text has it.
-#[derive(Debug, Drop)]
+#[derive(Drop)]
 pub struct TaskText<'v> {
     pub name: Text<'v>,
     pub prio: Whole,
@@ -49,7 +49,7 @@ impl TaskText<'_> {
 }
 
 /// An ISR as a text has it.
-#[derive(Debug, Drop)]
+#[derive(Drop)]
 pub struct IsrText<'v> {
     pub name: Text<'v>,
     pub level: Whole,
@@ -67,7 +67,7 @@ impl IsrText<'_> {
 }
 
 /// A resource as a text has it.
-#[derive(Debug, Drop)]
+#[derive(Drop)]
 pub struct ResourceText<'v> {
     pub name: Text<'v>,
     pub ceiling: Whole,
@@ -83,7 +83,7 @@ impl ResourceText<'_> {
 }
 
 /// A counter as a text has it.
-#[derive(Debug, Drop)]
+#[derive(Drop)]
 pub struct CounterText<'v> {
     pub name: Text<'v>,
     pub max: Whole,
@@ -101,7 +101,7 @@ impl CounterText<'_> {
 }
 
 /// How an alarm is set by itself, as a text has it.
-#[derive(Debug, Drop)]
+#[derive(Drop)]
 pub struct AlarmStartText<'v> {
     pub modes: List<Text<'v>>,
     pub start: Whole,
@@ -125,7 +125,7 @@ impl AlarmStartText<'_> {
 }
 
 /// An alarm as a text has it.
-#[derive(Debug, Drop)]
+#[derive(Drop)]
 pub struct AlarmText<'v> {
     pub name: Text<'v>,
     pub counter: Text<'v>,
@@ -134,7 +134,7 @@ pub struct AlarmText<'v> {
 }
 
 /// A core as a text has it.
-#[derive(Debug, Drop)]
+#[derive(Drop)]
 pub struct CoreText<'v> {
     pub id: Whole,
     /// None where the text says nothing of it.
@@ -150,7 +150,7 @@ pub struct CoreText<'v> {
 }
 
 /// A spinlock as a text has it.
-#[derive(Debug, Drop)]
+#[derive(Drop)]
 pub struct SpinlockText<'v> {
     pub name: Text<'v>,
     /// The name of its successor in the order in which spinlocks may be got, if it has one.
@@ -158,7 +158,7 @@ pub struct SpinlockText<'v> {
 }
 
 /// What a text has of an object of any kind: its name, and of a counter the greatest value and the least cycle.
-#[derive(Debug, Drop)]
+#[derive(Drop)]
 pub struct Named<'v> {
     pub name: Text<'v>,
     pub max: Whole,
@@ -288,7 +288,7 @@ impl<'v> CoreText<'v> {
 }
 
 /// A configuration as a text has it.
-#[derive(Debug, Drop)]
+#[derive(Drop)]
 pub struct ConfigText<'v> {
     pub version: Whole,
     pub cap: Whole,
@@ -329,7 +329,7 @@ fn list_at<'v, U: Drop, R: JsonReader<'v, U> + Copy>(
 }
 
 // Reads a task.
-#[derive(Clone, Copy, Debug)]
+#[derive(Clone, Copy)]
 struct TaskReader;
 
 impl<'v> JsonReader<'v, TaskText<'v>> for TaskReader {
@@ -366,7 +366,7 @@ impl<'v> JsonReader<'v, TaskText<'v>> for TaskReader {
 }
 
 // Reads an ISR.
-#[derive(Clone, Copy, Debug)]
+#[derive(Clone, Copy)]
 struct IsrReader;
 
 impl<'v> JsonReader<'v, IsrText<'v>> for IsrReader {
@@ -387,7 +387,7 @@ impl<'v> JsonReader<'v, IsrText<'v>> for IsrReader {
 }
 
 // Reads a resource.
-#[derive(Clone, Copy, Debug)]
+#[derive(Clone, Copy)]
 struct ResourceReader;
 
 impl<'v> JsonReader<'v, ResourceText<'v>> for ResourceReader {
@@ -406,7 +406,7 @@ impl<'v> JsonReader<'v, ResourceText<'v>> for ResourceReader {
 }
 
 // Reads a counter.
-#[derive(Clone, Copy, Debug)]
+#[derive(Clone, Copy)]
 struct CounterReader;
 
 impl<'v> JsonReader<'v, CounterText<'v>> for CounterReader {
@@ -427,7 +427,7 @@ impl<'v> JsonReader<'v, CounterText<'v>> for CounterReader {
 }
 
 // Reads how an alarm is set by itself.
-#[derive(Clone, Copy, Debug)]
+#[derive(Clone, Copy)]
 struct AlarmStartReader;
 
 impl<'v> JsonReader<'v, AlarmStartText<'v>> for AlarmStartReader {
@@ -447,7 +447,7 @@ impl<'v> JsonReader<'v, AlarmStartText<'v>> for AlarmStartReader {
 }
 
 // Reads an alarm.
-#[derive(Clone, Copy, Debug)]
+#[derive(Clone, Copy)]
 struct AlarmReader;
 
 impl<'v> JsonReader<'v, AlarmText<'v>> for AlarmReader {
@@ -476,7 +476,7 @@ impl<'v> JsonReader<'v, AlarmText<'v>> for AlarmReader {
 }
 
 // Reads a spinlock.
-#[derive(Clone, Copy, Debug)]
+#[derive(Clone, Copy)]
 struct SpinlockReader;
 
 impl<'v> JsonReader<'v, SpinlockText<'v>> for SpinlockReader {
@@ -495,7 +495,7 @@ impl<'v> JsonReader<'v, SpinlockText<'v>> for SpinlockReader {
 }
 
 // Reads how a core answers a time fault.
-#[derive(Clone, Copy, Debug)]
+#[derive(Clone, Copy)]
 struct ProtectionReader;
 
 impl<'v> JsonReader<'v, Protection> for ProtectionReader {
@@ -510,7 +510,7 @@ impl<'v> JsonReader<'v, Protection> for ProtectionReader {
 }
 
 // Reads the mode of a core.
-#[derive(Clone, Copy, Debug)]
+#[derive(Clone, Copy)]
 struct ModeReader;
 
 impl<'v> JsonReader<'v, Option<Text<'v>>> for ModeReader {
@@ -533,7 +533,7 @@ fn default_modes<'v>(alloc: Global) -> Result<List<Text<'v>>, AllocError>
 }
 
 // Reads a core.
-#[derive(Clone, Copy, Debug)]
+#[derive(Clone, Copy)]
 struct CoreReader;
 
 impl<'v> JsonReader<'v, CoreText<'v>> for CoreReader {
@@ -580,7 +580,7 @@ impl<'v> JsonReader<'v, CoreText<'v>> for CoreReader {
 }
 
 /// Reads a configuration. `Unfit` where a member is missing, unknown or of another type.
-#[derive(Clone, Copy, Debug)]
+#[derive(Clone, Copy)]
 pub struct ConfigReader;
 
 impl<'v> JsonReader<'v, ConfigText<'v>> for ConfigReader {

@@ -20,7 +20,7 @@ use serde_json::Value;
 use std::alloc::Global;
 
 /// An expiry point of a schedule table as a text has it.
-#[derive(Debug, Drop)]
+#[derive(Drop)]
 pub struct PointText<'v> {
     pub offset: Whole,
     pub actions: List<Text<'v>>,
@@ -36,14 +36,14 @@ impl PointText<'_> {
 }
 
 /// How a schedule table is started by itself, as a text has it.
-#[derive(Debug, Drop)]
+#[derive(Drop)]
 pub struct TableStartText<'v> {
     pub modes: List<Text<'v>>,
     pub offset: Whole,
 }
 
 /// A schedule table as a text has it.
-#[derive(Debug, Drop)]
+#[derive(Drop)]
 pub struct TableText<'v> {
     pub name: Text<'v>,
     pub counter: Text<'v>,
@@ -105,7 +105,7 @@ impl TableText<'_> {
 }
 
 // Reads an expiry point.
-#[derive(Clone, Copy, Debug)]
+#[derive(Clone, Copy)]
 struct PointReader;
 
 impl<'v> JsonReader<'v, PointText<'v>> for PointReader {
@@ -124,7 +124,7 @@ impl<'v> JsonReader<'v, PointText<'v>> for PointReader {
 }
 
 // Reads how a schedule table is started by itself.
-#[derive(Clone, Copy, Debug)]
+#[derive(Clone, Copy)]
 struct TableStartReader;
 
 impl<'v> JsonReader<'v, TableStartText<'v>> for TableStartReader {
@@ -143,7 +143,7 @@ impl<'v> JsonReader<'v, TableStartText<'v>> for TableStartReader {
 }
 
 /// Reads a schedule table.
-#[derive(Clone, Copy, Debug)]
+#[derive(Clone, Copy)]
 pub struct TableReader;
 
 impl<'v> JsonReader<'v, TableText<'v>> for TableReader {

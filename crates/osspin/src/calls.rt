@@ -9,7 +9,7 @@ use std::collections::LinkedList;
 
 /// What a core does to a spinlock (AUTOSAR SWS OS 4.x, TryToGetSpinlock and ReleaseSpinlock; that one
 /// looks is this project's own).
-#[derive(Clone, Copy, Debug, PartialEq, Eq)]
+#[derive(Clone, Copy, PartialEq, Eq)]
 pub enum SpinAction {
     Take,
     Free,
@@ -17,14 +17,14 @@ pub enum SpinAction {
 }
 
 /// What a core asks of the spinlocks.
-#[derive(Clone, Copy, Debug, PartialEq, Eq)]
+#[derive(Clone, Copy, PartialEq, Eq)]
 pub struct SpinCall {
     pub lock: SpinlockId,
     pub action: SpinAction,
 }
 
 /// What it is answered.
-#[derive(Clone, Copy, Debug, PartialEq, Eq)]
+#[derive(Clone, Copy, PartialEq, Eq)]
 pub enum SpinReply {
     /// Whether the spinlock was taken or freed.
     Answered(bool),

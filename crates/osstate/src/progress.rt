@@ -8,7 +8,7 @@ ghost use Rattle.osstate.specs.Steps.{first_progress, moved_by, progress_after};
 use osbase::{Agreement, CORES, CoreSet, Course, Item, Mark, Phase};
 
 /// Where a core stands.
-#[derive(Clone, Copy, Debug, PartialEq, Eq)]
+#[derive(Clone, Copy, PartialEq, Eq)]
 pub struct Progress {
     pub phase: Phase,
     pub course: Course,

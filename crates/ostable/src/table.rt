@@ -12,14 +12,14 @@ use osbase::TableRef;
 
 /// What comes next of a table that runs: the point of this number, or, past the last point, the end of the period; and
 /// after how many counts.
-#[derive(Clone, Copy, Debug, PartialEq, Eq)]
+#[derive(Clone, Copy, PartialEq, Eq)]
 pub struct Ahead {
     pub next: u8,
     pub distance: u32,
 }
 
 /// What a table does at a count: the point that is due, by its number, and whether a period ends.
-#[derive(Clone, Copy, Debug, Default, PartialEq, Eq)]
+#[derive(Clone, Copy, Default, PartialEq, Eq)]
 pub struct Due {
     pub point: Option<u8>,
     pub ends: bool,
@@ -27,7 +27,7 @@ pub struct Due {
 
 /// Whether a table is stopped, waits for the end of another table's period, or runs (AUTOSAR SWS OS 4.x,
 /// ScheduleTableStatusType).
-#[derive(Clone, Copy, Debug, PartialEq, Eq)]
+#[derive(Clone, Copy, PartialEq, Eq)]
 pub enum TableStatus {
     Stopped,
     Next,
@@ -35,7 +35,7 @@ pub enum TableStatus {
 }
 
 /// A schedule table (AUTOSAR SWS OS 4.x, section 7.3).
-#[derive(Clone, Copy, Debug, PartialEq, Eq)]
+#[derive(Clone, Copy, PartialEq, Eq)]
 pub enum Table {
     Stopped,
     NextOf(TableRef),

@@ -19,7 +19,7 @@ use osplan::{Core, own};
 use std::marker::Model;
 
 /// What a table does at a count, and which table begins in its place where its period ends.
-#[derive(Clone, Copy, Debug, Default, PartialEq, Eq)]
+#[derive(Clone, Copy, Default, PartialEq, Eq)]
 pub struct DueTable {
     pub table: TableRef,
     pub due: Due,

@@ -68,7 +68,7 @@ pub record ResultsIn (id : CoreId) (watch : Watch) (call : BoardCall) (t : Board
   pub item : Item
   pub names : named_by id watch (OfBoard call) (Replied (board_reply id call t)) ≡ Some item
   pub no_mail : is_mail item ≡ false
-  pub same : (s : KernelState) → takes_in 64 s item ≡ takes_in 64 s (item_of_call id call)
+  pub same : (s : KernelState) → takes_in outbox_size s item ≡ takes_in outbox_size s (item_of_call id call)
 
 pub result-of : (id : CoreId) (watch : Watch) (call : BoardCall) (t : BoardState) → ChangesBoard call → ResultsIn id watch call t
 result-of id watch (Start k) t changes = record {
@@ -78,7 +78,7 @@ result-of id watch (Start k) t changes = record {
   same = λ s. by s (has_core t.view.started k);
 }
   where
-    by : (s : KernelState) (b : Bool) → takes_in 64 s (Item.Began k (cond b EOsState EOk)) ≡ takes_in 64 s (Item.Began k EOk)
+    by : (s : KernelState) (b : Bool) → takes_in outbox_size s (Item.Began k (cond b EOsState EOk)) ≡ takes_in outbox_size s (Item.Began k EOk)
     by s true = refl
     by s false = refl
 result-of id watch (Enter mode) t changes = record { item = Item.Entered; names = refl; no_mail = refl; same = λ s. refl }
@@ -104,10 +104,10 @@ call-fruitless id k call changes not_this answer may =
     (refused-item id k (OfBoard call) (Replied (board_reply id call may.0)) results.item results.names (results.same k ∙ not_this))
 
 -- The item of a spinlock's answer is one that the core takes exactly if it takes the one that was expected.
-pub spun-same : (s : KernelState) (wish : SpinWish) (reply : SpinReply) (i : Item) → spun wish reply ≡ Some i → takes_in 64 s i ≡ takes_in 64 s (item_of_wish wish)
-spun-same s (Wish.Get l) (Answered true) i e = is-item (λ (j : Item). takes_in 64 s j ≡ takes_in 64 s (Item.Granted l)) (Item.Granted l) i refl e
-spun-same s (Wish.Try l) (Answered taken) i e = is-item (λ (j : Item). takes_in 64 s j ≡ takes_in 64 s (Item.Tried l true)) (Item.Tried l taken) i refl e
-spun-same s (Wish.Free l) (Answered true) i e = is-item (λ (j : Item). takes_in 64 s j ≡ takes_in 64 s (Item.Freed l)) (Item.Freed l) i refl e
+pub spun-same : (s : KernelState) (wish : SpinWish) (reply : SpinReply) (i : Item) → spun wish reply ≡ Some i → takes_in outbox_size s i ≡ takes_in outbox_size s (item_of_wish wish)
+spun-same s (Wish.Get l) (Answered true) i e = is-item (λ (j : Item). takes_in outbox_size s j ≡ takes_in outbox_size s (Item.Granted l)) (Item.Granted l) i refl e
+spun-same s (Wish.Try l) (Answered taken) i e = is-item (λ (j : Item). takes_in outbox_size s j ≡ takes_in outbox_size s (Item.Tried l true)) (Item.Tried l taken) i refl e
+spun-same s (Wish.Free l) (Answered true) i e = is-item (λ (j : Item). takes_in outbox_size s j ≡ takes_in outbox_size s (Item.Freed l)) (Item.Freed l) i refl e
 spun-same s wish reply i e = cc
 
 -- Whatever the spinlock answers, the core takes no item then, if it does not take the one that was expected.

@@ -94,11 +94,11 @@ module _ (plan : Plan) (stimuli : List CoreStimuli) (old : Seat) (work : IsAtWor
   abbrev h : History
   h = history_by plan old.id old.items.items
 
-  takes-it : (item : Item) (b : Bool) → takes_in 64 old.kernel item ≡ b → takes outbox_size v h item ≡ b
-  takes-it item b is = subst (λ (k : KernelState). takes_in 64 k item ≡ b) work.seated.tracks.stands.is is
+  takes-it : (item : Item) (b : Bool) → takes_in outbox_size old.kernel item ≡ b → takes outbox_size v h item ≡ b
+  takes-it item b is = subst (λ (k : KernelState). takes_in outbox_size k item ≡ b) work.seated.tracks.stands.is is
 
-  serves-it : serves_in 64 old.kernel ≡ true → serves outbox_size v h ≡ true
-  serves-it is = subst (λ (k : KernelState). serves_in 64 k ≡ true) work.seated.tracks.stands.is is
+  serves-it : serves_in outbox_size old.kernel ≡ true → serves outbox_size v h ≡ true
+  serves-it is = subst (λ (k : KernelState). serves_in outbox_size k ≡ true) work.seated.tracks.stands.is is
 
   -- its next stimulus
   pub next-left : slice_get old.stimuli.now 0 ≡ slice_get (stimuli_of stimuli old.id) (length (stimuli_in old.items.items))
@@ -409,7 +409,7 @@ module _ (v : View) (h : History) (sent taken sent' taken' : Streams) (mail : Is
 
 module _ (plan : Plan) (stimuli : List CoreStimuli) (loads : ℕ) (old new : Seat) (made made' : Calls) (sent taken sent' taken' : Streams)
     (done : HasDone plan stimuli old made sent taken None loads) (ask : Ask) (answer : Answer) (item : Item)
-    (asked : IsAsked plan old ask) (names : named_by old.id (watch_in old.kernel) ask answer ≡ Some item) (may : takes_in 64 old.kernel item ≡ true) (took : Took old new item) where
+    (asked : IsAsked plan old ask) (names : named_by old.id (watch_in old.kernel) ask answer ≡ Some item) (may : takes_in outbox_size old.kernel item ≡ true) (took : Took old new item) where
   abbrev view : View
   view = view_of plan old.id
 
@@ -517,7 +517,7 @@ module _ (plan : Plan) (stimuli : List CoreStimuli) (loads : ℕ) (core : Seat) 
   }
 
   -- an envelope was taken that the core could not take, though it may serve
-  pub refused : (from : CoreId) (e : Envelope) (sent' taken' : Streams) → serves_in 64 core.kernel ≡ true → takes_in 64 core.kernel (Item.Received from e.number e.message) ≡ false → AreUnchanged sent sent' → HasOneMore from e taken taken' → HasDone plan stimuli core made sent' taken' (Some (from, e)) 0
+  pub refused : (from : CoreId) (e : Envelope) (sent' taken' : Streams) → serves_in outbox_size core.kernel ≡ true → takes_in outbox_size core.kernel (Item.Received from e.number e.message) ≡ false → AreUnchanged sent sent' → HasOneMore from e taken taken' → HasDone plan stimuli core made sent' taken' (Some (from, e)) 0
   refused from e sent' taken' may not_this same grown = record {
     work = done.work;
     calls = fewer (view_of plan core.id) core.items.items made loads done.calls 0 (omega arith);

@@ -30,7 +30,7 @@ use std::thread::Threads;
 use thiserror::Error;
 
 /// How envelopes go from one core to another.
-#[derive(Clone, Copy, Debug, PartialEq, Eq)]
+#[derive(Clone, Copy, PartialEq, Eq)]
 pub enum MailKind {
     /// Through mailboxes under locks.
     Locked,

@@ -8,6 +8,7 @@ use Rattle.osplan.specs.declared.plans.Resource.{Resource}
 use Rattle.osplan.specs.declared.plans.Task.{Task}
 use Rattle.osplan.specs.Limits.{is_within_limits}
 use Rattle.osplan.specs.Objects.{outbox_needed}
+use Rattle.oskernel.specs.Step.{outbox_size}
 use Rattle.osplan.specs.View.{core_of, no_core, view_of}
 use Rattle.osplan.proofs.Within.{core-fits}
 
@@ -25,7 +26,7 @@ module _ (plan : Plan) (id : CoreId) (limits : IsTrue (is_within_limits plan)) w
   some-activations (Some core) found some = (core-fits plan id core limits found).activations
 
   -- what its alarms and tables post at once has places
-  some-outbox : (o : Option Core) → core_of plan id ≡ o → IsSome o → outbox_needed (unwrap_or o (no_core id)) ≤ 64
+  some-outbox : (o : Option Core) → core_of plan id ≡ o → IsSome o → outbox_needed (unwrap_or o (no_core id)) ≤ outbox_size
   some-outbox None found some = lit≤ tt
   some-outbox (Some core) found some = omega (arith, (core-fits plan id core limits found).posted)
 
@@ -38,5 +39,5 @@ module _ (plan : Plan) (id : CoreId) (limits : IsTrue (is_within_limits plan)) w
   pub view-activations : IsSome (core_of plan id) → sum_by (λ (t : Task). t.activations) (view_of plan id).own.tasks ≤ 64
   view-activations some = some-activations (core_of plan id) refl some
 
-  pub view-outbox : IsSome (core_of plan id) → outbox_needed (view_of plan id).own ≤ 64
+  pub view-outbox : IsSome (core_of plan id) → outbox_needed (view_of plan id).own ≤ outbox_size
   view-outbox some = some-outbox (core_of plan id) refl some

@@ -7,7 +7,7 @@ ghost use Rattle.osplan.specs.Limits.{is_within_limits};
 ghost use Rattle.osstate.specs.Does.{Does};
 ghost use Rattle.osstate.specs.State.{state_of};
 ghost use Rattle.oskernel.specs.Admission.{takes_in};
-ghost use Rattle.oskernel.specs.Step.{after};
+ghost use Rattle.oskernel.specs.Step.{after, outbox_size};
 ghost use Rattle.osbase.specs.Runs.{stimuli_of};
 ghost use Rattle.oskernel.specs.Wants.{want_in, watch_in};
 ghost use Rattle.osturn.specs.Asking.{asked_by, is_ask_known, named_by};
@@ -15,15 +15,16 @@ ghost use Rattle.oskernel.specs.declared.kernel.TheConstants.{STEP_MARKS};
 
 use crate::asks::{Answer, Ask, look_asked, named, own_asked};
 use osbase::{
-    CORES, Choice, CoreId, CoreStimuli, Item, List, Mark, Phase, Report, Stimulus, stimuli_for,
+    CORES, Choice, CoreId, CoreStimuli, Item, List, Mark, OUTBOX, Phase, Report, Stimulus,
+    stimuli_for,
 };
 use oskernel::{Kernel, STEP_MARKS};
 use osplan::{Config, Core, Plan};
 use std::alloc::{AllocError, Global};
 
-/// A kernel of the sizes that every configuration within the limits fits: 32 priorities, 64 jobs, an
-/// outbox of 64 envelopes.
-pub type CoreKernel<'a> = Kernel<'a, 32, 64, 64>;
+/// A kernel of the sizes that every configuration within the limits fits: 32 priorities, 64 jobs, and an
+/// outbox of `OUTBOX` envelopes.
+pub type CoreKernel<'a> = Kernel<'a, 32, 64, OUTBOX>;
 
 /// A core of a run: its kernel, the stimuli that are left, and what it took and printed so far.
 #[derive(Drop)]
@@ -107,7 +108,7 @@ impl<'a> Seat<'a> {
     pub fn take(&mut self, item: Item)
         requires items { vec_len self.old.items < vec_capacity self.old.items }
         requires marks { vec_len self.old.marks + STEP_MARKS ≤ vec_capacity self.old.marks }
-        requires taken { IsTrue (takes_in 64 self.old.kernel item) }
+        requires taken { IsTrue (takes_in outbox_size self.old.kernel item) }
         ensures id { self.new.id ≡ self.old.id }
         ensures stimuli { self.new.stimuli.now ≡ left_after item self.old.stimuli.now }
         ensures taken { self.new.items.items ≡ self.old.items.items ++ item ∷ [] }

@@ -20,7 +20,7 @@ use Rattle.osplan.specs.declared.plans.Plan.{Plan}
 use Rattle.osplan.specs.View.{view_of}
 use Rattle.osstate.specs.Does.{Reads}
 use Rattle.osbase.proofs.Same.{same_core-true}
-use Rattle.oskernel.specs.Step.{takes}
+use Rattle.oskernel.specs.Step.{outbox_size, takes}
 use Rattle.oskernel.specs.declared.wants.Watch.{Watch}
 use Rattle.oskernel.specs.Wants.{front_of, watch_in}
 use Rattle.osboard.specs.declared.calls.BoardCall.{BoardCall}
@@ -107,11 +107,11 @@ module _ (plan : Plan) (stimuli : List CoreStimuli) (w : World) (seats : List Se
           tells = unchanged-same w (turn plan stimuli w (core, choice)) same;
         }
 
-    module _ (ask : Ask) (item : Item) (names : named_here ≡ Some (ask, item)) (may : Bool) (reads : Reads (λ v h. takes 64 v h item) seat.kernel may) where
+    module _ (ask : Ask) (item : Item) (names : named_here ≡ Some (ask, item)) (may : Bool) (reads : Reads (λ v h. takes outbox_size v h item) seat.kernel may) where
       seated_here : IsSeated plan stimuli seat
       seated_here = subst (λ (s : Seat). IsSeated plan stimuli s) (sym is) (All-get_or (IsSeated plan stimuli) seats at seat within plays.seated)
 
-      admitted : may ≡ takes 64 (view_of plan seat.id) (history_by plan seat.id seat.items.items) item
+      admitted : may ≡ takes outbox_size (view_of plan seat.id) (history_by plan seat.id seat.items.items) item
       admitted = reads (view_of plan seat.id) (history_by plan seat.id seat.items.items) seated_here.tracks.stands
 
       -- the core does not take what the turn names
@@ -123,7 +123,7 @@ module _ (plan : Plan) (stimuli : List CoreStimuli) (w : World) (seats : List Se
             tells = unchanged-same w (turn plan stimuli w (core, choice)) same;
           }
 
-      changes : takes 64 (view_of plan seat.id) (history_by plan seat.id seat.items.items) item ≡ true → true ≡ not (is_unchanged w (turn plan stimuli w (core, choice)))
+      changes : takes outbox_size (view_of plan seat.id) (history_by plan seat.id seat.items.items) item ≡ true → true ≡ not (is_unchanged w (turn plan stimuli w (core, choice)))
       changes takes_it = subst (λ (c : CoreId). true ≡ not (is_unchanged w (turn plan stimuli w (c, choice)))) at_core
           (one_more-differs (item_total w) ∙ ap (λ (n : ℕ). not (nat_eq (item_total w) n)) (sym (turn-appends plan stimuli w seats between plays choice at seat here within (sym is) ask item names takes_it)))
 

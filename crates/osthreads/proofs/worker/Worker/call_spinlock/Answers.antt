@@ -14,6 +14,7 @@ use Rattle.osthreads.specs.Seats.{made_from}
 use Rattle.osthreads.proofs.Asking.{replied-by, spins-no-mail, spun-same, unspun, wish-fruitless}
 use Rattle.osthreads.proofs.Working.{spin-idle, spins-took}
 use Rattle.osthreads.proofs.worker.Worker.call_spinlock.Goals as goal
+use Rattle.oskernel.specs.Step.{outbox_size}
 
 pub call-requires-clause-lock : goal.call-requires-clause-lock
 call-requires-clause-lock g c = subst (λ (x : SpinCall). x.lock.index < SPINLOCKS) (sym c.spin_call_of.ensures) c.requires.lock
@@ -22,14 +23,14 @@ pub take-requires-clause-taken : goal.take-requires-clause-taken
 take-requires-clause-taken g c =
     let old = c.args.self.now in
     spun-same old.core.kernel c.args.wish c.call.result c.in-Some.item (sym c.named.ensures ∙ c.in-Some.is)
-    ∙ ap (takes_in 64 old.core.kernel) (sym c.item_of_wish.ensures) ∙ sym c.may_take.ensures.state ∙ c.if-not-may_take.false
+    ∙ ap (takes_in outbox_size old.core.kernel) (sym c.item_of_wish.ensures) ∙ sym c.may_take.ensures.state ∙ c.if-not-may_take.false
 
 pub returns-clause-turns : goal.returns-clause-turns
 returns-clause-turns g c stimuli loads done =
     let old = c.args.self.now in
     let names = sym c.named.ensures ∙ c.in-Some.is in
     let may = spun-same old.core.kernel c.args.wish c.call.result c.in-Some.item names
-    ∙ ap (takes_in 64 old.core.kernel) (sym c.item_of_wish.ensures) ∙ sym c.may_take.ensures.state ∙ c.if-not-may_take.false in
+    ∙ ap (takes_in outbox_size old.core.kernel) (sym c.item_of_wish.ensures) ∙ sym c.may_take.ensures.state ∙ c.if-not-may_take.false in
     spins-took old.run.now.config.now stimuli loads old.core c.take.new.self (made_from old.seats) _ _ _ _ _ done (OfSpins c.args.wish) (Spun c.call.result) c.in-Some.item
     c.requires.asked names may
     (record { id = c.take.ensures.id; left = c.take.ensures.stimuli; items = c.take.ensures.taken; does = c.take.ensures.does })
@@ -65,9 +66,9 @@ returns-in_default-clause-called g c =
 pub returns-then-not-may_take-clause-called : goal.returns-then-not-may_take-clause-called
 returns-then-not-may_take-clause-called g c =
     let old = c.args.self.now in
-    inl (ap (takes_in 64 old.core.kernel) (sym c.item_of_wish.ensures) ∙ sym c.may_take.ensures.state ∙ c.if-not-may_take.true)
+    inl (ap (takes_in outbox_size old.core.kernel) (sym c.item_of_wish.ensures) ∙ sym c.may_take.ensures.state ∙ c.if-not-may_take.true)
 
 pub returns-then-not-may_take-clause-stuck : goal.returns-then-not-may_take-clause-stuck
 returns-then-not-may_take-clause-stuck g c =
     let old = c.args.self.now in
-    inr (wish-fruitless old.core.id old.core.kernel c.args.wish (ap (takes_in 64 old.core.kernel) (sym c.item_of_wish.ensures) ∙ sym c.may_take.ensures.state ∙ c.if-not-may_take.true))
+    inr (wish-fruitless old.core.id old.core.kernel c.args.wish (ap (takes_in outbox_size old.core.kernel) (sym c.item_of_wish.ensures) ∙ sym c.may_take.ensures.state ∙ c.if-not-may_take.true))

@@ -14,6 +14,7 @@ use Rattle.osthreads.specs.Seats.{made_from}
 use Rattle.osthreads.proofs.Asking.{board-no-mail, call-fruitless, replied-by, result-of}
 use Rattle.osthreads.proofs.Working.{board-took}
 use Rattle.osthreads.proofs.worker.Worker.write_board.Goals as goal
+use Rattle.oskernel.specs.Step.{outbox_size}
 
 pub unreachable-requires : goal.unreachable-requires
 unreachable-requires g c =
@@ -30,8 +31,8 @@ take-requires-clause-taken g c =
     let reply = t.1 ∙ ap (λ (id : CoreId). board_reply id c.args.call t.0) old.same in
     let results = result-of old.core.id (watch_in old.core.kernel) c.args.call t.0 c.requires.changes in
     let same : results.item ≡ c.in-Some.item = same_Some _ _ (sym results.names ∙ ap (λ (r : BoardReply). replied old.core.id (watch_in old.core.kernel) c.args.call r) (sym reply) ∙ sym c.named.ensures ∙ c.in-Some.is) in
-    subst (λ (i : Item). takes_in 64 old.core.kernel i ≡ true) same
-    (results.same old.core.kernel ∙ ap (takes_in 64 old.core.kernel) (sym c.item_of_call.ensures) ∙ sym c.may_take.ensures.state ∙ c.if-not-may_take.false)
+    subst (λ (i : Item). takes_in outbox_size old.core.kernel i ≡ true) same
+    (results.same old.core.kernel ∙ ap (takes_in outbox_size old.core.kernel) (sym c.item_of_call.ensures) ∙ sym c.may_take.ensures.state ∙ c.if-not-may_take.false)
 
 pub returns-clause-turns : goal.returns-clause-turns
 returns-clause-turns g c stimuli loads done =
@@ -41,8 +42,8 @@ returns-clause-turns g c stimuli loads done =
     let reply = t.1 ∙ ap (λ (id : CoreId). board_reply id c.args.call t.0) old.same in
     let results = result-of old.core.id (watch_in old.core.kernel) c.args.call t.0 c.requires.changes in
     let same : results.item ≡ c.in-Some.item = same_Some _ _ (sym results.names ∙ ap (λ (r : BoardReply). replied old.core.id (watch_in old.core.kernel) c.args.call r) (sym reply) ∙ names) in
-    let may = subst (λ (i : Item). takes_in 64 old.core.kernel i ≡ true) same
-    (results.same old.core.kernel ∙ ap (takes_in 64 old.core.kernel) (sym c.item_of_call.ensures) ∙ sym c.may_take.ensures.state ∙ c.if-not-may_take.false) in
+    let may = subst (λ (i : Item). takes_in outbox_size old.core.kernel i ≡ true) same
+    (results.same old.core.kernel ∙ ap (takes_in outbox_size old.core.kernel) (sym c.item_of_call.ensures) ∙ sym c.may_take.ensures.state ∙ c.if-not-may_take.false) in
     board-took old.run.now.config.now stimuli loads old.core c.take.new.self (made_from old.seats) _ _ _ _ _ done (OfBoard c.args.call) (Replied c.call.result) c.in-Some.item
     c.requires.asked names may
     (record { id = c.take.ensures.id; left = c.take.ensures.stimuli; items = c.take.ensures.taken; does = c.take.ensures.does })
@@ -52,4 +53,4 @@ returns-clause-turns g c stimuli loads done =
 pub returns-then-not-may_take-clause-stuck : goal.returns-then-not-may_take-clause-stuck
 returns-then-not-may_take-clause-stuck g c =
     let old = c.args.self.now in
-    call-fruitless old.core.id old.core.kernel c.args.call c.requires.changes (ap (takes_in 64 old.core.kernel) (sym c.item_of_call.ensures) ∙ sym c.may_take.ensures.state ∙ c.if-not-may_take.true)
+    call-fruitless old.core.id old.core.kernel c.args.call c.requires.changes (ap (takes_in outbox_size old.core.kernel) (sym c.item_of_call.ensures) ∙ sym c.may_take.ensures.state ∙ c.if-not-may_take.true)
