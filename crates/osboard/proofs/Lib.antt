@@ -1,2 +1,2 @@
 mod Flags
-mod Boards
+pub mod Boards

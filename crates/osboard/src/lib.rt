@@ -13,6 +13,3 @@ mod words;
 pub use board::{Board, BoardSeat};
 pub use calls::{BOARD_CORES, BoardCall, BoardReply, BoardState, BoardView, BoardWords, ModeSet};
 pub use list::BoardList;
-
-#[cfg(test)]
-mod tests;

@@ -122,37 +122,3 @@ fn place(from: CoreId, to: CoreId) -> usize
 {
     usize::from(from.number) * CORES + usize::from(to.number)
 }
-
-#[cfg(test)]
-mod tests {
-    use super::*;
-    use osbase::{Message, Status};
-    use std::test::Fail;
-
-    fn envelope(number: u64) -> Envelope {
-        let message = Message::Value(Status::EOk, -3);
-        Envelope { number, message }
-    }
-
-    #[test]
-    fn envelopes_leave_in_the_order_in_which_they_came(rt: HostRuntime) -> Result<(), Fail> {
-        let mut mail: ListMail<4> = ListMail::new(rt.alloc(), 2)?;
-        let (first, second) = (CoreId { number: 0 }, CoreId { number: 15 });
-        assert!(rt; mail.room(first, second));
-        assert!(rt; !mail.has_mail(second));
-        assert_eq!(rt; mail.send(first, second, envelope(0)), Ok(()));
-        assert!(rt; mail.has_mail(second));
-        assert_eq!(rt; mail.send(second, first, envelope(7)), Ok(()));
-        assert_eq!(rt; mail.send(first, second, envelope(1)), Ok(()));
-        assert!(rt; !mail.room(first, second));
-        assert_eq!(rt; mail.send(first, second, envelope(2)), Err(envelope(2)));
-        assert_eq!(rt; mail.take(second, first), Some(envelope(0)));
-        assert_eq!(rt; mail.take(second, first), Some(envelope(1)));
-        assert_eq!(rt; mail.take(second, first), None);
-        assert!(rt; !mail.has_mail(second));
-        assert!(rt; mail.has_mail(first));
-        assert_eq!(rt; mail.take(first, second), Some(envelope(7)));
-        assert_eq!(rt; mail.take(first, first), None);
-        Ok(())
-    }
-}

@@ -11,6 +11,3 @@ pub mod list;
 pub use bank::{SpinBank, SpinSeat};
 pub use calls::{SpinAction, SpinCall, SpinReply, Spinlocks};
 pub use list::SpinList;
-
-#[cfg(test)]
-mod tests;

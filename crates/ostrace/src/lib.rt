@@ -10,6 +10,3 @@ mod words;
 pub use reports::write_reports;
 pub use sinks::{MemorySink, Sink, WriteFailed, WriteSink, write_all};
 pub use words::{Word, write_ended_words};
-
-#[cfg(test)]
-mod tests;

@@ -88,12 +88,8 @@ fn gather_blocks<S: Sink>(
     Ok(())
 }
 
-/// Writes the blocks of the reports in their order, whether the plan is within the limits or not.
-pub(crate) fn write_blocks<S: Sink>(
-    plan: &Plan,
-    out: &mut S,
-    reports: &[Report],
-) -> Result<(), WriteFailed>
+// Writes the blocks of the reports in their order.
+fn write_blocks<S: Sink>(plan: &Plan, out: &mut S, reports: &[Report]) -> Result<(), WriteFailed>
     requires { S.failed out.old < 2 ^ 48 }
     ensures { Writes S.taken S.failed out.old out.new (text_of plan.now reports.now) result }
 {

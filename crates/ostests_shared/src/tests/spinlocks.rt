@@ -5,9 +5,9 @@ ghost use Rattle.osseat.specs.Seats.{AllApart};
 ghost use Rattle.osbase.specs.declared.limits.TheConstants.{SPINLOCKS};
 ghost use Rattle.osspin.specs.Spins.{IsRefusedCall, spinlocks};
 
-use crate::{SpinAction, SpinBank, SpinCall, SpinList, SpinReply, SpinSeat};
 use osbase::{CoreId, List, SPINLOCKS, SpinlockId};
 use osseat::Entry;
+use osspin::{SpinAction, SpinBank, SpinCall, SpinList, SpinReply, SpinSeat};
 use std::alloc::{AllocError, Global};
 use std::test::Fail;
 use std::thread;

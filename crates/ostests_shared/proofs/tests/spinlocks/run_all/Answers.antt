@@ -4,7 +4,7 @@ use Rattle.osseat.specs.Runs.{AreLogged, IsOneRun}
 use Rattle.osseat.proofs.Runs.{all_logged, all_new, kept, one_run}
 use Rattle.osspin.specs.Spins.{IsRefusedCall, spinlocks}
 use Rattle.osspin.proofs.Locks.{refused_idle}
-use Rattle.osspin.proofs.tests.run_all.Goals as goal
+use Rattle.ostests_shared.proofs.tests.spinlocks.run_all.Goals as goal
 
 pub share-requires-after_bounds : goal.share-requires-after_bounds
 share-requires-after_bounds g c κs within = all_new c.in_ok-bank.bank c.in_ok-bank.seats.items c.args.cores c.in_ok-bank.ensures.seats

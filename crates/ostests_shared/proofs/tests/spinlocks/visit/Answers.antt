@@ -2,7 +2,7 @@ use Rattle.std.proofs.Common.{rules, ◌≡◌, ◌∷◌, [], ◌++◌, ap, ◌
 use Rattle.osseat.proofs.Thins.{logged, unlogged}
 use Rattle.osspin.specs.Spins.{IsRefusedCall, try_take_call, look_call, free_call}
 use Rattle.osspin.specs.declared.calls.SpinReply.TheVariants.{Answered}
-use Rattle.osspin.proofs.tests.visit.Goals as goal
+use Rattle.ostests_shared.proofs.tests.spinlocks.visit.Goals as goal
 
 pub returns-clause-log : goal.returns-clause-log
 returns-clause-log c =

@@ -4,7 +4,7 @@ use Rattle.osseat.specs.Runs.{AreLogged, IsOneRun}
 use Rattle.osseat.proofs.Runs.{all_logged, all_new, kept, one_run}
 use Rattle.osboard.specs.Boards.{IsLook, one_board}
 use Rattle.osboard.proofs.Boards.{looks_idle}
-use Rattle.osboard.proofs.tests.run_all.Goals as goal
+use Rattle.ostests_shared.proofs.tests.board.run_all.Goals as goal
 
 pub share-requires-after_bounds : goal.share-requires-after_bounds
 share-requires-after_bounds g c κs within = all_new c.in_ok-board.board c.in_ok-board.seats.items c.args.cores c.in_ok-board.ensures.seats

@@ -5,8 +5,8 @@ ghost use Rattle.osseat.specs.Seats.{AllApart};
 ghost use Rattle.osboard.specs.declared.calls.TheConstants.{BOARD_CORES};
 ghost use Rattle.osboard.specs.Boards.{IsLook, one_board};
 
-use crate::{BOARD_CORES, Board, BoardCall, BoardList, BoardReply, BoardSeat, BoardView};
 use osbase::{CoreId, CoreMode, List, ModeId, Status};
+use osboard::{BOARD_CORES, Board, BoardCall, BoardList, BoardReply, BoardSeat, BoardView};
 use osseat::Entry;
 use std::alloc::{AllocError, Global};
 use std::test::Fail;

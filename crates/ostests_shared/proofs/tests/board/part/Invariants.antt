@@ -1,5 +1,5 @@
 use Rattle.std.proofs.Common.{◌≡◌, map}
-use Rattle.osboard.proofs.tests.part.Given as goal
+use Rattle.ostests_shared.proofs.tests.board.part.Given as goal
 
 abbrev pub invariant-loop-run : goal.invariant-loop-run
 invariant-loop-run l = (l.seats.items ≡ map (λ run. run.seat) l.yielded) × (l.works.items ≡ map (λ run. run.work) l.yielded)

@@ -3,7 +3,7 @@ use Rattle.osbase.specs.declared.statuses.Status.TheVariants.{EOsState}
 use Rattle.osseat.specs.Histories.{Thinned}
 use Rattle.osseat.proofs.Thins.{logged, unlogged}
 use Rattle.osboard.specs.Boards.{IsLook, ask_halt_call, drain_call, enter_call, ready_call, start_call}
-use Rattle.osboard.proofs.tests.take_part.Goals as goal
+use Rattle.ostests_shared.proofs.tests.board.take_part.Goals as goal
 
 pub returns-clause-log : goal.returns-clause-log
 returns-clause-log c =

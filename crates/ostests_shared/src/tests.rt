@@ -1,0 +1,4 @@
+mod board;
+mod mail;
+mod spinlocks;
+mod trace;
