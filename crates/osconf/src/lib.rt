@@ -1,6 +1,6 @@
 //! The texts of configurations, stimuli and schedules: reading and writing them.
 //!
-//! This is the one name by which the crates above know the readers and the writer.
+//! This is the one name by which the crates above know the readers and the writer, and a configuration's types.
 #![tactic(auto)]
 
 #[cfg(test)]
@@ -9,5 +9,8 @@ mod tests;
 pub use osbase::{Schedule, Stimuli};
 pub use osdraft::read_config;
 pub use osgiven::{read_schedule, read_stimuli};
-pub use osplan::{ConfFault, Config, Standing, cut, is_separate, order_ok, standing_of};
+pub use osplan::{
+    Alarm, AlarmStart, ConfFault, Config, Core, Counter, ExpiryPoint, Isr, Plan, Protection,
+    Resource, Spinlock, Standing, Table, TableStart, Task, cut, is_separate, order_ok, standing_of,
+};
 pub use oswrite::config_text;
