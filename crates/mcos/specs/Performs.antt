@@ -62,9 +62,9 @@ pub record IsReportOutput (Played : Plan → List Report → Type 0) (items : Op
 abbrev pub IsRunOutput : Option (List ℕ) → Option CoreId → List File → List ℕ → Outcome → Type 0
 IsRunOutput schedule items files = IsReportOutput (IsPlayed schedule files) items
 
--- A run by threads has sound reports, and nothing says which. [own]
-abbrev pub IsThreadsOutput : Option CoreId → List File → List ℕ → Outcome → Type 0
-IsThreadsOutput items files = IsReportOutput (IsThreaded files) items
+-- A run by threads has sound reports, of cores that have ended or gave up after so many turns, and nothing says which. [own]
+abbrev pub IsThreadsOutput : ℕ → Option CoreId → List File → List ℕ → Outcome → Type 0
+IsThreadsOutput turns items files = IsReportOutput (IsThreaded turns files) items
 
 -- The log of a core that is not configured is asked for, which is the fault.
 abbrev pub HasNoItems : Plan → Option CoreId → Fault → Type 0
@@ -160,7 +160,7 @@ IsOutput (Run config stimuli schedule items) files = NoFault (IsRunOutput (path_
 IsOutput (Check config) files = NoFault (IsCheckOutput files)
 IsOutput (Cut config core) files = NoFault (IsCutOutput core files)
 IsOutput (Replay config core log) files = IsReplayOutput core files
-IsOutput (Threads config stimuli turns items) files = NoFault (IsThreadsOutput items files)
+IsOutput (Threads config stimuli turns items) files = NoFault (IsThreadsOutput turns items files)
 
 abbrev pub HasNoOutput : Job → List File → Fault → Type 0
 HasNoOutput (Run config stimuli schedule items) files fault = HasNoReports BreaksTurns (path_in schedule) items files fault
@@ -209,10 +209,10 @@ IsRunPrinted taken failed old new schedule items files count result =
     PrintsFrom taken failed old new (NoFault (IsRunOutput schedule items files)) (HasNoReports BreaksTurns schedule items files) files count result
 
 -- The same of a run by threads.
-abbrev pub IsThreadsPrinted : {O : Type 0} → (O → Option (List ℕ)) → (O → ℕ) → O → O → Option CoreId → List File → ℕ →
+abbrev pub IsThreadsPrinted : {O : Type 0} → (O → Option (List ℕ)) → (O → ℕ) → O → O → ℕ → Option CoreId → List File → ℕ →
     Result Outcome Fault → Type 0
-IsThreadsPrinted taken failed old new items files count result =
-    PrintsFrom taken failed old new (NoFault (IsThreadsOutput items files)) (HasNoReports BreaksThreads None items files) files count result
+IsThreadsPrinted taken failed old new turns items files count result =
+    PrintsFrom taken failed old new (NoFault (IsThreadsOutput turns items files)) (HasNoReports BreaksThreads None items files) files count result
 
 -- What a job over these files comes to: it prints what it asks for, or has a fault. [own]
 abbrev pub IsPrinted : {O : Type 0} → (O → Option (List ℕ)) → (O → ℕ) → O → O → Job → List File → ℕ → Result Outcome Fault → Type 0

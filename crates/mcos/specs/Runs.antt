@@ -15,6 +15,7 @@ use Rattle.osgiven.specs.Given.{schedule_meant, stimuli_meant}
 use Rattle.ostext.specs.Trace.{text_of}
 use Rattle.osturn.specs.Ends.{have_all_ended}
 use Rattle.osturn.specs.Sound.{AreSound}
+use Rattle.osthreads.specs.Runs.{AreFinished}
 use Rattle.osworld.specs.Runs.{AreReports, IsDefaultRun}
 use Rattle.mcos.specs.Texts.{File, Means, text_at}
 
@@ -67,12 +68,14 @@ pub record IsPlayed (schedule : Option (List ℕ)) (files : List File) (plan : P
   pub are : AreOfTurns plan stimuli turns reports
 
 -- The files have meanings, and these reports are sound: each says what its own items say, the items fit one another and the
--- stimuli, and each separate core prints what it prints alone. So it is of a run by threads, of which nothing else is said: in
--- which order the turns of its cores come is up to the threads. [own]
-pub record IsThreaded (files : List File) (plan : Plan) (reports : List Report) : Type 0 where
+-- stimuli, and each separate core prints what it prints alone; and each is of a core that has ended, or of one that gave up once so
+-- many turns in a row changed nothing. So it is of a run by threads: in which order the turns of its cores come is up to the
+-- threads. [own]
+pub record IsThreaded (turns : ℕ) (files : List File) (plan : Plan) (reports : List Report) : Type 0 where
   pub stimuli : List CoreStimuli
   pub given : IsGiven files plan stimuli
   pub sound : AreSound plan stimuli reports
+  pub finished : AreFinished plan stimuli turns reports
 
 -- The last line of a run's output: whether every started core has ended. [own]
 abbrev pub last_line : Bool → List ℕ

@@ -88,7 +88,7 @@ pub fn run_by_threads<R: Threads + Wait + Sync, S: Source + Drop, O: Sink>(
 ) -> Result<Outcome, Fault>
     requires { O.failed out.old < 2 ^ 48 }
     ensures { UsesUp S.files S.known source 2
-        (λ files. IsThreadsPrinted O.taken O.failed out.old out.new items files (S.count source) result) }
+        (λ files. IsThreadsPrinted O.taken O.failed out.old out.new turns items files (S.count source) result) }
 {
     let (config, stimuli, _) = input_of(alloc, None, items, source)?;
     let reports = run_threads(

@@ -227,6 +227,10 @@ fn all_cores_run_at_once(rt: HostRuntime) -> Result<(), Fail> {
     let reports = run_four(&rt, rt.alloc(), &gate, MANY)?.map_err(|_| "a run")?;
     assert_eq!(rt; reports.len(), CORE_COUNT);
     assert_eq!(rt; gate.missed.load(Ordering::SeqCst), 0);
+    // Each core came to the gate before each of its first turns.
+    for begun in gate.turns.iter() {
+        assert!(rt; begun.load(Ordering::SeqCst) >= MEETINGS);
+    }
     Ok(())
 }
 

@@ -243,3 +243,53 @@ fn one_envelope_more_at_once_is_refused(rt: HostRuntime) -> Result<(), Fail> {
         ("", "fault 3 Limit\n", 1),
     )
 }
+
+/// So often a job suspends interrupts three times over, which is more than is counted, and resumes them again and again.
+const SUSPENSIONS: u32 = 100;
+
+// A job that suspends interrupts 300 times, prints that by a variable after each 100, and then resumes them, which it prints
+// likewise.
+fn suspending_config(alloc: Global) -> Result<String, AllocError> {
+    let mut text = String::from_str(
+        alloc,
+        r#"{"cores":[{"id":0,"isrs":[{"name":"I","level":1,"script":"work"}],"tasks":[{"name":"A","prio":1,"auto":["M"],"script":"set v0 -3;"#,
+    )?;
+    text.push_str(repeated(alloc, "SuspendAllInterrupts;", SUSPENSIONS)?.as_str())?;
+    text.push_str("add v0 1;jz v0 104;jump 1;")?;
+    text.push_str(repeated(alloc, "ResumeAllInterrupts;", SUSPENSIONS)?.as_str())?;
+    text.push_str(r#"add v1 1;jump 104"}]}]}"#)?;
+    Ok(text)
+}
+
+// Its stimuli: the interrupt comes while they are suspended. Each round of suspensions has two operations more, and a jump but the
+// last one; each whole round of resumptions two; and then so many interrupts are resumed.
+fn suspending_stimuli(alloc: Global, resumed: u32) -> Result<String, AllocError> {
+    let later = 3 * (SUSPENSIONS + 3) - 2 + 2 * (SUSPENSIONS + 2) + resumed;
+    let mut text = String::from_str(alloc, r#"{"0":"op op irq=I"#)?;
+    text.push_str(repeated(alloc, " op", later)?.as_str())?;
+    text.push_str("\"}")?;
+    Ok(text)
+}
+
+// What it prints by then.
+const SUSPENDED: &str =
+    "core 0\nhook Startup\nact A\npre A\nvar A v0 -3\nirq I\nvar A v0 -2\nvar A v0 -1\nvar A v0 0\nvar A v1 1\nvar A v1 2\n";
+
+#[test]
+fn a_job_suspends_interrupts_255_times_at_most(rt: HostRuntime) -> Result<(), Fail> {
+    let alloc = rt.alloc();
+    let config = suspending_config(alloc)?;
+    for (resumed, end) in [(54, "ended\n"), (55, "enter I\nended\n")] {
+        let stimuli = suspending_stimuli(alloc, resumed)?;
+        let texts = [Some(config.as_str()), Some(stimuli.as_str())];
+        let printed = format!(in alloc; "{SUSPENDED}{end}")?;
+        compare(
+            &rt,
+            alloc,
+            &run_of(None),
+            texts.as_slice(),
+            (printed.as_str(), "", 0),
+        )?;
+    }
+    Ok(())
+}

@@ -1,5 +1,6 @@
 //! Runs by threads. Each prints what every order of the cores' turns prints, or is compared with itself.
 
+use super::runs::MUTUAL;
 use super::shutdown::{ALL_DOWN, ASKERS};
 use super::spinlock_ends::OWED;
 use super::spinlock_logs::{POLLING, REFUSED, SHARED};
@@ -87,6 +88,34 @@ stim op
 drained
 passend
 last
+
+items 2
+as before
+
+replay 2
+core 2
+hook Startup
+act V
+pre V
+var V v0 3
+post V
+end V
+
+// The separate core by itself.
+cut 2
+{"cap":16,"cores":[{"alarms":[],"counters":[],"id":2,"isrs":[],"mode":"M","protection":"PRO_SHUTDOWN","resources":[],"start":[],"tables":[],"tasks":[{"activations":1,"auto":["M"],"budget":0,"extended":false,"name":"V","preemptable":true,"prio":1,"script":"add v0 3;TerminateTask"}]}],"master":2,"modes":["M"],"spinlocks":[],"version":1}
+
+config
+stimuli {"2":"op op"}
+run
+core 2
+hook Startup
+act V
+pre V
+var V v0 3
+post V
+end V
+ended
 "#;
 
 const RUNS: &str = r#"
@@ -152,8 +181,27 @@ fn runs_by_threads_come_to_their_texts(rt: HostRuntime) -> Result<(), Fail> {
         &rt,
         rt.alloc(),
         &[BOUND_AND_SEPARATE, RUNS, OWED, SHARED],
-        49,
+        53,
     )
+}
+
+// A run by threads of a table's first files ends in this text, and both calls return E_OK.
+fn both_calls_return(
+    rt: &(impl Abort + Threads + Wait + Sync),
+    alloc: Global,
+    table: &str,
+    end: &str,
+) -> Result<(), Fail> {
+    let (config, stimuli) = given(table)?;
+    let texts = [Some(config), Some(stimuli)];
+    let run = print(rt, alloc, &threads_of(MANY, None), &texts)?;
+    assert_eq!(rt; run.status, 0);
+    assert!(rt; run.err.is_empty());
+    let out = str::from_utf8(run.out.as_slice()).ok().ok_or("a text")?;
+    assert!(rt; out.contains("stat A ActivateTask E_OK\n"));
+    assert!(rt; out.contains("stat B ActivateTask E_OK\n"));
+    assert!(rt; out.ends_with(end));
+    Ok(())
 }
 
 #[test]
@@ -161,16 +209,8 @@ fn cores_that_call_each_other_end_and_a_separate_one_prints_its_block(
     rt: HostRuntime,
 ) -> Result<(), Fail> {
     let alloc = rt.alloc();
-    let (config, stimuli) = given(BOUND_AND_SEPARATE)?;
-    let texts = [Some(config), Some(stimuli)];
-    let run = print(&rt, alloc, &threads_of(MANY, None), &texts)?;
-    assert_eq!(rt; run.status, 0);
-    assert!(rt; run.err.is_empty());
-    let out = str::from_utf8(run.out.as_slice()).ok().ok_or("a text")?;
-    assert!(rt; out.contains("stat A ActivateTask E_OK\n"));
-    assert!(rt; out.contains("stat B ActivateTask E_OK\n"));
-    assert!(rt; out.ends_with(SEPARATE_END));
-    Ok(())
+    both_calls_return(&rt, alloc, MUTUAL, "ended\n")?;
+    both_calls_return(&rt, alloc, BOUND_AND_SEPARATE, SEPARATE_END)
 }
 
 // The block of a report as `run` prints it.
@@ -206,6 +246,7 @@ fn replays(
 fn each_log_of_a_run_by_threads_replays_to_its_block(rt: HostRuntime) -> Result<(), Fail> {
     let alloc = rt.alloc();
     let examples = [
+        (MUTUAL, 2, MANY),
         (BOUND_AND_SEPARATE, 3, MANY),
         (ALL_DOWN, 2, MANY),
         (ASKERS, 2, MANY),

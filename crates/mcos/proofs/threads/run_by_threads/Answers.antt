@@ -55,7 +55,7 @@ returns g c =
     record {
       last = used.last;
       comes = reports-come _ _ _ _ _ BreaksThreads _ _ _ plan _ _ reports _ _
-          (record { stimuli = c.in_ok-config.stimuli; given = used.comes.0.given; sound = c.in_ok-reports.ensures.sound })
+          (record { stimuli = c.in_ok-config.stimuli; given = used.comes.0.given; sound = c.in_ok-reports.ensures.sound; finished = c.in_ok-reports.ensures.finished })
           used.comes.1 used.comes.0 tt (rw c.as_slice.ensures.value at c.print_reports.ensures);
       stops = used.stops;
       named = used.named;
