@@ -1,25 +1,10 @@
 //! `mcos`: a multicore AUTOSAR OS kernel, simulated.
 #![tactic(auto)]
 
-mod checks;
-mod endings;
-mod faults;
-mod files;
-mod outcomes;
-mod outputs;
-mod performs;
-mod program;
-mod readings;
-mod replays;
-mod runs;
-mod sources;
 #[cfg(test)]
 mod tests;
-mod threads;
 
-use crate::endings::tell;
-use crate::faults::Fault;
-use crate::program::{NoWords, answer};
+use osjob::{Fault, NoWords, answer, tell};
 use ostrace::WriteSink;
 use std::alloc::AllocError;
 use std::env;

@@ -21,12 +21,10 @@ mod words;
 
 ghost use Rattle.std.specs.Prelude.{◌≡◌, None, Some, length};
 
-use crate::outputs::Output;
-use crate::performs::{perform, print_from};
-use crate::sources::{Given, Source};
 use osbase::CoreId;
 use oscommand::Job;
 use osconf::{Config, read_config, read_stimuli};
+use osjob::{Given, Output, Source, perform, print_from};
 use ostrace::{MemorySink, Sink, WriteFailed, write_reports};
 use osworld::{default_schedule, run_world};
 use std::alloc::{AllocError, Global};

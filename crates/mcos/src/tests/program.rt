@@ -1,10 +1,7 @@
 //! The program over words: what is printed, sent off and told, and the status.
 
 use super::Failing;
-use crate::endings::close;
-use crate::faults::Fault;
-use crate::outcomes::Outcome;
-use crate::program::{NoWords, answer};
+use osjob::{Fault, NoWords, Outcome, answer, close};
 use ostrace::MemorySink;
 use std::process::Abort;
 use std::test::Fail;

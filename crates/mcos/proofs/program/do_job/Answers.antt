@@ -1,4 +1,0 @@
-use Rattle.mcos.proofs.program.do_job.Goals as goal
-
-pub returns : goal.returns
-returns g c = record { printed = _; result = _; prints = c.print_job-result.ensures; closes = c.close.ensures }

@@ -1,5 +1,0 @@
-use Rattle.std.proofs.Common.{refl}
-use Rattle.mcos.proofs.program.mistake.Goals as goal
-
-pub returns : goal.returns
-returns g c = record { written = c.write_all.result; writes = rw c.as_bytes.ensures.value at c.write_all.ensures; status_is = refl }

@@ -1,0 +1,36 @@
+-- A run whose reports are printed.
+use Rattle.std.proofs.Common.{◌≡◌, ◌≢◌, ◌∙◌, ℕ, true, List, Option, Result, Ok, Err, refl, sym}
+use Rattle.std.specs.Prelude.{IfErr}
+use Rattle.osbase.specs.declared.references.CoreId.{CoreId}
+use Rattle.osbase.specs.declared.turns.Choice.{Choice}
+use Rattle.osbase.specs.declared.turns.CoreStimuli.{CoreStimuli}
+use Rattle.osbase.specs.declared.turns.Report.{Report}
+use Rattle.osplan.specs.declared.plans.Plan.{Plan}
+use Rattle.ostrace.specs.declared.sinks.WriteFailed.{WriteFailed as SinkFailed}
+use Rattle.osjob.specs.declared.faults.Fault.{Fault}
+use Rattle.osjob.specs.declared.faults.Fault.TheVariants.{NoMemoryToRun, Unreadable}
+use Rattle.osjob.specs.declared.outcomes.Outcome.{Outcome}
+use Rattle.osjob.specs.Performs.{Comes, HasNoReports, IsReportOutput, IsReported, NoFault, PrintsFrom, broken_off, fails, prints, unless_refused}
+use Rattle.osjob.specs.Runs.{IsInput, are_items_known}
+use Rattle.osjob.specs.Texts.{File, IsAsked}
+
+-- A text that was printed up to a refused write names no file, and no more does what was to come.
+pub written-asked : (written : Result Unit SinkFailed) (ending result : Result Outcome Fault) (count : ℕ) (files : List File) → IfErr ending (λ fault. fault ≢ Unreadable)
+    → result ≡ unless_refused written ending → IfErr result (IsAsked count files)
+written-asked (Ok done) (Ok outcome) result count files apart e = rw e tt
+written-asked (Ok done) (Err fault) result count files apart e = rw e (λ same. absurd (apart same))
+written-asked (Err refused) ending result count files apart e = rw e (λ same. cc)
+
+-- What is printed of the reports of a run is what its job prints.
+pub reports-come : {O : Type 0} (taken : O → Option (List ℕ)) (failed : O → ℕ) (old new : O) (Played : Plan → List Report → Type 0) (Breaks : Fault → Type 0) (schedule : Option (List ℕ)) (items : Option CoreId) (files : List File) (plan : Plan) (stimuli : List CoreStimuli) (turns : Option (List (CoreId × Choice))) (reports : List Report) (count : ℕ) (result : Result Outcome Fault)
+    → Played plan reports → are_items_known plan items ≡ true → IsInput schedule files plan stimuli turns → Breaks NoMemoryToRun
+    → Comes taken failed old new (IsReported plan reports items) (λ fault. fault ≡ NoMemoryToRun) result
+    → PrintsFrom taken failed old new (NoFault (IsReportOutput Played items)) (HasNoReports Breaks schedule items files) files count result
+reports-come taken failed old new Played Breaks schedule items files plan stimuli turns reports count result played known input breaks (prints text ending output printed) = record {
+  comes = prints text ending (rw output.ending_is (record { plan = plan; reports = reports; known = known; played = played; text_is = output.text_is; outcome_is = refl })) printed;
+  asked = written-asked printed.written ending result count files (rw output.ending_is tt) printed.result_is;
+}
+reports-come taken failed old new Played Breaks schedule items files plan stimuli turns reports count result played known input breaks (fails fault is none same) = record {
+  comes = fails fault is (λ apart. broken_off plan stimuli turns input known (rw none breaks)) same;
+  asked = rw is (λ e. let other = sym none ∙ e in cc);
+}

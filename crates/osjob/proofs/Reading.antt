@@ -1,0 +1,64 @@
+-- What was read of a job's files, and what stays of it.
+use Rattle.std.proofs.Common.{◌≡◌, ◌≢◌, ◌⊎◌, ◌+◌, ◌<◌, ◌≤◌, ◌∙◌, inl, inr, ap, arith, refl, ℕ, List, Option, Some, None, Result, Ok, Vec, length, get_or, option_map, option_and_then, slice_get}
+use Rattle.std.specs.List.{Contains}
+use Rattle.std.proofs.lemmas.Bool.{cases_lt}
+use Rattle.std.proofs.lemmas.Option.{slice_get-get_or, slice_get_within}
+use Rattle.std.specs.declared.alloc.Global.{Global}
+use Rattle.osbase.specs.declared.turns.CoreStimuli.{CoreStimuli}
+use Rattle.osplan.specs.declared.plans.Plan.{Plan}
+use Rattle.osplan.specs.declared.faults.ConfFault.{ConfFault}
+use Rattle.osplan.specs.declared.faults.ConfFault.TheVariants.{NoMemory}
+use Rattle.osgiven.specs.Given.{stimuli_meant}
+use Rattle.osplan.specs.Fault.{IsLeast}
+use Rattle.osdraft.specs.Meaning.{config_of}
+use Rattle.osjob.specs.declared.faults.Fault.{Fault}
+use Rattle.osjob.specs.declared.faults.Fault.TheVariants.{Text}
+use Rattle.osjob.specs.Runs.{IsGiven}
+use Rattle.osjob.specs.Texts.{File, IsFaultOf, KeepsBelow, Means, bytes_at, text_at, text_in}
+
+-- a reader's fault is the fault of the file
+pub IsFaultOf-read : (faults : List ℕ → List ConfFault) (file : Result (List ℕ) Fault) (text : List ℕ) (read : ConfFault) (fault : Fault)
+    → Ok text ≡ file → fault ≡ Text read → (read ≢ NoMemory → IsLeast read (faults text)) → fault ≢ Text NoMemory → IsFaultOf faults file fault
+IsFaultOf-read faults file text read fault is named least apart = rw (← is, named) (least (λ same. apart (named ∙ ap Text same)))
+
+-- a file that stays as it was has the meaning that it had
+Means-kept : {A : Type 0} (meaning : List ℕ → Option A) (old new : List File) (at : ℕ) (x : A) → bytes_at new at ≡ bytes_at old at
+    → Means meaning (text_at old at) x → Means meaning (text_at new at) x
+Means-kept meaning old new at x kept means = rw kept means
+
+-- the stimuli are read after the configuration
+pub config-kept : (old new : List File) (plan : Plan) → KeepsBelow 1 old new → Means config_of (text_at old 0) plan → Means config_of (text_at new 0) plan
+config-kept old new plan keeps config = Means-kept config_of old new 0 plan (keeps 0 (omega arith)) config
+
+pub IsGiven-read : (old new : List File) (plan : Plan) (stimuli : List CoreStimuli) → KeepsBelow 1 old new
+    → Means config_of (text_at old 0) plan → Means (stimuli_meant plan) (text_at new 1) stimuli → IsGiven new plan stimuli
+IsGiven-read old new plan stimuli keeps config listed = record { config = config-kept old new plan keeps config; listed = listed }
+
+-- and the schedule after both
+pub IsGiven-kept : (old new : List File) (plan : Plan) (stimuli : List CoreStimuli) → KeepsBelow 2 old new → IsGiven old plan stimuli → IsGiven new plan stimuli
+IsGiven-kept old new plan stimuli keeps given = record {
+  config = Means-kept config_of old new 0 plan (keeps 0 (omega arith)) given.config;
+  listed = Means-kept (stimuli_meant plan) old new 1 stimuli (keeps 1 (omega arith)) given.listed;
+}
+
+-- a file that has a meaning was read
+pub Means-there : {A : Type 0} (meaning : List ℕ → Option A) (files : List File) (at : ℕ) (x : A) → Means meaning (text_at files at) x → at + 1 ≤ length files
+Means-there meaning files at x means = by (slice_get files at) refl means
+  where
+    by : (o : Option File) → slice_get files at ≡ o → Means meaning (text_in (option_map (λ (bytes : Vec ℕ Global). bytes.items) (option_and_then (λ (file : File). file) o))) x → at + 1 ≤ length files
+    by None e none = absurd none
+    by (Some file) e means = let within = slice_get_within files at file e in omega arith
+
+-- What is not there where all before it was read: all files were read, or one of them could not be.
+pub absent-asked : (count : ℕ) (files : List File) (at : ℕ) → (at < count → at < length files) → at ≤ length files → None ≡ bytes_at files at → (count ≤ length files) ⊎ Contains files None
+absent-asked count files at read next absent = elim (cases_lt at (length files)) as (λ _. (count ≤ length files) ⊎ Contains files None) [
+  | inl within ↦ inr (at, within, by (get_or files at None) refl (absent ∙ ap (λ (o : Option File). option_map (λ (bytes : Vec ℕ Global). bytes.items) (option_and_then (λ (file : File). file) o)) (slice_get-get_or files at None within)))
+  | inr past ↦ elim (cases_lt at count) as (λ _. (count ≤ length files) ⊎ Contains files None) [
+    | inl wanted ↦ let within = read wanted in absurd (omega arith)
+    | inr read_all ↦ inl (omega arith)
+  ]
+]
+  where
+    by : (file : File) → get_or files at None ≡ file → None ≡ option_map (λ (bytes : Vec ℕ Global). bytes.items) file → get_or files at None ≡ None
+    by None is e = is
+    by (Some bytes) is e = cc

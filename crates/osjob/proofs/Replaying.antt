@@ -1,0 +1,48 @@
+-- A log as a file, and a replay of it.
+use Rattle.std.proofs.Common.{◌≡◌, ◌≢◌, ℕ, List, Option, Result, Ok, Err, refl}
+use Rattle.std.specs.Prelude.{IfErr, IsSome}
+use Rattle.osbase.specs.declared.items.Item.{Item}
+use Rattle.osbase.specs.declared.references.CoreId.{CoreId}
+use Rattle.osbase.specs.declared.turns.Report.{Report}
+use Rattle.osdraft.specs.Meaning.{config_of}
+use Rattle.oslog.specs.Logs.{IsLog}
+use Rattle.oslog.specs.declared.faults.LogFault.{LogFault}
+use Rattle.oslog.specs.declared.faults.LogFault.TheVariants as log
+use Rattle.osplan.specs.declared.plans.Plan.{Plan}
+use Rattle.osplan.specs.View.{core_of}
+use Rattle.osjob.specs.declared.faults.Fault.{Fault}
+use Rattle.osjob.specs.declared.faults.Fault.TheVariants.{ItemRefused, NoMemoryToRun, Unreadable}
+use Rattle.osjob.specs.declared.outcomes.Outcome.{Outcome}
+use Rattle.osjob.specs.Faults.{of_log}
+use Rattle.osjob.specs.LogTexts.{IsLogFault, IsLogOf, log_at}
+use Rattle.osjob.specs.Performs.{Comes, fails, prints}
+use Rattle.osjob.specs.Replays.{EndsAt, HasNoReplay, IsReplayOutput, Replays, broken_off}
+use Rattle.osjob.specs.Texts.{File, IsAsked, Means, text_at}
+use Rattle.osjob.proofs.Logging.{written-asked}
+
+-- A reader's fault is the fault of the file.
+pub IsLogFault-read : (plan : Plan) (file : Result (List ℕ) Fault) (text : List ℕ) (read : LogFault) (fault : Fault) → Ok text ≡ file → fault ≡ of_log read
+    → (◌≡◌ {A = Result (List Item) LogFault} (Err read) (Err log.BadLog) → (items : List Item) → IsLog plan text items → ⊥) → IsLogFault plan file fault
+IsLogFault-read plan file text log.BadLog fault is named bad = rw (← is, named) (bad refl)
+IsLogFault-read plan file text log.NoMemory fault is named bad = rw (← is, named) tt
+
+-- How a replay ends names no file.
+ends-asked : (plan : Plan) (core : CoreId) (items : List Item) (report : Report) (ending : Result Outcome Fault) → EndsAt plan core items report ending → IfErr ending (λ fault. fault ≢ Unreadable)
+ends-asked plan core items report (Ok outcome) ends = tt
+ends-asked plan core items report (Err (ItemRefused number)) ends = λ e. cc
+ends-asked plan core items report (Err fault) ends = absurd ends
+
+module _ {O : Type 0} (taken : O → Option (List ℕ)) (failed : O → ℕ) (old new : O) (plan : Plan) (core : CoreId) (items : List Item) (files : List File) (result : Result Outcome Fault) where
+  abbrev ComesOf : Type 0
+  ComesOf = Comes taken failed old new (Replays plan core items) (λ fault. fault ≡ NoMemoryToRun) result
+
+  -- What a replay of a log's items prints is what a replay of its files does.
+  pub replay-comes : Means config_of (text_at files 0) plan → IsSome (core_of plan core) → IsLogOf plan (log_at files 1) items → ComesOf
+      → Comes taken failed old new (IsReplayOutput core files) (HasNoReplay core files) result
+  replay-comes config configured said (prints text ending replays printed) =
+      prints text ending (record { plan = plan; items = items; config = config; configured = configured; log = said; replays = replays }) printed
+  replay-comes config configured said (fails fault is none same) = fails fault is (λ apart. broken_off plan items config configured said none) same
+
+  pub replay-asked : (count : ℕ) → ComesOf → IfErr result (IsAsked count files)
+  replay-asked count (prints text ending replays printed) = written-asked printed.written ending result count files (ends-asked plan core items replays.report ending replays.ends) printed.result_is
+  replay-asked count (fails fault is none same) = rw is (λ e. cc)

@@ -1,0 +1,9 @@
+-- What is read of a file. [own]
+use Rattle.std.specs.Prelude.{◌<◌, ℕ, vec_len}
+use Rattle.osjob.specs.declared.files.Reading.{Reading}
+use Rattle.osjob.specs.declared.files.Reading.TheVariants.{Bytes, Unreadable}
+
+-- The file has fewer bytes than this, or could not be read.
+abbrev pub HasFewerThan : ℕ → Reading → Type 0
+HasFewerThan bound (Bytes bytes) = vec_len bytes < bound
+HasFewerThan bound Unreadable = Unit {0}

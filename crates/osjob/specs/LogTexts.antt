@@ -1,0 +1,31 @@
+-- A core's log as a file, and a core of the configuration. [own]
+use Rattle.std.specs.Prelude.{◌≡◌, ℕ, None, Result, Ok, Err, List}
+use Rattle.osbase.specs.declared.items.Item.{Item}
+use Rattle.osbase.specs.declared.references.CoreId.{CoreId}
+use Rattle.osplan.specs.declared.faults.ConfFault.TheVariants.{UnknownName}
+use Rattle.osplan.specs.declared.plans.Plan.{Plan}
+use Rattle.osplan.specs.View.{core_of}
+use Rattle.oslog.specs.Logs.{IsLog}
+use Rattle.osjob.specs.Texts.{File, bytes_at, text_or}
+use Rattle.osjob.specs.declared.faults.Fault.{Fault}
+use Rattle.osjob.specs.declared.faults.Fault.TheVariants.{BadLog, NoMemoryToRun, Text}
+
+-- The text of a log's file. Bytes that are not UTF-8 are no log. [own]
+abbrev pub log_at : List File → ℕ → Result (List ℕ) Fault
+log_at files at = text_or BadLog (bytes_at files at)
+
+-- A log's text says these items.
+abbrev pub IsLogOf : Plan → Result (List ℕ) Fault → List Item → Type 0
+IsLogOf plan (Ok text) items = IsLog plan text items
+IsLogOf plan (Err fault) items = ⊥
+
+-- The fault of a log: that it is no text; that it says no items; or want of memory, of which nothing is said. [own]
+abbrev pub IsLogFault : Plan → Result (List ℕ) Fault → Fault → Type 0
+IsLogFault plan (Err no_text) fault = fault ≡ no_text
+IsLogFault plan (Ok text) BadLog = (items : List Item) → IsLog plan text items → ⊥
+IsLogFault plan (Ok text) NoMemoryToRun = Unit {0}
+IsLogFault plan (Ok text) fault = ⊥
+
+-- The core is not one of the configuration, which is the fault.
+abbrev pub IsUnknownCore : Plan → CoreId → Fault → Type 0
+IsUnknownCore plan core fault = (core_of plan core ≡ None) × (fault ≡ Text UnknownName)

@@ -1,0 +1,229 @@
+-- What a job comes to: what it prints, its status, and the fault that it tells. [own]
+use Rattle.std.specs.Prelude.{◌≡◌, ◌≢◌, ℕ, Bool, true, false, Option, None, Result, Ok, Err, List, IsSome, IfErr}
+use Rattle.std.specs.Result.{IsOkAnd}
+use Rattle.osbase.specs.declared.references.CoreId.{CoreId}
+use Rattle.osbase.specs.declared.turns.Choice.{Choice}
+use Rattle.osbase.specs.declared.turns.CoreStimuli.{CoreStimuli}
+use Rattle.osbase.specs.declared.turns.Report.{Report}
+use Rattle.osplan.specs.declared.plans.Plan.{Plan}
+use Rattle.osplan.specs.declared.faults.ConfFault.TheVariants.{NoMemory, NotSeparate, UnknownName}
+use Rattle.osplan.specs.Separate.{cut_of, is_separate}
+use Rattle.osdraft.specs.Meaning.{config_of, faults_of}
+use Rattle.osgiven.specs.Given.{schedule_faults, stimuli_faults}
+use Rattle.ostrace.specs.declared.sinks.WriteFailed.{WriteFailed as SinkFailed}
+use Rattle.ostrace.specs.Taken.{Writes}
+use Rattle.osturn.specs.Ends.{have_all_ended}
+use Rattle.osjob.specs.declared.faults.Fault.{Fault}
+use Rattle.osjob.specs.declared.faults.Fault.TheVariants.{MailBreak, NoMemoryToRun, NoThread, Text, WriteFailed}
+use Rattle.oscommand.specs.declared.jobs.Job.{Job}
+use Rattle.oscommand.specs.declared.jobs.Job.TheVariants.{Run, Check, Cut, Replay, Threads}
+use Rattle.osjob.specs.declared.outcomes.Outcome.{Outcome}
+use Rattle.osjob.specs.declared.outcomes.Outcome.TheVariants.{Done, Stalled}
+use Rattle.oswrite.specs.Writing.{config_text}
+use Rattle.osjob.specs.Checks.{check_text, cut_text}
+use Rattle.osjob.specs.Faults.{fault_text}
+use Rattle.oscommand.specs.Jobs.{path_in}
+use Rattle.osjob.specs.Replays.{HasNoReplay, IsReplayOutput}
+use Rattle.osjob.specs.Runs.{IsGiven, IsInput, IsPlayed, IsThreaded, are_items_known, printed_text}
+use Rattle.osjob.specs.Texts.{File, IsAsked, IsFaultOf, Means, text_at}
+
+-- ---- how a job ends
+
+-- A run has stalled where a started core did not end. [own]
+abbrev pub outcome_of : Bool → Outcome
+outcome_of true = Done
+outcome_of false = Stalled
+
+-- The exit status: 0 done, 3 stalled, 1 a fault. [own]
+abbrev pub outcome_status : Outcome → ℕ
+outcome_status Done = 0
+outcome_status Stalled = 3
+
+abbrev pub status_of : Result Outcome Fault → ℕ
+status_of (Ok outcome) = outcome_status outcome
+status_of (Err fault) = 1
+
+-- An output that no fault ends. [own]
+abbrev pub NoFault : (List ℕ → Outcome → Type 0) → List ℕ → Result Outcome Fault → Type 0
+NoFault Output text ending = IsOkAnd ending (Output text)
+
+-- ---- run and threads
+
+-- What a run prints of its reports, and how it ends. Which reports it may have is the first argument. [own]
+pub record IsReportOutput (Played : Plan → List Report → Type 0) (items : Option CoreId) (text : List ℕ) (outcome : Outcome) : Type 0 where
+  pub plan : Plan
+  pub reports : List Report
+  pub known : are_items_known plan items ≡ true
+  pub played : Played plan reports
+  pub text_is : text ≡ printed_text plan reports items
+  pub outcome_is : outcome ≡ outcome_of (have_all_ended plan reports)
+
+-- A run of turns has the reports of the listed turns, or of the default schedule. [own]
+abbrev pub IsRunOutput : Option (List ℕ) → Option CoreId → List File → List ℕ → Outcome → Type 0
+IsRunOutput schedule items files = IsReportOutput (IsPlayed schedule files) items
+
+-- A run by threads has sound reports, of cores that have ended or gave up after so many turns, and nothing says which. [own]
+abbrev pub IsThreadsOutput : ℕ → Option CoreId → List File → List ℕ → Outcome → Type 0
+IsThreadsOutput turns items files = IsReportOutput (IsThreaded turns files) items
+
+-- The log of a core that is not configured is asked for, which is the fault.
+abbrev pub HasNoItems : Plan → Option CoreId → Fault → Type 0
+HasNoItems plan items fault = (are_items_known plan items ≡ false) × (fault ≡ Text UnknownName)
+
+-- The fault of the first file that has one, in the order configuration, stimuli, schedule; or, behind the configuration, that the
+-- core whose log is to be printed is not in it. [own]
+pub data IsInputFault (schedule : Option (List ℕ)) (items : Option CoreId) (files : List File) (fault : Fault) : Type 0 where
+  in_config : IsFaultOf faults_of (text_at files 0) fault → IsInputFault schedule items files fault
+  in_items : (plan : Plan) → Means config_of (text_at files 0) plan → HasNoItems plan items fault → IsInputFault schedule items files fault
+  in_stimuli : (plan : Plan) → Means config_of (text_at files 0) plan → are_items_known plan items ≡ true →
+      IsFaultOf (stimuli_faults plan) (text_at files 1) fault → IsInputFault schedule items files fault
+  in_schedule : (plan : Plan) (stimuli : List CoreStimuli) → IsSome schedule → IsGiven files plan stimuli →
+      are_items_known plan items ≡ true → IsFaultOf (schedule_faults plan) (text_at files 2) fault → IsInputFault schedule items files fault
+
+-- Why a run has no reports: a fault of its files; or, where these have meanings, what breaks off such a run, which is the first
+-- argument. [own]
+pub data IsRunFault (Breaks : Fault → Type 0) (schedule : Option (List ℕ)) (items : Option CoreId) (files : List File) (fault : Fault) : Type 0 where
+  in_files : IsInputFault schedule items files fault → IsRunFault Breaks schedule items files fault
+  broken_off : (plan : Plan) (stimuli : List CoreStimuli) (turns : Option (List (CoreId × Choice))) →
+      IsInput schedule files plan stimuli turns → are_items_known plan items ≡ true → Breaks fault →
+      IsRunFault Breaks schedule items files fault
+
+-- A run of turns breaks off only where memory ran out.
+abbrev pub BreaksTurns : Fault → Type 0
+BreaksTurns fault = fault ≡ NoMemoryToRun
+
+-- A run by threads breaks off also where a thread could not be started, or where the mail between two cores broke. [own]
+abbrev pub BreaksThreads : Fault → Type 0
+BreaksThreads NoMemoryToRun = Unit {0}
+BreaksThreads NoThread = Unit {0}
+BreaksThreads MailBreak = Unit {0}
+BreaksThreads fault = ⊥
+
+-- What is printed of reports, or the log of one core, and how the run ends.
+pub record IsReported (plan : Plan) (reports : List Report) (items : Option CoreId) (text : List ℕ) (ending : Result Outcome Fault) : Type 0 where
+  pub text_is : text ≡ printed_text plan reports items
+  pub ending_is : ending ≡ Ok (outcome_of (have_all_ended plan reports))
+
+-- Why a run prints nothing. Where memory ran out while the files were read, nothing is said of them.
+abbrev pub HasNoReports : (Fault → Type 0) → Option (List ℕ) → Option CoreId → List File → Fault → Type 0
+HasNoReports Breaks schedule items files fault = fault ≢ Text NoMemory → IsRunFault Breaks schedule items files fault
+
+-- What a run reads of its files, of so many as there are: what they mean, or their fault. [own]
+abbrev pub IsRead : Option (List ℕ) → Option CoreId → List File → ℕ → Result (Plan × List CoreStimuli × Option (List (CoreId × Choice))) Fault → Type 0
+IsRead schedule items files count (Ok input) = IsInput schedule files input.0 input.1 input.2 × (are_items_known input.0 items ≡ true)
+IsRead schedule items files count (Err fault) = (fault ≢ Text NoMemory → IsInputFault schedule items files fault) × IsAsked count files fault
+
+-- ---- check
+
+-- How the cores of the file's configuration stand to one another. [own]
+pub record IsCheckOutput (files : List File) (text : List ℕ) (outcome : Outcome) : Type 0 where
+  pub plan : Plan
+  pub config : Means config_of (text_at files 0) plan
+  pub text_is : text ≡ check_text plan
+  pub outcome_is : outcome ≡ Done
+
+abbrev pub HasNoConfig : List File → Fault → Type 0
+HasNoConfig files fault = fault ≢ Text NoMemory → IsFaultOf faults_of (text_at files 0) fault
+
+-- ---- cut
+
+-- The own configuration of a separate core. [own]
+pub record IsCutOutput (core : CoreId) (files : List File) (text : List ℕ) (outcome : Outcome) : Type 0 where
+  pub plan : Plan
+  pub config : Means config_of (text_at files 0) plan
+  pub separate : is_separate plan core ≡ true
+  pub text_is : text ≡ cut_text plan core
+  pub outcome_is : outcome ≡ Done
+
+-- The fault of the configuration, or that the core is not separate. [own]
+pub data IsCutFault (core : CoreId) (files : List File) (fault : Fault) : Type 0 where
+  in_config : IsFaultOf faults_of (text_at files 0) fault → IsCutFault core files fault
+  in_core : (plan : Plan) → Means config_of (text_at files 0) plan → is_separate plan core ≡ false → fault ≡ Text NotSeparate →
+      IsCutFault core files fault
+
+abbrev pub HasNoCut : CoreId → List File → Fault → Type 0
+HasNoCut core files fault = fault ≢ Text NoMemory → IsCutFault core files fault
+
+-- The text of a core's own configuration, where the core is separate.
+abbrev pub IsCutOf : Plan → CoreId → List ℕ → Type 0
+IsCutOf plan core text = (is_separate plan core ≡ true) × (text ≡ config_text (cut_of plan core))
+
+-- Why there is none: the core is not separate. Nothing is said where memory was wanting.
+abbrev pub IsNotCut : Plan → CoreId → Fault → Type 0
+IsNotCut plan core fault = fault ≢ Text NoMemory → (is_separate plan core ≡ false) × (fault ≡ Text NotSeparate)
+
+-- ---- any job
+
+-- What a job prints, and how it ends then: with an outcome, or by a fault that is told behind the text.
+abbrev pub IsOutput : Job → List File → List ℕ → Result Outcome Fault → Type 0
+IsOutput (Run config stimuli schedule items) files = NoFault (IsRunOutput (path_in schedule) items files)
+IsOutput (Check config) files = NoFault (IsCheckOutput files)
+IsOutput (Cut config core) files = NoFault (IsCutOutput core files)
+IsOutput (Replay config core log) files = IsReplayOutput core files
+IsOutput (Threads config stimuli turns items) files = NoFault (IsThreadsOutput turns items files)
+
+abbrev pub HasNoOutput : Job → List File → Fault → Type 0
+HasNoOutput (Run config stimuli schedule items) files fault = HasNoReports BreaksTurns (path_in schedule) items files fault
+HasNoOutput (Check config) files fault = HasNoConfig files fault
+HasNoOutput (Cut config core) files fault = HasNoCut core files fault
+HasNoOutput (Replay config core log) files fault = HasNoReplay core files fault
+HasNoOutput (Threads config stimuli turns items) files fault = HasNoReports BreaksThreads None items files fault
+
+-- ---- printing
+
+-- A write that is refused is the fault, whatever was to come.
+abbrev pub unless_refused : Result Unit SinkFailed → Result Outcome Fault → Result Outcome Fault
+unless_refused (Ok done) ending = ending
+unless_refused (Err refused) ending = Err WriteFailed
+
+-- A text is printed: all of it, or a beginning of it up to the first write that fails. [own]
+pub record Prints {S : Type 0} (taken : S → Option (List ℕ)) (failed : S → ℕ) (old new : S) (text : List ℕ)
+    (ending result : Result Outcome Fault) : Type 0 where
+  pub written : Result Unit SinkFailed
+  pub writes : Writes taken failed old new text written
+  pub result_is : result ≡ unless_refused written ending
+
+-- There is an output, which is printed; or there is none, for a fault, and nothing is printed. [own]
+pub data Comes {S : Type 0} (taken : S → Option (List ℕ)) (failed : S → ℕ) (old new : S)
+    (Output : List ℕ → Result Outcome Fault → Type 0) (NoOutput : Fault → Type 0) (result : Result Outcome Fault) : Type 0 where
+  prints : (text : List ℕ) (ending : Result Outcome Fault) → Output text ending → Prints taken failed old new text ending result →
+      Comes taken failed old new Output NoOutput result
+  fails : (fault : Fault) → result ≡ Err fault → NoOutput fault → new ≡ old → Comes taken failed old new Output NoOutput result
+
+-- A fault is told by its line, as far as it can be written, and nothing else is told. [own]
+abbrev pub Tells : {S : Type 0} → (S → Option (List ℕ)) → (S → ℕ) → S → S → Result Outcome Fault → Type 0
+Tells taken failed old new (Ok outcome) = new ≡ old
+Tells taken failed old new (Err fault) = (written : Result Unit SinkFailed) × Writes taken failed old new (fault_text fault) written
+
+-- What files come to, of so many as there are: an output, which is printed, or a fault. [own]
+pub record PrintsFrom {O : Type 0} (taken : O → Option (List ℕ)) (failed : O → ℕ) (old new : O)
+    (Output : List ℕ → Result Outcome Fault → Type 0) (NoOutput : Fault → Type 0) (files : List File) (count : ℕ)
+    (result : Result Outcome Fault) : Type 0 where
+  pub comes : Comes taken failed old new Output NoOutput result
+  pub asked : IfErr result (IsAsked count files)
+
+-- What a run of these files comes to: its reports are printed, or there is a fault.
+abbrev pub IsRunPrinted : {O : Type 0} → (O → Option (List ℕ)) → (O → ℕ) → O → O → Option (List ℕ) → Option CoreId → List File → ℕ →
+    Result Outcome Fault → Type 0
+IsRunPrinted taken failed old new schedule items files count result =
+    PrintsFrom taken failed old new (NoFault (IsRunOutput schedule items files)) (HasNoReports BreaksTurns schedule items files) files count result
+
+-- The same of a run by threads.
+abbrev pub IsThreadsPrinted : {O : Type 0} → (O → Option (List ℕ)) → (O → ℕ) → O → O → ℕ → Option CoreId → List File → ℕ →
+    Result Outcome Fault → Type 0
+IsThreadsPrinted taken failed old new turns items files count result =
+    PrintsFrom taken failed old new (NoFault (IsThreadsOutput turns items files)) (HasNoReports BreaksThreads None items files) files count result
+
+-- What a job over these files comes to: it prints what it asks for, or has a fault. [own]
+abbrev pub IsPrinted : {O : Type 0} → (O → Option (List ℕ)) → (O → ℕ) → O → O → Job → List File → ℕ → Result Outcome Fault → Type 0
+IsPrinted taken failed old new job files count result =
+    PrintsFrom taken failed old new (IsOutput job files) (HasNoOutput job files) files count result
+
+-- What a job comes to: what it prints, its status, and what is told of a fault. [own]
+pub record Performs {O E : Type 0} (out_taken : O → Option (List ℕ)) (out_failed : O → ℕ) (old_out new_out : O)
+    (err_taken : E → Option (List ℕ)) (err_failed : E → ℕ) (old_err new_err : E) (job : Job) (files : List File)
+    (count status : ℕ) : Type 0 where
+  pub result : Result Outcome Fault
+  pub printed : IsPrinted out_taken out_failed old_out new_out job files count result
+  pub tells : Tells err_taken err_failed old_err new_err result
+  pub status_is : status ≡ status_of result

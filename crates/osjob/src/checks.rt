@@ -1,0 +1,123 @@
+//! `check` and `cut`: how the cores of a configuration stand to one another, and the configuration of a
+//! separate core alone.
+
+ghost use Rattle.std.specs.Prelude.{◌≡◌, ◌<◌, ◌≤◌, ◌^◌, ◌++◌, IfErr, IfOk, codes, length, max, string_bytes};
+ghost use Rattle.std.specs.List.{flat_map};
+ghost use Rattle.ostrace.specs.Taken.{Writes};
+ghost use Rattle.osturn.specs.Fits.{ids_of};
+ghost use Rattle.osjob.specs.Checks.{check_text, core_text, line_at, standing_line, standing_word};
+ghost use Rattle.osjob.specs.Performs.{Comes, HasNoConfig, HasNoCut, IsCheckOutput, IsCutOf, IsCutOutput, IsNotCut, NoFault};
+ghost use Rattle.osjob.specs.Texts.{IsAsked};
+
+use crate::faults::Fault;
+use crate::outcomes::Outcome;
+use crate::readings::config_in;
+use crate::sources::Source;
+use osbase::{CORE_NUMBERS, CoreId};
+use osconf::{Config, Standing, config_text, cut, standing_of};
+use ostrace::{Sink, Word, WriteFailed, write_all, write_ended_words};
+use std::alloc::Global;
+
+/// Prints `ok`, and for each configured core by ascending number whether it is separate, bound or off.
+pub fn check<S: Source, O: Sink>(
+    alloc: Global,
+    source: &mut S,
+    out: &mut O,
+) -> Result<Outcome, Fault>
+    requires { O.failed out.old < 2 ^ 48 }
+    ensures comes { Comes O.taken O.failed out.old out.new (NoFault (IsCheckOutput (S.files source.new)))
+        (HasNoConfig (S.files source.new)) result }
+    ensures ahead { length (S.files source.new) ≤ max (length (S.files source.old)) 1 }
+    ensures asked { IfErr result (IsAsked (S.count source.new) (S.files source.new)) }
+    ensures count { S.count source.new ≡ S.count source.old }
+    ensures known { S.known source.new ≡ S.known source.old }
+{
+    let config = config_in(alloc, source)?;
+    write_check(&config, out)?;
+    Ok(Outcome::Done)
+}
+
+fn write_check<O: Sink>(config: &Config, out: &mut O) -> Result<(), WriteFailed>
+    requires { O.failed out.old < 2 ^ 48 }
+    ensures { Writes O.taken O.failed out.old out.new (check_text config.now) result }
+{
+    write_all(out, b"ok\n")?;
+    write_standings(config, out)
+}
+
+fn write_standings<O: Sink>(config: &Config, out: &mut O) -> Result<(), WriteFailed>
+    requires { O.failed out.old < 2 ^ 48 }
+    ensures { Writes O.taken O.failed out.old out.new (flat_map (standing_line config.now) (ids_of config.now)) result }
+{
+    for number in 0..CORE_NUMBERS {
+        write_standing(config, out, CoreId { number })?;
+    }
+    Ok(())
+}
+
+// No number without a core has a line.
+fn write_standing<O: Sink>(config: &Config, out: &mut O, core: CoreId) -> Result<(), WriteFailed>
+    requires { O.failed out.old < 2 ^ 48 }
+    ensures { Writes O.taken O.failed out.old out.new (line_at config.now core) result }
+{
+    if config.plan().core(core).is_none() {
+        return Ok(());
+    }
+    write_core(out, core, standing_of(config, core))
+}
+
+fn write_core<O: Sink>(out: &mut O, core: CoreId, standing: Standing) -> Result<(), WriteFailed>
+    requires { O.failed out.old < 2 ^ 48 }
+    ensures { Writes O.taken O.failed out.old out.new (core_text core standing) result }
+{
+    let number = Word::Whole(u32::from(core.number));
+    write_ended_words(out, "core", &[number, Word::Text(word_of(standing))])
+}
+
+fn word_of(standing: Standing) -> &'static str
+    ensures { result.now ≡ standing_word standing }
+{
+    match standing {
+        Standing::Separate => "separate",
+        Standing::Bound => "bound",
+        Standing::Off => "off",
+    }
+}
+
+/// Prints the configuration of a separate core alone.
+pub fn cut_out<S: Source, O: Sink>(
+    alloc: Global,
+    core: CoreId,
+    source: &mut S,
+    out: &mut O,
+) -> Result<Outcome, Fault>
+    requires { O.failed out.old < 2 ^ 48 }
+    ensures comes { Comes O.taken O.failed out.old out.new (NoFault (IsCutOutput core (S.files source.new)))
+        (HasNoCut core (S.files source.new)) result }
+    ensures ahead { length (S.files source.new) ≤ max (length (S.files source.old)) 1 }
+    ensures asked { IfErr result (IsAsked (S.count source.new) (S.files source.new)) }
+    ensures count { S.count source.new ≡ S.count source.old }
+    ensures known { S.known source.new ≡ S.known source.old }
+{
+    let config = config_in(alloc, source)?;
+    let text = text_of_cut(alloc, &config, core)?;
+    write_line(out, text.as_str())?;
+    Ok(Outcome::Done)
+}
+
+// The text of the core's own configuration.
+fn text_of_cut(alloc: Global, config: &Config, core: CoreId) -> Result<String, Fault>
+    ensures ok { IfOk result (λ text. IsCutOf config.now core (string_bytes text)) }
+    ensures fault { IfErr result (IsNotCut config.now core) }
+{
+    let cut = cut(alloc, config, core)?;
+    Ok(config_text(alloc, &cut)?)
+}
+
+fn write_line<O: Sink>(out: &mut O, text: &str) -> Result<(), WriteFailed>
+    requires { O.failed out.old < 2 ^ 48 }
+    ensures { Writes O.taken O.failed out.old out.new (text.now ++ codes "\n") result }
+{
+    write_all(out, text.as_bytes())?;
+    write_all(out, b"\n")
+}

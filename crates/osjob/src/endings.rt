@@ -1,0 +1,66 @@
+//! How a job ends: what it printed is sent off, a fault is told, and there is a status.
+
+ghost use Rattle.std.specs.Prelude.{◌≡◌, ◌<◌, ◌≤◌, ◌^◌};
+ghost use Rattle.ostrace.specs.Taken.{Writes};
+ghost use Rattle.osjob.specs.Faults.{fault_text};
+ghost use Rattle.osjob.specs.Performs.{Tells, status_of};
+ghost use Rattle.osjob.specs.Program.{Closes, SendsOff};
+
+use crate::faults::Fault;
+use crate::outcomes::{FAULT, Outcome};
+use crate::outputs::Output;
+use itoa::Buffer;
+use ostrace::{Sink, Word, WriteFailed, write_ended_words};
+
+/// Sends off what was printed, also before a fault is told, and then tells the fault. Answers the exit status.
+pub fn close<O: Output, E: Sink>(ending: Result<Outcome, Fault>, out: &mut O, err: &mut E) -> u8
+    requires out { O.failed out.old ≤ 2 ^ 48 }
+    requires err { E.failed err.old < 2 ^ 48 }
+    ensures { Closes O.taken O.sent O.failed out.old out.new E.taken E.failed err.old err.new ending result }
+{
+    tell(send_off(ending, out), err)
+}
+
+// The ending, unless what was printed could not be sent off.
+fn send_off<O: Output>(ending: Result<Outcome, Fault>, out: &mut O) -> Result<Outcome, Fault>
+    requires { O.failed out.old ≤ 2 ^ 48 }
+    ensures { SendsOff O.taken O.sent O.failed out.old out.new ending result }
+{
+    out.flush()?;
+    ending
+}
+
+/// Tells a fault by its line; answers the exit status.
+pub fn tell<E: Sink>(ending: Result<Outcome, Fault>, err: &mut E) -> u8
+    requires { E.failed err.old < 2 ^ 48 }
+    ensures told { Tells E.taken E.failed err.old err.new ending }
+    ensures status { result ≡ status_of ending }
+{
+    match ending {
+        Ok(outcome) => outcome.status(),
+        Err(fault) => {
+            let _ = fault_line(err, fault);
+            FAULT
+        }
+    }
+}
+
+/// Prints the line of a fault.
+pub fn fault_line<E: Sink>(err: &mut E, fault: Fault) -> Result<(), WriteFailed>
+    requires { E.failed err.old < 2 ^ 48 }
+    ensures { Writes E.taken E.failed err.old err.new (fault_text fault) result }
+{
+    let number = Word::Whole(u32::from(fault.number()));
+    let name = Word::Text(fault.name());
+    match fault {
+        Fault::ItemRefused(item) => {
+            let mut place = Buffer::new();
+            write_ended_words(
+                err,
+                "fault",
+                &[number, name, Word::Text(place.format(item))],
+            )
+        }
+        _ => write_ended_words(err, "fault", &[number, name]),
+    }
+}

@@ -1,0 +1,124 @@
+//! The faults that the program prints.
+
+ghost use Rattle.std.specs.Prelude.{◌≡◌};
+ghost use Rattle.osjob.specs.Faults.{fault_number, fault_name, of_log, of_threads};
+ghost use Rattle.osplan.specs.declared.faults.ConfFault.TheVariants.{NoMemory};
+ghost use Rattle.osjob.specs.declared.faults.Fault.TheVariants.{NoMemoryToRun, Text, WriteFailed};
+
+use osconf::ConfFault;
+use oslog::LogFault;
+use osthreads::{ThreadFault, ThreadReason};
+use ostrace::WriteFailed;
+use osworld::RunFault;
+use std::alloc::AllocError;
+
+/// Why a job was not done. The program prints `fault N Name` and exits with status 1.
+#[derive(Clone, Copy, Debug, PartialEq, Eq)]
+pub enum Fault {
+    /// A text is not what it has to be, the core to cut is not separate, or memory was refused before a run:
+    /// for the words, a file's bytes, a configuration.
+    Text(ConfFault),
+    /// A line of a log is not that of an item.
+    BadLog,
+    /// The item of this number, counted from 1, may not be taken.
+    ItemRefused(u64),
+    /// A growth was refused in a run.
+    NoMemoryToRun,
+    /// A core's thread could not be started.
+    NoThread,
+    /// A core could not take an envelope, or what two cores sent and took of each other differs.
+    MailBreak,
+    /// The output was refused.
+    WriteFailed,
+    /// A file could not be read.
+    Unreadable,
+}
+
+impl Fault {
+    /// The number that is printed.
+    pub fn number(self) -> u8
+        ensures { result ≡ fault_number self }
+    {
+        match self {
+            Fault::Text(fault) => fault.number(),
+            Fault::BadLog => 14,
+            Fault::ItemRefused(_) => 15,
+            Fault::NoMemoryToRun => 16,
+            Fault::NoThread => 17,
+            Fault::MailBreak => 18,
+            Fault::WriteFailed => 19,
+            Fault::Unreadable => 21,
+        }
+    }
+
+    /// The word that is printed.
+    pub fn name(self) -> &'static str
+        ensures { result.now ≡ fault_name self }
+    {
+        match self {
+            Fault::Text(fault) => fault.name(),
+            Fault::BadLog => "BadLog",
+            Fault::ItemRefused(_) => "ItemRefused",
+            Fault::NoMemoryToRun => "NoMemory",
+            Fault::NoThread => "NoThread",
+            Fault::MailBreak => "MailBreak",
+            Fault::WriteFailed => "WriteFailed",
+            Fault::Unreadable => "Unreadable",
+        }
+    }
+}
+
+impl From<ConfFault> for Fault {
+    ghost from_gives = { λ text fault. fault ≡ Text text };
+
+    fn from(fault: ConfFault) -> Fault {
+        Fault::Text(fault)
+    }
+}
+
+impl From<AllocError> for Fault {
+    ghost from_gives = { λ _ fault. fault ≡ Text NoMemory };
+
+    fn from(_refused: AllocError) -> Fault {
+        Fault::Text(ConfFault::NoMemory)
+    }
+}
+
+impl From<LogFault> for Fault {
+    ghost from_gives = { λ log fault. fault ≡ of_log log };
+
+    fn from(fault: LogFault) -> Fault {
+        match fault {
+            LogFault::BadLog => Fault::BadLog,
+            LogFault::NoMemory => Fault::NoMemoryToRun,
+        }
+    }
+}
+
+impl From<RunFault> for Fault {
+    ghost from_gives = { λ _ fault. fault ≡ NoMemoryToRun };
+
+    fn from(_refused: RunFault) -> Fault {
+        Fault::NoMemoryToRun
+    }
+}
+
+impl From<ThreadFault> for Fault {
+    ghost from_gives = { λ broken fault. fault ≡ of_threads broken.reason };
+
+    fn from(broken: ThreadFault) -> Fault {
+        match broken.reason {
+            ThreadReason::NoMemory => Fault::NoMemoryToRun,
+            ThreadReason::NoThread => Fault::NoThread,
+            ThreadReason::MailBreak => Fault::MailBreak,
+        }
+    }
+}
+
+impl From<WriteFailed> for Fault {
+    ghost from_gives = { λ _ fault. fault ≡ WriteFailed };
+
+    fn from(_failed: WriteFailed) -> Fault {
+        Fault::WriteFailed
+    }
+}

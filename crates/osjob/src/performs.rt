@@ -1,0 +1,67 @@
+//! Doing a job over its files' bytes.
+
+ghost use Rattle.std.specs.Prelude.{◌<◌, ◌^◌, length};
+ghost use Rattle.oscommand.specs.Jobs.{paths_of};
+ghost use Rattle.osjob.specs.Performs.{IsPrinted, Performs};
+ghost use Rattle.osjob.specs.Runs.{UsesUp};
+
+use crate::checks::{check, cut_out};
+use crate::endings::tell;
+use crate::faults::Fault;
+use crate::outcomes::Outcome;
+use crate::replays::replay_out;
+use crate::runs::run;
+use crate::sources::{Given, Source};
+use crate::threads::run_by_threads;
+use oscommand::Job;
+use ostrace::Sink;
+use std::alloc::Global;
+use std::sync::Wait;
+use std::thread::Threads;
+
+/// Does the job over its files' bytes, one entry for each of its paths, `None` where the file could not be
+/// read; prints to `out`, tells a fault by its line to `err`, and answers the exit status: 0 done, 1 fault,
+/// 3 stalled. A run by threads may wait.
+pub fn perform<R: Threads + Wait + Sync, O: Sink, E: Sink>(
+    rt: &R,
+    alloc: Global,
+    job: &Job,
+    files: &[Option<Vec<u8>>],
+    out: &mut O,
+    err: &mut E,
+) -> u8
+    requires out { O.failed out.old < 2 ^ 48 }
+    requires err { E.failed err.old < 2 ^ 48 }
+    ensures { Performs O.taken O.failed out.old out.new E.taken E.failed err.old err.new
+        job.now files.now (length files.now) result }
+{
+    let result = print_from(rt, alloc, job, Given { files }, out);
+    tell(result, err)
+}
+
+/// Prints what the job asks for over files that are read one by one: each is judged before the next is read, none
+/// is read after one with a fault or without a path of the job, and none is called unreadable that was not read.
+/// The source is used up: a run lets its files go before it begins. A run by threads may wait.
+pub fn print_from<R: Threads + Wait + Sync, S: Source + Drop, O: Sink>(
+    rt: &R,
+    alloc: Global,
+    job: &Job,
+    mut source: S,
+    out: &mut O,
+) -> Result<Outcome, Fault>
+    requires { O.failed out.old < 2 ^ 48 }
+    ensures { UsesUp S.files S.known source (length (paths_of job.now))
+        (λ files. IsPrinted O.taken O.failed out.old out.new job.now files (S.count source) result) }
+{
+    match job {
+        Job::Run {
+            schedule,
+            items,
+            ..
+        } => run(alloc, *schedule, *items, source, out),
+        Job::Check { .. } => check(alloc, &mut source, out),
+        Job::Cut { core, .. } => cut_out(alloc, *core, &mut source, out),
+        Job::Replay { core, .. } => replay_out(alloc, *core, &mut source, out),
+        Job::Threads { turns, items, .. } => run_by_threads(rt, alloc, *turns, *items, source, out),
+    }
+}

@@ -1,0 +1,79 @@
+//! Replaying a log: one core by itself, and its block.
+
+ghost use Rattle.std.specs.Prelude.{◌≡◌, ◌<◌, ◌≤◌, ◌^◌, IfErr, IsSome, Ok, Result, length, max};
+ghost use Rattle.ostext.specs.Trace.{block_of};
+ghost use Rattle.osplan.specs.View.{core_of};
+ghost use Rattle.osjob.specs.Performs.{Comes, Prints};
+ghost use Rattle.osjob.specs.Replays.{HasNoReplay, IsReplayOutput, Replays};
+ghost use Rattle.osjob.specs.Runs.{StopsAtFaults};
+ghost use Rattle.osjob.specs.Texts.{IsAsked};
+
+use crate::faults::Fault;
+use crate::outcomes::Outcome;
+use crate::readings::{config_in, known_core, log_in};
+use crate::sources::Source;
+use osbase::{CoreId, Item, Report};
+use osconf::Config;
+use osreplay::{ReplayFault, replay};
+use ostrace::{Sink, write_reports};
+use std::alloc::Global;
+use std::slice;
+
+/// Plays the core by itself with the items of its log, the second file, and prints its block. Where an item may not be
+/// taken, that is the fault behind the block of the items before.
+pub fn replay_out<S: Source, O: Sink>(
+    alloc: Global,
+    core: CoreId,
+    source: &mut S,
+    out: &mut O,
+) -> Result<Outcome, Fault>
+    requires { O.failed out.old < 2 ^ 48 }
+    ensures comes { Comes O.taken O.failed out.old out.new (IsReplayOutput core (S.files source.new))
+        (HasNoReplay core (S.files source.new)) result }
+    ensures stops { StopsAtFaults (length (S.files source.old)) (S.files source.new) }
+    ensures ahead { length (S.files source.new) ≤ max (length (S.files source.old)) 2 }
+    ensures asked { IfErr result (IsAsked (S.count source.new) (S.files source.new)) }
+    ensures count { S.count source.new ≡ S.count source.old }
+    ensures known { S.known source.new ≡ S.known source.old }
+{
+    let config = config_in(alloc, source)?;
+    known_core(&config, core)?;
+    let items = log_in(alloc, &config, core, source)?;
+    play(alloc, &config, core, items.as_slice(), out)
+}
+
+// Plays the items and prints the block.
+fn play<O: Sink>(
+    alloc: Global,
+    config: &Config,
+    core: CoreId,
+    items: &[Item],
+    out: &mut O,
+) -> Result<Outcome, Fault>
+    requires sink { O.failed out.old < 2 ^ 48 }
+    requires core { IsSome (core_of config.now core) }
+    ensures { Comes O.taken O.failed out.old out.new (Replays config.now core items.now)
+        (λ fault. fault ≡ Fault.NoMemoryToRun) result }
+{
+    match replay(alloc, config, core, items) {
+        Ok(report) => print(config, &report, Ok(Outcome::Done), out),
+        Err(ReplayFault::ItemRefused { number, report }) => {
+            print(config, &report, Err(Fault::ItemRefused(number)), out)
+        }
+        Err(ReplayFault::NoMemory { .. }) => Err(Fault::NoMemoryToRun),
+    }
+}
+
+// Prints a core's block, and answers how the replay ended.
+fn print<O: Sink>(
+    config: &Config,
+    report: &Report,
+    ending: Result<Outcome, Fault>,
+    out: &mut O,
+) -> Result<Outcome, Fault>
+    requires { O.failed out.old < 2 ^ 48 }
+    ensures { Prints O.taken O.failed out.old out.new (block_of config.now report.now) ending result }
+{
+    write_reports(config, out, slice::from_ref(report))?;
+    ending
+}

@@ -1,0 +1,104 @@
+//! A run by threads: its files are read, its cores run, and the reports are printed.
+
+ghost use Rattle.std.specs.Prelude.{◌<◌, ◌^◌};
+ghost use Rattle.osjob.specs.Performs.{IsThreadsPrinted};
+ghost use Rattle.osjob.specs.Runs.{UsesUp};
+
+use crate::faults::Fault;
+use crate::outcomes::Outcome;
+use crate::runs::{input_of, print_reports};
+use crate::sources::Source;
+use crossbeam_utils::CachePadded;
+use osbase::{CONFIGURED_CORES, CoreId};
+use osthreads::{Gate, MailKind, run_threads};
+use ostrace::Sink;
+use std::alloc::Global;
+use std::sync::Wait;
+use std::sync::atomic::{AtomicBool, AtomicU64, Ordering};
+use std::thread::Threads;
+use std::{array, thread};
+
+/// The turns of a whole round of as many cores as there may be.
+const ROUND: u64 = CONFIGURED_CORES as u64 + 1;
+
+/// The gate of the program: each thread may start, and a core that found nothing to do in a whole round lets another one
+/// go on. Most turns of a core that works change nothing, since a round serves every other core.
+#[derive(Drop)]
+pub struct Yielding {
+    // Each core writes what is its own alone, on a cache line of its own.
+    cores: [CachePadded<Fruitless>; CONFIGURED_CORES],
+}
+
+#[derive(Drop)]
+struct Fruitless {
+    turns: AtomicU64,
+    was_last: AtomicBool,
+}
+
+impl Yielding {
+    pub fn new() -> Self {
+        Yielding {
+            cores: array::from_fn(|_| {
+                CachePadded::new(Fruitless {
+                    turns: AtomicU64::new(0),
+                    was_last: AtomicBool::new(false),
+                })
+            }),
+        }
+    }
+}
+
+impl Gate for Yielding {
+    fn starts(&self, _core: CoreId) -> bool {
+        true
+    }
+
+    fn before(&self, core: CoreId) {
+        let Some(fruitless) = self.cores.get(usize::from(core.number)) else {
+            return;
+        };
+        if !fruitless.was_last.load(Ordering::Relaxed) {
+            fruitless.turns.store(0, Ordering::Relaxed);
+        }
+        fruitless.was_last.store(false, Ordering::Relaxed);
+    }
+
+    fn idle(&self, core: CoreId) {
+        let Some(fruitless) = self.cores.get(usize::from(core.number)) else {
+            return;
+        };
+        fruitless.was_last.store(true, Ordering::Relaxed);
+        let turns = fruitless.turns.load(Ordering::Relaxed).wrapping_add(1);
+        fruitless.turns.store(turns, Ordering::Relaxed);
+        if turns % ROUND == 0 {
+            thread::yield_now();
+        }
+    }
+}
+
+/// Runs each core of the source's files on a thread of its own and prints the reports, or the log of one core alone. A core
+/// gives up once so many turns in a row changed nothing. The files' bytes are let go before the run begins.
+pub fn run_by_threads<R: Threads + Wait + Sync, S: Source + Drop, O: Sink>(
+    rt: &R,
+    alloc: Global,
+    turns: u64,
+    items: Option<CoreId>,
+    source: S,
+    out: &mut O,
+) -> Result<Outcome, Fault>
+    requires { O.failed out.old < 2 ^ 48 }
+    ensures { UsesUp S.files S.known source 2
+        (λ files. IsThreadsPrinted O.taken O.failed out.old out.new turns items files (S.count source) result) }
+{
+    let (config, stimuli, _) = input_of(alloc, None, items, source)?;
+    let reports = run_threads(
+        rt,
+        alloc,
+        &config,
+        &stimuli,
+        MailKind::Locked,
+        &Yielding::new(),
+        turns,
+    )?;
+    print_reports(alloc, &config, items, out, reports.as_slice())
+}
