@@ -1,9 +1,6 @@
 //! `mcos`: a multicore AUTOSAR OS kernel, simulated.
 #![tactic(auto)]
 
-#[cfg(test)]
-mod tests;
-
 use osjob::{Fault, NoWords, answer, tell};
 use ostrace::WriteSink;
 use std::alloc::AllocError;

@@ -1,0 +1,19 @@
+//! The bytes of a job's files.
+
+use std::alloc::{AllocError, Global};
+
+/// The files of these texts.
+pub fn files_of(alloc: Global, texts: &[Option<&str>]) -> Result<Vec<Option<Vec<u8>>>, AllocError> {
+    let mut files = Vec::new(alloc);
+    for text in texts {
+        files.push(file_of(alloc, *text)?)?;
+    }
+    Ok(files)
+}
+
+pub fn file_of(alloc: Global, text: Option<&str>) -> Result<Option<Vec<u8>>, AllocError> {
+    match text {
+        Some(text) => Ok(Some(Vec::from_slice(alloc, text.as_bytes())?)),
+        None => Ok(None),
+    }
+}

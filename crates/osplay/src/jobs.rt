@@ -1,0 +1,82 @@
+//! The jobs of a table, over files of these names.
+
+use osbase::CoreId;
+use oscommand::Job;
+
+const CONFIG: &str = "config.json";
+
+const STIMULI: &str = "stim.json";
+
+const LOG: &str = "log.txt";
+
+/// A run by the turns of a schedule, if there is one.
+pub fn run_of(schedule: Option<&'static str>) -> Job<'static> {
+    Job::Run {
+        config: CONFIG,
+        stimuli: STIMULI,
+        schedule,
+        items: None,
+    }
+}
+
+/// Such a run, of which one core's log is printed.
+pub fn items_of(schedule: Option<&'static str>, number: u8) -> Job<'static> {
+    Job::Run {
+        config: CONFIG,
+        stimuli: STIMULI,
+        schedule,
+        items: Some(CoreId { number }),
+    }
+}
+
+pub fn check_of() -> Job<'static> {
+    Job::Check { config: CONFIG }
+}
+
+pub fn cut_of(number: u8) -> Job<'static> {
+    Job::Cut {
+        config: CONFIG,
+        core: CoreId { number },
+    }
+}
+
+pub fn replay_of(number: u8) -> Job<'static> {
+    Job::Replay {
+        config: CONFIG,
+        core: CoreId { number },
+        log: LOG,
+    }
+}
+
+pub fn threads_of(turns: u64, items: Option<u8>) -> Job<'static> {
+    Job::Threads {
+        config: CONFIG,
+        stimuli: STIMULI,
+        turns,
+        items: items.map(|number| CoreId { number }),
+    }
+}
+
+/// The job of these words, by the turns of a schedule if there is one.
+pub fn job_of(words: &str, schedule: Option<&'static str>) -> Option<Job<'static>> {
+    let (word, rest) = words.split_once(' ').unwrap_or((words, ""));
+    match (word, rest) {
+        ("run", "") => Some(run_of(schedule)),
+        ("items", core) => Some(items_of(schedule, core.parse::<u8>().ok()?)),
+        ("replay", core) => Some(replay_of(core.parse::<u8>().ok()?)),
+        ("check", "") => Some(check_of()),
+        ("cut", core) => Some(cut_of(core.parse::<u8>().ok()?)),
+        ("threads", rest) => threads_job(rest),
+        _ => None,
+    }
+}
+
+fn threads_job(words: &str) -> Option<Job<'static>> {
+    match words.split_once(' ') {
+        Some((turns, core)) => {
+            let core = core.parse::<u8>().ok()?;
+            Some(threads_of(turns.parse::<u64>().ok()?, Some(core)))
+        }
+        None => Some(threads_of(words.parse::<u64>().ok()?, None)),
+    }
+}

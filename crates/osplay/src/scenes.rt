@@ -1,0 +1,223 @@
+//! The files of a table's jobs, and the blocks of what they print.
+
+use crate::files::file_of;
+use crate::jobs::job_of;
+use crate::prints::{ending, ending_of, print_files, same};
+use oscommand::Job;
+use std::alloc::{AllocError, Global};
+use std::sync::Wait;
+use std::test::Fail;
+use std::thread::Threads;
+
+/// The files of a table's jobs, and what the job before came to.
+#[derive(Drop)]
+pub struct Scene<'a> {
+    config: Option<String>,
+    stimuli: Option<&'a str>,
+    turns: Option<&'a str>,
+    log: Option<String>,
+    // What each log begins with.
+    first: String,
+    // What comes into the place of an `@`, one after the other, with `|` between.
+    values: &'a str,
+    before: Block,
+}
+
+/// The lines of a block. What is reported begins with the line of a fault.
+#[derive(Drop)]
+pub struct Block {
+    printed: String,
+    reported: String,
+}
+
+impl Block {
+    pub fn new(alloc: Global) -> Block {
+        Block {
+            printed: String::new(alloc),
+            reported: String::new(alloc),
+        }
+    }
+
+    pub fn push(&mut self, line: &str) -> Result<(), AllocError> {
+        let text = if self.reported.is_empty() && !line.starts_with("fault ") {
+            &mut self.printed
+        } else {
+            &mut self.reported
+        };
+        text.push_str(line)?;
+        text.push_str("\n")
+    }
+}
+
+impl<'a> Scene<'a> {
+    pub fn new(alloc: Global) -> Scene<'a> {
+        Scene {
+            config: None,
+            stimuli: None,
+            turns: None,
+            log: None,
+            first: String::new(alloc),
+            values: "",
+            before: Block::new(alloc),
+        }
+    }
+
+    /// Reads a line between blocks. One that heads a block is answered.
+    pub fn read(&mut self, alloc: Global, line: &'a str) -> Result<Option<&'a str>, AllocError> {
+        let (word, rest) = line.split_once(' ').unwrap_or((line, ""));
+        match word {
+            "" | "//" => {}
+            "config" => self.configure(alloc, rest)?,
+            "stimuli" => {
+                self.stimuli = Some(rest);
+                self.turns = None;
+                self.log = None;
+            }
+            "turns" => self.turns = Some(rest),
+            "with" => self.values = rest,
+            _ => return Ok(Some(line)),
+        }
+        Ok(None)
+    }
+
+    fn configure(&mut self, alloc: Global, text: &str) -> Result<(), AllocError> {
+        let text = if text.is_empty() {
+            self.before.printed.as_str()
+        } else {
+            text
+        };
+        self.config = Some(String::from_str(alloc, text)?);
+        self.stimuli = None;
+        self.turns = None;
+        self.log = None;
+        self.first.clear();
+        Ok(())
+    }
+
+    /// Takes a block that has ended. Answers how many jobs were done.
+    pub fn close(
+        &mut self,
+        rt: &(impl Threads + Wait + Sync),
+        alloc: Global,
+        head: &str,
+        block: Block,
+    ) -> Result<usize, Fail> {
+        match head {
+            "first" => self.first = block.printed,
+            "log" => self.log = Some(self.begun(alloc, block.printed.as_str())?),
+            "log open" => {
+                let lines = block.printed.strip_suffix('\n').ok_or("a line")?;
+                self.log = Some(self.begun(alloc, lines)?);
+            }
+            job => return self.play_job(rt, alloc, job, block),
+        }
+        Ok(0)
+    }
+
+    // The log of these lines.
+    fn begun(&self, alloc: Global, lines: &str) -> Result<String, AllocError> {
+        let mut log = String::from_str(alloc, self.first.as_str())?;
+        log.push_str(lines)?;
+        Ok(log)
+    }
+
+    // Does the job of a head for each value, and compares what it comes to with the block.
+    fn play_job(
+        &mut self,
+        rt: &(impl Threads + Wait + Sync),
+        alloc: Global,
+        head: &str,
+        block: Block,
+    ) -> Result<usize, Fail> {
+        if block.printed.as_str() != "as before\n" {
+            self.before = block;
+        }
+        let mut jobs = 0usize;
+        for value in self.values().split('|') {
+            self.play_once(rt, alloc, head, value)?;
+            jobs = jobs.saturating_add(1);
+        }
+        if head.starts_with("items ") {
+            self.log = Some(String::from_str(alloc, self.before.printed.as_str())?);
+        }
+        Ok(jobs)
+    }
+
+    // The values, if there is a place for them.
+    fn values(&self) -> &'a str {
+        if has_place(&self.config) || has_place(&self.log) {
+            self.values
+        } else {
+            ""
+        }
+    }
+
+    // Does the job once. Compares what it prints, what it reports, and its status.
+    fn play_once(
+        &self,
+        rt: &(impl Threads + Wait + Sync),
+        alloc: Global,
+        head: &str,
+        value: &str,
+    ) -> Result<(), Fail> {
+        let (words, status) = head.split_once(" -> ").unwrap_or((head, "0"));
+        let job = job_of(words, self.turns.map(|_| "turns.json")).ok_or("a job")?;
+        let files = self.files(alloc, &job, value)?;
+        let printed = print_files(rt, alloc, &job, files.as_slice());
+        let due = self.due(alloc, status.parse::<u8>().ok().ok_or("a status")?)?;
+        let job = format!(in alloc; "{head} {value}")?;
+        same(
+            job.as_str(),
+            ending_of(alloc, printed)?.as_str(),
+            due.as_str(),
+        )
+    }
+
+    // What the job comes to. It exits with this status, unless it reports a fault.
+    fn due(&self, alloc: Global, status: u8) -> Result<String, AllocError> {
+        let (printed, reported) = (self.before.printed.as_str(), self.before.reported.as_str());
+        let status = if reported.is_empty() { status } else { 1 };
+        ending(alloc, printed, reported, status)
+    }
+
+    // The files of the job, with the value in their places.
+    fn files(
+        &self,
+        alloc: Global,
+        job: &Job,
+        value: &str,
+    ) -> Result<Vec<Option<Vec<u8>>>, AllocError> {
+        let mut files = Vec::new(alloc);
+        files.push(filled(alloc, &self.config, value)?)?;
+        if let Job::Replay { .. } = job {
+            files.push(filled(alloc, &self.log, value)?)?;
+        } else {
+            files.push(file_of(alloc, self.stimuli)?)?;
+            files.push(file_of(alloc, self.turns)?)?;
+        }
+        Ok(files)
+    }
+}
+
+fn has_place(text: &Option<String>) -> bool {
+    match text {
+        Some(text) => text.contains('@'),
+        None => false,
+    }
+}
+
+// The file of a text, with the value in its place, if it has one.
+fn filled(
+    alloc: Global,
+    text: &Option<String>,
+    value: &str,
+) -> Result<Option<Vec<u8>>, AllocError> {
+    let Some(text) = text else {
+        return Ok(None);
+    };
+    let Some((before, after)) = text.split_once('@') else {
+        return file_of(alloc, Some(text.as_str()));
+    };
+    let filled = format!(in alloc; "{before}{value}{after}")?;
+    Ok(Some(filled.into_bytes()))
+}

@@ -1,0 +1,71 @@
+//! Tables of worked examples, played line by line.
+
+use crate::scenes::{Block, Scene};
+use std::alloc::Global;
+use std::mem;
+use std::sync::Wait;
+use std::test::Fail;
+use std::thread::Threads;
+
+/// Plays the tables. They have so many jobs.
+pub fn play_all(
+    rt: &(impl Threads + Wait + Sync),
+    alloc: Global,
+    tables: &[&str],
+    jobs: usize,
+) -> Result<(), Fail> {
+    let mut played = 0usize;
+    for table in tables {
+        let more = play(rt, alloc, table)?;
+        played = played.saturating_add(more);
+    }
+    if played != jobs {
+        return Err(Fail::new(format_args!("{played} jobs, not {jobs}")));
+    }
+    Ok(())
+}
+
+// Plays a table, and counts the jobs that were done. Between blocks a line that is empty or begins with `//` says nothing,
+// and the others are:
+// `config C`: the configuration of the jobs behind it, without stimuli, turns and log. Without a C it is what the job before
+// printed.
+// `stimuli S`: their stimuli, without turns and log.
+// `turns T`: their schedule, in place of the default one.
+// `with V|V|..`: a job whose configuration or log has an `@` is done once for each V in its place.
+// Any other line heads a block, which goes up to an empty line:
+// `log`: the log of the jobs behind it. `log open`: one without its last line end. `first`: what each log begins with, up to
+// the next configuration.
+// `run`, `items CORE`, `replay CORE`, `check`, `cut CORE`, `threads TURNS` or `threads TURNS CORE`: a job, and what it prints.
+// A last line `fault ..` is reported, and the job exits with 1; else it exits with 0, or with the N of `JOB -> N`. The one line
+// `as before` stands for the block of the job before. What `items` prints is the log of the jobs behind it.
+fn play(rt: &(impl Threads + Wait + Sync), alloc: Global, table: &str) -> Result<usize, Fail> {
+    let mut scene = Scene::new(alloc);
+    let mut head = None;
+    let mut block = Block::new(alloc);
+    let mut jobs = 0usize;
+    for line in table.split('\n') {
+        match head {
+            None => head = scene.read(alloc, line)?,
+            Some(_) if !line.is_empty() => block.push(line)?,
+            Some(ended) => {
+                let full = mem::replace(&mut block, Block::new(alloc));
+                let more = scene.close(rt, alloc, ended, full)?;
+                jobs = jobs.saturating_add(more);
+                head = None;
+            }
+        }
+    }
+    Ok(jobs)
+}
+
+/// The first configuration of a table, and the first stimuli.
+pub fn given(table: &str) -> Result<(&str, &str), Fail> {
+    let config = first_of(table, "config ").ok_or("a configuration")?;
+    let stimuli = first_of(table, "stimuli ").ok_or("stimuli")?;
+    Ok((config, stimuli))
+}
+
+// What stands behind this word in the first line that begins with it.
+fn first_of<'a>(table: &'a str, word: &str) -> Option<&'a str> {
+    table.lines().find_map(|line| line.strip_prefix(word))
+}

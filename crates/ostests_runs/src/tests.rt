@@ -1,0 +1,21 @@
+//! The worked examples, from text to text.
+
+mod alarms;
+mod counters;
+mod events;
+mod files;
+mod interrupts;
+mod kernel;
+mod limits;
+mod logs;
+mod program;
+mod runs;
+mod schedules;
+mod shutdown;
+mod spinlock_ends;
+mod spinlock_logs;
+mod spinlocks;
+mod starts;
+mod tables;
+mod words;
+mod writes;

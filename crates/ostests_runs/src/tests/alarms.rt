@@ -1,0 +1,243 @@
+//! Worked examples of alarms.
+
+use osplay::play_all;
+use std::test::Fail;
+
+const RUNS: &str = r#"
+// An alarm that is to be due at the value that its counter has is due a full turn later.
+config {"cores":[{"id":0,"tasks":[{"name":"A","prio":1,"auto":["M"],"script":"SetAbsAlarm L 0 0;SetRelAlarm K 0 0;TerminateTask"},{"name":"B","prio":2,"script":"TerminateTask"}],"counters":[{"name":"C","max":3}],"alarms":[{"name":"L","counter":"C","action":"ActivateTask B"},{"name":"K","counter":"C","action":"ActivateTask B"}]}]}
+stimuli {"0":"op op op tick tick tick tick op"}
+run
+core 0
+hook Startup
+act A
+pre A
+stat A SetAbsAlarm E_OK
+stat A SetRelAlarm E_OS_VALUE
+hook Error E_OS_VALUE
+post A
+end A
+tick
+tick
+tick
+tick
+alarm L
+act B
+pre B
+post B
+end B
+ended
+
+// A cyclic alarm of a counter that goes past its greatest value.
+config {"cores":[{"id":0,"tasks":[{"name":"A","prio":1,"auto":["M"],"script":"SetRelAlarm L 2 3;TerminateTask"},{"name":"B","prio":1,"script":"GetCounterValue C v0;TerminateTask"}],"counters":[{"name":"C","max":3}],"alarms":[{"name":"L","counter":"C","action":"ActivateTask B"}]}]}
+stimuli {"0":"op op tick tick op op tick tick tick op op"}
+run
+core 0
+hook Startup
+act A
+pre A
+stat A SetRelAlarm E_OK
+post A
+end A
+tick
+tick
+alarm L
+act B
+pre B
+stat B GetCounterValue E_OK 2
+post B
+end B
+tick
+tick
+tick
+alarm L
+act B
+pre B
+stat B GetCounterValue E_OK 1
+post B
+end B
+ended
+
+// Three alarms that act on another core, whose mailbox holds one envelope.
+config {"cap":1,"cores":[{"id":0,"start":[1],"counters":[{"name":"C","max":9}],"alarms":[{"name":"L1","counter":"C","action":"ActivateTask P","auto":{"modes":["M"],"start":1,"cycle":0}},{"name":"L2","counter":"C","action":"ActivateTask Q","auto":{"modes":["M"],"start":1,"cycle":0}},{"name":"L3","counter":"C","action":"ActivateTask R","auto":{"modes":["M"],"start":1,"cycle":0}}]},{"id":1,"tasks":[{"name":"P","prio":1,"script":"TerminateTask"},{"name":"Q","prio":1,"script":"TerminateTask"},{"name":"R","prio":1,"script":"TerminateTask"}]}]}
+stimuli {"0":"tick"}
+run
+core 0
+start 1 E_OK
+hook Startup
+tick
+alarm L1
+out 1 ActivateTask P
+alarm L2
+out 1 ActivateTask Q
+alarm L3
+out 1 ActivateTask R
+core 1
+hook Startup
+act P
+in 0 ActivateTask P E_OK
+pre P
+act Q
+in 0 ActivateTask Q E_OK
+act R
+in 0 ActivateTask R E_OK
+ended
+
+turns "0o 1l 1o 0o 0l 1l 0o 1o 0l 1l 0o 0o 0o 0o 1s0 0o 1s0 0o 1s0 0o 1o 0l 1l 0l 1l"
+run
+as before
+
+// An alarm of another core is set, asked for and cancelled.
+config {"cores":[{"id":0,"start":[1],"tasks":[{"name":"A","prio":1,"auto":["M"],"script":"SetRelAlarm L 5 0;GetAlarm L v0;CancelAlarm L;TerminateTask"}]},{"id":1,"tasks":[{"name":"B","prio":1,"script":"TerminateTask"}],"counters":[{"name":"C","max":9}],"alarms":[{"name":"L","counter":"C","action":"ActivateTask B"}]}]}
+stimuli {"0":"op op op op"}
+run
+core 0
+start 1 E_OK
+hook Startup
+act A
+pre A
+out 1 SetRelAlarm L 5 0
+stat A SetRelAlarm E_OK
+out 1 GetAlarm L v0
+stat A GetAlarm E_OK 5
+out 1 CancelAlarm L
+stat A CancelAlarm E_OK
+post A
+end A
+core 1
+hook Startup
+in 0 SetRelAlarm L 5 0 E_OK
+in 0 GetAlarm L v0 E_OK 5
+in 0 CancelAlarm L E_OK
+ended
+
+// Each check of the services of alarms, and that an alarm that was set is in use until it is cancelled.
+config {"cores":[{"id":0,"counters":[{"name":"C","max":5,"min":2}],"alarms":[{"name":"L","counter":"C","action":"ActivateTask A"}],"tasks":[{"name":"A","prio":1,"auto":["M"],"script":"SetRelAlarm ? 1 0;SetAbsAlarm F 1 0;CancelAlarm L;GetAlarm L v0;SetRelAlarm L 0 0;SetRelAlarm L 6 0;SetRelAlarm L 1 1;SetRelAlarm L 1 6;SetAbsAlarm L 6 0;SetAbsAlarm L 0 1;SetRelAlarm L 5 5;SetAbsAlarm L 0 0;SetRelAlarm L 0 0;GetAlarm L v0;CancelAlarm L;CancelAlarm L;SetAbsAlarm ? 0 0;GetAlarm ? v0;CancelAlarm ?;TerminateTask"}]},{"id":1,"counters":[{"name":"D","max":5}],"alarms":[{"name":"F","counter":"D","action":"ActivateTask A"}]}]}
+stimuli {"0":"op op op op op op op op op op op op op op op op op op op op"}
+run
+core 0
+hook Startup
+act A
+pre A
+stat A SetRelAlarm E_OS_ID
+hook Error E_OS_ID
+stat A SetAbsAlarm E_OS_CORE
+hook Error E_OS_CORE
+stat A CancelAlarm E_OS_NOFUNC
+hook Error E_OS_NOFUNC
+stat A GetAlarm E_OS_NOFUNC
+hook Error E_OS_NOFUNC
+stat A SetRelAlarm E_OS_VALUE
+hook Error E_OS_VALUE
+stat A SetRelAlarm E_OS_VALUE
+hook Error E_OS_VALUE
+stat A SetRelAlarm E_OS_VALUE
+hook Error E_OS_VALUE
+stat A SetRelAlarm E_OS_VALUE
+hook Error E_OS_VALUE
+stat A SetAbsAlarm E_OS_VALUE
+hook Error E_OS_VALUE
+stat A SetAbsAlarm E_OS_VALUE
+hook Error E_OS_VALUE
+stat A SetRelAlarm E_OK
+stat A SetAbsAlarm E_OS_STATE
+hook Error E_OS_STATE
+stat A SetRelAlarm E_OS_STATE
+hook Error E_OS_STATE
+stat A GetAlarm E_OK 5
+stat A CancelAlarm E_OK
+stat A CancelAlarm E_OS_NOFUNC
+hook Error E_OS_NOFUNC
+stat A SetAbsAlarm E_OS_ID
+hook Error E_OS_ID
+stat A GetAlarm E_OS_ID
+hook Error E_OS_ID
+stat A CancelAlarm E_OS_ID
+hook Error E_OS_ID
+post A
+end A
+core 1
+ended
+
+// What alarms do on their own core: it is refused, or releases a job that waits; and a counter that a task advances.
+config {"cores":[{"id":0,"counters":[{"name":"C","max":9},{"name":"S","max":9,"software":true}],"alarms":[{"name":"L1","counter":"C","action":"ActivateTask A","auto":{"modes":["M"],"start":1,"cycle":0}},{"name":"L2","counter":"C","action":"SetEvent W 4","auto":{"modes":["M"],"start":1,"cycle":0}},{"name":"L3","counter":"C","action":"SetEvent A 1","auto":{"modes":["M"],"start":1,"cycle":0}},{"name":"L4","counter":"S","action":"ActivateTask B","auto":{"modes":["M"],"start":1,"cycle":0}},{"name":"L5","counter":"C","action":"SetEvent V 1","auto":{"modes":["M"],"start":1,"cycle":0}}],"tasks":[{"name":"A","prio":1,"auto":["M"],"script":"IncrementCounter S;TerminateTask"},{"name":"W","prio":2,"extended":true,"auto":["M"],"script":"WaitEvent 4;ClearEvent 4;TerminateTask"},{"name":"B","prio":3,"script":"TerminateTask"},{"name":"V","prio":4,"extended":true,"script":"TerminateTask"}]}]}
+stimuli {"0":"op tick op op op op op"}
+run
+core 0
+hook Startup
+act A
+act W
+pre W
+post W
+wait W 4
+pre A
+tick
+alarm L1
+hook Error E_OS_LIMIT
+alarm L2
+ev W 4
+free W
+alarm L3
+hook Error E_OS_ACCESS
+alarm L5
+hook Error E_OS_STATE
+post A
+pre W
+clr W 4
+stat W ClearEvent E_OK
+post W
+end W
+pre A
+alarm L4
+act B
+stat A IncrementCounter E_OK
+post A
+pre B
+post B
+end B
+pre A
+post A
+end A
+ended
+
+// What an alarm does on another core is refused there; on a core that was never started it is refused here.
+config {"cores":[{"id":0,"start":[1],"counters":[{"name":"C","max":3}],"alarms":[{"name":"L1","counter":"C","action":"ActivateTask T","auto":{"modes":["M"],"start":1,"cycle":1}},{"name":"L2","counter":"C","action":"ActivateTask N","auto":{"modes":["M"],"start":1,"cycle":0}},{"name":"L3","counter":"C","action":"SetEvent W 2","auto":{"modes":["M"],"start":2,"cycle":0}}]},{"id":1,"tasks":[{"name":"T","prio":1,"script":"TerminateTask"},{"name":"W","prio":2,"extended":true,"auto":["M"],"script":"WaitEvent 2;TerminateTask"}]},{"id":2,"tasks":[{"name":"N","prio":1,"script":"TerminateTask"}]}]}
+stimuli {"0":"tick tick","1":"op"}
+run
+core 0
+start 1 E_OK
+hook Startup
+tick
+alarm L1
+out 1 ActivateTask T
+alarm L2
+hook Error E_OS_CORE
+tick
+alarm L1
+out 1 ActivateTask T
+alarm L3
+out 1 SetEvent W 2
+core 1
+hook Startup
+act W
+pre W
+post W
+wait W 2
+act T
+in 0 ActivateTask T E_OK
+pre T
+in 0 ActivateTask T E_OS_LIMIT
+hook Error E_OS_LIMIT
+ev W 2
+free W
+in 0 SetEvent W 2 E_OK
+post T
+pre W
+core 2
+ended
+"#;
+
+#[test]
+fn alarms_come_to_their_texts(rt: HostRuntime) -> Result<(), Fail> {
+    play_all(&rt, rt.alloc(), &[RUNS], 8)
+}

@@ -1,0 +1,417 @@
+//! Runs that are shut down: one core, or all of them.
+
+use osplay::examples::{ALL_DOWN, ASKERS};
+use osplay::play_all;
+use std::test::Fail;
+
+const RUNS: &str = r#"
+// Core 1 shuts itself down, and core 0 asks for a task of it.
+config {"cores":[{"id":0,"start":[1],"tasks":[{"name":"A","prio":1,"auto":["M"],"script":"work;ActivateTask B;TerminateTask"}]},{"id":1,"tasks":[{"name":"B","prio":1,"auto":["M"],"script":"ShutdownOS 0"}]}]}
+stimuli {"0":"op op op","1":"op"}
+run
+core 0
+start 1 E_OK
+hook Startup
+act A
+pre A
+out 1 ActivateTask B
+stat A ActivateTask E_OS_CORE
+hook Error E_OS_CORE
+post A
+end A
+core 1
+hook Startup
+act B
+pre B
+hook Shutdown E_OK
+ended
+
+items 1
+on
+entered
+pass1 M
+readied
+pass2 0 1
+stim op
+drained
+in 0 0 req ActivateTask B
+post 0
+passend
+last
+
+replay 1
+core 1
+hook Startup
+act B
+pre B
+hook Shutdown E_OK
+
+// A core that awaits a reply takes no halt.
+first
+began 1 E_OK
+entered
+pass1 M
+readied
+pass2 0 1
+
+log
+stim op
+stim op
+halt 1 E_OK
+
+replay 0
+core 0
+start 1 E_OK
+hook Startup
+act A
+pre A
+out 1 ActivateTask B
+fault 15 ItemRefused 8
+
+log
+stim op
+stim op
+post 1
+halt 1 E_OK
+
+replay 0
+core 0
+start 1 E_OK
+hook Startup
+act A
+pre A
+out 1 ActivateTask B
+fault 15 ItemRefused 9
+
+log
+stim op
+stim op
+post 1
+in 1 0 rep E_OS_CORE
+halt 1 E_OK
+
+replay 0
+core 0
+start 1 E_OK
+hook Startup
+act A
+pre A
+out 1 ActivateTask B
+stat A ActivateTask E_OS_CORE
+hook Error E_OS_CORE
+halt 1 E_OK
+
+// A core that is down takes no stimulus and no halt, and calls no hook a second time.
+first
+on
+entered
+pass1 M
+readied
+pass2 0 1
+
+log
+stim op
+@
+
+with stim op|halt 0 E_OS_ID
+replay 1
+core 1
+hook Startup
+act B
+pre B
+hook Shutdown E_OK
+fault 15 ItemRefused 7
+
+log
+stim op
+drained
+passend
+last 0 E_OS_ID
+
+replay 1
+core 1
+hook Startup
+act B
+pre B
+hook Shutdown E_OK
+
+// Core 1 is down when core 0 asks for a shutdown of all.
+config {"cores":[{"id":0,"start":[1],"tasks":[{"name":"A","prio":1,"auto":["M"],"script":"work;ShutdownAllCores 0"}]},{"id":1,"tasks":[{"name":"B","prio":1,"auto":["M"],"script":"ShutdownOS 5"}]}]}
+stimuli {"0":"op op","1":"op op"}
+// It has called ShutdownHook already.
+run
+core 0
+start 1 E_OK
+hook Startup
+act A
+pre A
+halt 0 E_OK
+hook Shutdown E_OK
+core 1
+hook Startup
+act B
+pre B
+hook Shutdown E_OS_NOFUNC
+ended
+
+items 1
+on
+entered
+pass1 M
+readied
+pass2 0 1
+stim op
+drained
+passend
+last 0 E_OK
+
+replay 1
+core 1
+hook Startup
+act B
+pre B
+hook Shutdown E_OS_NOFUNC
+
+// A core that is down takes no halt, whether it has drained or not.
+turns "0o 1l 1o 0o 0l 1l 0o 1o 0l 1l 0o 1o 0o 0o 1l 1o 1l"
+run -> 3
+core 0
+start 1 E_OK
+hook Startup
+act A
+pre A
+halt 0 E_OK
+core 1
+hook Startup
+act B
+pre B
+hook Shutdown E_OS_NOFUNC
+stalled
+
+// A core that was halted refuses a request. The caller takes the halt when the reply has come.
+config {"cores":[{"id":0,"start":[1],"tasks":[{"name":"A","prio":1,"auto":["M"],"script":"work;ActivateTask B;TerminateTask"}]},{"id":1,"tasks":[{"name":"X","prio":2,"auto":["M"],"script":"ShutdownAllCores 0"},{"name":"B","prio":1,"script":"TerminateTask"}]}]}
+stimuli {"0":"op op op op","1":"op op"}
+run
+core 0
+start 1 E_OK
+hook Startup
+act A
+pre A
+out 1 ActivateTask B
+stat A ActivateTask E_OS_CORE
+hook Error E_OS_CORE
+post A
+end A
+halt 1 E_OK
+hook Shutdown E_OK
+core 1
+hook Startup
+act X
+pre X
+halt 1 E_OK
+hook Shutdown E_OK
+ended
+
+// Alarms of core 0 act on core 1, which shuts all cores down. A mailbox has room for one envelope.
+config {"cap":1,"cores":[{"id":0,"start":[1],"counters":[{"name":"C","max":9}],"alarms":[{"name":"L1","counter":"C","action":"ActivateTask P","auto":{"modes":["M"],"start":1,"cycle":0}},{"name":"L2","counter":"C","action":"ActivateTask Q","auto":{"modes":["M"],"start":1,"cycle":0}}]},{"id":1,"tasks":[{"name":"X","prio":2,"auto":["M"],"script":"ShutdownAllCores 7"},{"name":"P","prio":1,"script":"TerminateTask"},{"name":"Q","prio":1,"script":"TerminateTask"}]}]}
+stimuli {"0":"op tick op","1":"op"}
+// A core that was halted drops actions.
+run
+core 0
+start 1 E_OK
+hook Startup
+tick
+alarm L1
+out 1 ActivateTask P
+alarm L2
+out 1 ActivateTask Q
+halt 1 E_OS_STATE
+hook Shutdown E_OS_STATE
+core 1
+hook Startup
+act X
+pre X
+halt 1 E_OS_STATE
+hook Shutdown E_OS_STATE
+ended
+
+// The halt finds both envelopes in the outbox, and the second one finds the mailbox full once.
+turns "0o 1l 1o 0o 0l 1l 0o 1o 0l 1l 0o 1o 0o 1o 0l 0o 0o 1s0 0o 1s0 1o 0o 0l 1l 0l 1l"
+run
+as before
+
+// The envelopes are posted after the halt.
+items 0
+began 1 E_OK
+entered
+pass1 M
+readied
+pass2 0 1
+stim op
+stim tick
+halt 1 E_OS_STATE
+post 1
+post 1
+drained
+passend
+last 1 E_OS_STATE
+
+replay 0
+core 0
+start 1 E_OK
+hook Startup
+tick
+alarm L1
+out 1 ActivateTask P
+alarm L2
+out 1 ActivateTask Q
+halt 1 E_OS_STATE
+hook Shutdown E_OS_STATE
+
+items 1
+on
+entered
+pass1 M
+readied
+pass2 0 1
+stim op
+halt 1 E_OS_STATE
+in 0 0 act ActivateTask P
+in 0 1 act ActivateTask Q
+drained
+passend
+last 1 E_OS_STATE
+
+replay 1
+core 1
+hook Startup
+act X
+pre X
+halt 1 E_OS_STATE
+hook Shutdown E_OS_STATE
+
+// A core that has asked and was not halted yet serves others, and dispatches nothing.
+config {"cores":[{"id":0,"start":[1],"counters":[{"name":"C","max":9}],"alarms":[{"name":"L","counter":"C","action":"ActivateTask P","auto":{"modes":["M"],"start":1,"cycle":0}}]},{"id":1,"tasks":[{"name":"X","prio":2,"auto":["M"],"script":"ShutdownAllCores 0"},{"name":"P","prio":3,"script":"TerminateTask"}]}]}
+stimuli {"0":"tick op op","1":"op op"}
+run
+core 0
+start 1 E_OK
+hook Startup
+tick
+alarm L
+out 1 ActivateTask P
+halt 1 E_OK
+hook Shutdown E_OK
+core 1
+hook Startup
+act X
+pre X
+act P
+in 0 ActivateTask P E_OK
+halt 1 E_OK
+hook Shutdown E_OK
+ended
+
+// One core alone: an ISR shuts all cores down, an ISR shuts the core down, and so does a task with another one
+// ready.
+config {"cores":[{"id":0,"tasks":[{"name":"A","prio":1,"auto":["M"],"script":"work;TerminateTask"}],"isrs":[{"name":"I","level":1,"script":"ShutdownAllCores 11"}]}]}
+stimuli {"0":"irq=I op op op"}
+run
+core 0
+hook Startup
+act A
+pre A
+irq I
+enter I
+halt 0 E_OS_PROTECTION_TIME
+hook Shutdown E_OS_PROTECTION_TIME
+ended
+
+config {"cores":[{"id":0,"tasks":[{"name":"A","prio":1,"auto":["M"],"script":"work;TerminateTask"}],"isrs":[{"name":"I","level":1,"script":"work;ShutdownOS 15"}]}]}
+stimuli {"0":"irq=I op op op irq=I tick"}
+run
+core 0
+hook Startup
+act A
+pre A
+irq I
+enter I
+hook Shutdown E_OS_NESTING_DEADLOCK
+ended
+
+config {"cores":[{"id":0,"tasks":[{"name":"A","prio":1,"auto":["M"],"script":"ActivateTask B;ShutdownOS 3;TerminateTask"},{"name":"B","prio":1,"script":"TerminateTask"}]}]}
+stimuli {"0":"op op op op"}
+run
+core 0
+hook Startup
+act A
+pre A
+act B
+stat A ActivateTask E_OK
+hook Shutdown E_OS_ID
+ended
+
+// Two separate cores beside the master. All of them shut down, two before their stimuli are used up.
+config {"cores":[{"id":0,"start":[1,2],"tasks":[{"name":"A","prio":1,"auto":["M"],"script":"work;ShutdownOS 0"}]},{"id":1,"tasks":[{"name":"B","prio":1,"auto":["M"],"script":"ShutdownOS 4"}]},{"id":2,"tasks":[{"name":"V","prio":1,"auto":["M"],"script":"add v0 3;ShutdownOS 2"}]}]}
+stimuli {"0":"op op op","1":"op","2":"op op op op"}
+run
+core 0
+start 1 E_OK
+start 2 E_OK
+hook Startup
+act A
+pre A
+hook Shutdown E_OK
+core 1
+hook Startup
+act B
+pre B
+hook Shutdown E_OS_LIMIT
+core 2
+hook Startup
+act V
+pre V
+var V v0 3
+hook Shutdown E_OS_CALLEVEL
+ended
+
+check
+ok
+core 0 bound
+core 1 separate
+core 2 separate
+
+// The separate cores by themselves.
+cut 1
+{"cap":16,"cores":[{"alarms":[],"counters":[],"id":1,"isrs":[],"mode":"M","protection":"PRO_SHUTDOWN","resources":[],"start":[],"tables":[],"tasks":[{"activations":1,"auto":["M"],"budget":0,"extended":false,"name":"B","preemptable":true,"prio":1,"script":"ShutdownOS 4"}]}],"master":1,"modes":["M"],"spinlocks":[],"version":1}
+
+config
+stimuli {"1":"op"}
+run
+core 1
+hook Startup
+act B
+pre B
+hook Shutdown E_OS_LIMIT
+ended
+
+config {"cores":[{"id":0,"start":[1,2],"tasks":[{"name":"A","prio":1,"auto":["M"],"script":"work;ShutdownOS 0"}]},{"id":1,"tasks":[{"name":"B","prio":1,"auto":["M"],"script":"ShutdownOS 4"}]},{"id":2,"tasks":[{"name":"V","prio":1,"auto":["M"],"script":"add v0 3;ShutdownOS 2"}]}]}
+cut 2
+{"cap":16,"cores":[{"alarms":[],"counters":[],"id":2,"isrs":[],"mode":"M","protection":"PRO_SHUTDOWN","resources":[],"start":[],"tables":[],"tasks":[{"activations":1,"auto":["M"],"budget":0,"extended":false,"name":"V","preemptable":true,"prio":1,"script":"add v0 3;ShutdownOS 2"}]}],"master":2,"modes":["M"],"spinlocks":[],"version":1}
+
+config
+stimuli {"2":"op op op op"}
+run
+core 2
+hook Startup
+act V
+pre V
+var V v0 3
+hook Shutdown E_OS_CALLEVEL
+ended
+"#;
+
+#[test]
+fn shutdowns_come_to_their_texts(rt: HostRuntime) -> Result<(), Fail> {
+    play_all(&rt, rt.alloc(), &[ALL_DOWN, ASKERS, RUNS], 52)
+}

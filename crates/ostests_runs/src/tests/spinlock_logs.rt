@@ -1,0 +1,110 @@
+//! Who gets a spinlock, and the logs of that.
+
+use osplay::examples::{POLLING, REFUSED};
+use osplay::play_all;
+use std::test::Fail;
+
+const SERVING: &str = r#"
+// Core 1 waits for the spinlock of core 0, which activates a task of core 1.
+config {"spinlocks":[{"name":"S"}],"cores":[{"id":0,"start":[1],"tasks":[{"name":"A","prio":1,"auto":["M"],"script":"GetSpinlock S;ActivateTask H;ReleaseSpinlock S;TerminateTask"}]},{"id":1,"tasks":[{"name":"B","prio":1,"auto":["M"],"script":"GetSpinlock S;ReleaseSpinlock S;TerminateTask"},{"name":"H","prio":2,"script":"TerminateTask"}]}]}
+stimuli {"0":"op op op op","1":"op op op op op"}
+// A core that waits for a spinlock serves others, and dispatches when it got it.
+run
+core 0
+start 1 E_OK
+hook Startup
+act A
+pre A
+stat A GetSpinlock E_OK
+out 1 ActivateTask H
+stat A ActivateTask E_OK
+stat A ReleaseSpinlock E_OK
+post A
+end A
+core 1
+hook Startup
+act B
+pre B
+act H
+in 0 ActivateTask H E_OK
+stat B GetSpinlock E_OK
+post B
+pre H
+post H
+end H
+pre B
+stat B ReleaseSpinlock E_OK
+post B
+end B
+ended
+
+items 1
+on
+entered
+pass1 M
+readied
+pass2 0 1
+stim op
+in 0 0 req ActivateTask H
+post 0
+granted S
+stim op
+stim op
+freed S
+stim op
+stim op
+drained
+passend
+last
+
+replay 1
+core 1
+hook Startup
+act B
+pre B
+act H
+in 0 ActivateTask H E_OK
+stat B GetSpinlock E_OK
+post B
+pre H
+post H
+end H
+pre B
+stat B ReleaseSpinlock E_OK
+post B
+end B
+
+// Whether the outbox comes before the spinlock is up to the core's own turns, and not to the item.
+first
+on
+entered
+pass1 M
+readied
+pass2 0 1
+stim op
+
+log
+in 0 0 req ActivateTask H
+granted S
+post 0
+stim op
+
+replay 1
+core 1
+hook Startup
+act B
+pre B
+act H
+in 0 ActivateTask H E_OK
+stat B GetSpinlock E_OK
+post B
+pre H
+post H
+end H
+pre B
+"#;
+
+#[test]
+fn spinlocks_are_got_as_the_logs_say(rt: HostRuntime) -> Result<(), Fail> {
+    play_all(&rt, rt.alloc(), &[REFUSED, SERVING, POLLING], 31)
+}

@@ -1,0 +1,5 @@
+//! Runs by threads.
+
+mod gates;
+mod spinlocks;
+mod threads;

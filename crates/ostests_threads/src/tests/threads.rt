@@ -1,0 +1,319 @@
+//! Runs by threads. Each prints what every order of the cores' turns prints, or is compared with itself.
+
+use super::spinlocks::{OWED, SHARED};
+use osbase::Report;
+use osconf::{Config, read_config, read_stimuli};
+use osjob::Yielding;
+use oslog::items_text;
+use osplay::examples::{ALL_DOWN, ASKERS, MUTUAL, POLLING, REFUSED};
+use osplay::{compare, given, play_all, print, replay_of, run_of, threads_of};
+use osthreads::{MailKind, run_threads};
+use ostrace::{MemorySink, write_reports};
+use std::alloc::Global;
+use std::process::Abort;
+use std::sync::Wait;
+use std::test::Fail;
+use std::thread::Threads;
+use std::{slice, str};
+
+/// More turns than any core of the runs below may find nothing to do in.
+const MANY: u64 = 1_000_000_000;
+
+/// Some turns, for a run that does not end.
+pub(super) const FEW: u64 = 1_000;
+
+pub(super) const BOUND_AND_SEPARATE: &str = r#"
+// Two cores, each of whose first task activates the other's second one, and a separate core.
+config {"cores":[{"id":0,"start":[1,2],"tasks":[{"name":"A","prio":2,"auto":["M"],"script":"ActivateTask D;TerminateTask"},{"name":"C","prio":1,"script":"TerminateTask"}]},{"id":1,"tasks":[{"name":"B","prio":2,"auto":["M"],"script":"ActivateTask C;TerminateTask"},{"name":"D","prio":1,"script":"TerminateTask"}]},{"id":2,"tasks":[{"name":"V","prio":1,"auto":["M"],"script":"add v0 3;TerminateTask"}]}]}
+check
+ok
+core 0 bound
+core 1 bound
+core 2 separate
+
+stimuli {"0":"op op op","1":"op op op","2":"op op"}
+run
+core 0
+start 1 E_OK
+start 2 E_OK
+hook Startup
+act A
+pre A
+out 1 ActivateTask D
+act C
+in 1 ActivateTask C E_OK
+stat A ActivateTask E_OK
+post A
+end A
+pre C
+post C
+end C
+core 1
+hook Startup
+act B
+pre B
+out 0 ActivateTask C
+act D
+in 0 ActivateTask D E_OK
+stat B ActivateTask E_OK
+post B
+end B
+pre D
+post D
+end D
+core 2
+hook Startup
+act V
+pre V
+var V v0 3
+post V
+end V
+ended
+
+// Sixteen rounds of three cores, each round the other way round than the default schedule's.
+turns "2l 2o 1l 1s0 1o 0l 0s1 0o 2l 2o 1l 1s0 1o 0l 0s1 0o 2l 2o 1l 1s0 1o 0l 0s1 0o 2l 2o 1l 1s0 1o 0l 0s1 0o 2l 2o 1l 1s0 1o 0l 0s1 0o 2l 2o 1l 1s0 1o 0l 0s1 0o 2l 2o 1l 1s0 1o 0l 0s1 0o 2l 2o 1l 1s0 1o 0l 0s1 0o 2l 2o 1l 1s0 1o 0l 0s1 0o 2l 2o 1l 1s0 1o 0l 0s1 0o 2l 2o 1l 1s0 1o 0l 0s1 0o 2l 2o 1l 1s0 1o 0l 0s1 0o 2l 2o 1l 1s0 1o 0l 0s1 0o 2l 2o 1l 1s0 1o 0l 0s1 0o 2l 2o 1l 1s0 1o 0l 0s1 0o 2l 2o 1l 1s0 1o 0l 0s1 0o"
+run
+as before
+
+threads 1000000000 2
+on
+entered
+pass1 M
+readied
+pass2 0 1 2
+stim op
+stim op
+drained
+passend
+last
+
+items 2
+as before
+
+replay 2
+core 2
+hook Startup
+act V
+pre V
+var V v0 3
+post V
+end V
+
+// The separate core by itself.
+cut 2
+{"cap":16,"cores":[{"alarms":[],"counters":[],"id":2,"isrs":[],"mode":"M","protection":"PRO_SHUTDOWN","resources":[],"start":[],"tables":[],"tasks":[{"activations":1,"auto":["M"],"budget":0,"extended":false,"name":"V","preemptable":true,"prio":1,"script":"add v0 3;TerminateTask"}]}],"master":2,"modes":["M"],"spinlocks":[],"version":1}
+
+config
+stimuli {"2":"op op"}
+run
+core 2
+hook Startup
+act V
+pre V
+var V v0 3
+post V
+end V
+ended
+"#;
+
+const RUNS: &str = r#"
+// A core gives up once so many turns in a row changed nothing.
+config {"cores":[{"id":0,"tasks":[{"name":"A","prio":1,"auto":["M"],"script":"work;TerminateTask"}]}]}
+stimuli {"0":"op op"}
+threads 1 -> 3
+core 0
+hook Startup
+act A
+pre A
+stalled
+
+threads 2
+core 0
+hook Startup
+act A
+pre A
+post A
+end A
+ended
+
+config {"cores":[{"id":0,"start":[1],"tasks":[{"name":"A","prio":1,"auto":["M"],"script":"ActivateTask B;TerminateTask"}]},{"id":1,"tasks":[{"name":"B","prio":1,"script":"TerminateTask"}]}]}
+stimuli {}
+threads 1 -> 3
+core 0
+core 1
+stalled
+
+config {"cores":[{"id":0},{"id":5}]}
+stimuli {}
+threads 1000
+core 0
+hook Startup
+core 5
+ended
+
+// Faults come in their order.
+config {}
+stimuli x
+threads 1000000000 9
+fault 2 Shape
+
+config {"cores":[{"id":0,"tasks":[{"name":"A","prio":1,"auto":["M"],"script":"work;TerminateTask"}]}]}
+stimuli x
+threads 1000000000 9
+fault 5 UnknownName
+
+threads 1000000000
+fault 1 NotJson
+
+config {"cores":[{"id":0,"tasks":[{"name":"A","prio":1,"auto":["M"],"script":"work;TerminateTask"}]}]}
+threads 1000000000 0
+fault 21 Unreadable
+"#;
+
+/// The separate core's block, and the last line.
+const SEPARATE_END: &str = "core 2\nhook Startup\nact V\npre V\nvar V v0 3\npost V\nend V\nended\n";
+
+#[test]
+fn runs_by_threads_come_to_their_texts(rt: HostRuntime) -> Result<(), Fail> {
+    play_all(
+        &rt,
+        rt.alloc(),
+        &[BOUND_AND_SEPARATE, RUNS, OWED, SHARED],
+        53,
+    )
+}
+
+// A run by threads of a table's first files ends in this text, and both calls return E_OK.
+fn both_calls_return(
+    rt: &(impl Abort + Threads + Wait + Sync),
+    alloc: Global,
+    table: &str,
+    end: &str,
+) -> Result<(), Fail> {
+    let (config, stimuli) = given(table)?;
+    let texts = [Some(config), Some(stimuli)];
+    let run = print(rt, alloc, &threads_of(MANY, None), &texts)?;
+    assert_eq!(rt; run.status, 0);
+    assert!(rt; run.err.is_empty());
+    let out = str::from_utf8(run.out.as_slice()).ok().ok_or("a text")?;
+    assert!(rt; out.contains("stat A ActivateTask E_OK\n"));
+    assert!(rt; out.contains("stat B ActivateTask E_OK\n"));
+    assert!(rt; out.ends_with(end));
+    Ok(())
+}
+
+#[test]
+fn cores_that_call_each_other_end_and_a_separate_one_prints_its_block(
+    rt: HostRuntime,
+) -> Result<(), Fail> {
+    let alloc = rt.alloc();
+    both_calls_return(&rt, alloc, MUTUAL, "ended\n")?;
+    both_calls_return(&rt, alloc, BOUND_AND_SEPARATE, SEPARATE_END)
+}
+
+// The block of a report as `run` prints it.
+pub(super) fn block_of(alloc: Global, config: &Config, report: &Report) -> Result<String, Fail> {
+    let mut out = MemorySink::new(Vec::new(alloc));
+    write_reports(config, &mut out, slice::from_ref(report))
+        .ok()
+        .ok_or("a block")?;
+    Ok(String::from_utf8(out.bytes).ok().ok_or("a text")?)
+}
+
+// Each report's log replays to its block, by the configuration of this text.
+fn replays(
+    rt: &(impl Abort + Threads + Wait + Sync),
+    alloc: Global,
+    text: &str,
+    config: &Config,
+    reports: &[Report],
+) -> Result<(), Fail> {
+    for report in reports {
+        let log = items_text(alloc, config, report.items.as_slice())
+            .ok()
+            .ok_or("a log")?;
+        let block = block_of(alloc, config, report)?;
+        let texts = [Some(text), Some(log.as_str())];
+        let job = replay_of(report.core.number);
+        compare(rt, alloc, &job, &texts, (block.as_str(), "", 0))?;
+    }
+    Ok(())
+}
+
+#[test]
+fn each_log_of_a_run_by_threads_replays_to_its_block(rt: HostRuntime) -> Result<(), Fail> {
+    let alloc = rt.alloc();
+    let examples = [
+        (MUTUAL, 2, MANY),
+        (BOUND_AND_SEPARATE, 3, MANY),
+        (ALL_DOWN, 2, MANY),
+        (ASKERS, 2, MANY),
+        (OWED, 2, MANY),
+        (POLLING, 2, MANY),
+        (SHARED, 3, MANY),
+        (REFUSED, 2, FEW),
+    ];
+    for (table, cores, turns) in examples.as_slice() {
+        let (text, stimuli) = given(table)?;
+        let config = read_config(alloc, text)?;
+        let stimuli = read_stimuli(alloc, &config, stimuli)?;
+        let run = run_threads(
+            &rt,
+            alloc,
+            &config,
+            &stimuli,
+            MailKind::Locked,
+            &Yielding::new(),
+            *turns,
+        );
+        let reports = run.ok().ok_or("reports")?;
+        assert_eq!(rt; reports.len(), *cores);
+        replays(&rt, alloc, text, &config, reports.as_slice())?;
+    }
+    Ok(())
+}
+
+// A run by threads of a table's first files ends. It prints what their run by the default schedule does, or what the run of
+// these files does.
+fn prints_either(
+    rt: &(impl Abort + Threads + Wait + Sync),
+    alloc: Global,
+    table: &str,
+    schedule: Option<&'static str>,
+    files: &[Option<&str>],
+) -> Result<(), Fail> {
+    let (config, stimuli) = given(table)?;
+    let texts = [Some(config), Some(stimuli)];
+    let one = print(rt, alloc, &run_of(None), &texts)?;
+    let other = print(rt, alloc, &run_of(schedule), files)?;
+    let run = print(rt, alloc, &threads_of(MANY, None), &texts)?;
+    assert_eq!(rt; run.status, 0);
+    assert!(rt; run.err.is_empty());
+    let out = run.out.as_slice();
+    assert!(rt; out == one.out.as_slice() || out == other.out.as_slice());
+    Ok(())
+}
+
+#[test]
+fn all_cores_see_who_asked_first_for_their_shutdown(rt: HostRuntime) -> Result<(), Fail> {
+    let alloc = rt.alloc();
+    let (askers, stimuli) = given(ASKERS)?;
+    let second_first = r#""0o 1l 1o 0o 0l 1l 0o 1o 0l 1l 0o 1o 1o 0l 0o 1o 0o 0l 1l 0l 1l""#;
+    let files = [Some(askers), Some(stimuli), Some(second_first)];
+    prints_either(&rt, alloc, ASKERS, Some("turns.json"), &files)?;
+    // The second core may have drained before it sees the halt.
+    let (all_down, _) = given(ALL_DOWN)?;
+    let files = [Some(all_down), Some(r#"{"0":"op"}"#)];
+    prints_either(&rt, alloc, ALL_DOWN, None, &files)
+}
+
+#[test]
+fn a_core_that_waits_for_a_spinlock_gives_up_whoever_took_it(rt: HostRuntime) -> Result<(), Fail> {
+    let (config, stimuli) = given(REFUSED)?;
+    let texts = [Some(config), Some(stimuli)];
+    let run = print(&rt, rt.alloc(), &threads_of(FEW, None), &texts)?;
+    assert_eq!(rt; run.status, 3);
+    assert!(rt; run.err.is_empty());
+    assert!(rt; run.out.as_slice().ends_with(b"stalled\n"));
+    Ok(())
+}
