@@ -135,9 +135,7 @@ fn print_log<O: Sink>(
     ensures { Comes O.taken O.failed out.old out.new (IsReported config.now reports.now (Some core))
         (λ fault. fault ≡ Fault.NoMemoryToRun) result }
 {
-    let Ok(text) = items_text(alloc, config, items_of(reports, core)) else {
-        return Err(Fault::NoMemoryToRun);
-    };
+    let text = items_text(alloc, config, items_of(reports, core))?;
     write_all(out, text.as_bytes())?;
     Ok(Outcome::of_run(have_all_ended(config.plan(), reports)))
 }

@@ -1,4 +1,4 @@
-//! Why a log was not read.
+//! Why a log was not read, or not written.
 
 ghost use Rattle.std.specs.Prelude.{◌≡◌};
 ghost use Rattle.oslog.specs.declared.faults.LogFault.TheVariants as faults;
@@ -6,10 +6,10 @@ ghost use Rattle.oslog.specs.declared.faults.LogFault.TheVariants as faults;
 use std::alloc::AllocError;
 use thiserror::Error;
 
-/// Why a log was not read.
+/// Why a log was not read, or not written.
 #[derive(Clone, Copy, Debug, PartialEq, Eq, Error)]
 pub enum LogFault {
-    /// A line is not that of an item.
+    /// A line that was read is not that of an item.
     #[error("a line is not that of an item")]
     BadLog,
     /// Memory ran out.

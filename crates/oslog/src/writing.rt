@@ -1,6 +1,6 @@
 //! Writing: the text of items.
 
-ghost use Rattle.std.specs.Prelude.{◌≡◌, ◌++◌, ◌∷◌, IfOk, OnOk, List, ℕ, map, string_bytes};
+ghost use Rattle.std.specs.Prelude.{◌≡◌, ◌++◌, ◌∷◌, IfErr, IfOk, OnOk, List, ℕ, map, string_bytes};
 ghost use Rattle.std.specs.Fmt.{decimal};
 ghost use Rattle.oslog.specs.Items.{led, line_of};
 ghost use Rattle.oslog.specs.Logs.{log_text};
@@ -8,6 +8,7 @@ ghost use Rattle.oslog.specs.Words.{core_words, word_text};
 ghost use Rattle.osforms.specs.Call.{call_words};
 ghost use Rattle.osplan.specs.Names.{name_of};
 
+use crate::faults::LogFault;
 use crate::forms::{Parts, form_of};
 use crate::names::PlanNames;
 use crate::rows::{Kind, Tail, row_of};
@@ -99,9 +100,12 @@ fn push_line(alloc: Global, text: &mut String, plan: &Plan, item: &Item) -> Resu
     }
 }
 
-/// The log of these items: a line for each, in their order. What the configuration lacks has the empty name.
-pub fn items_text(alloc: Global, config: &Config, items: &[Item]) -> Result<String, AllocError>
-    ensures { IfOk result (λ text. string_bytes text ≡ log_text config.now items.now) }
+/// The log of these items: a line for each, in their order. What the configuration lacks has the empty name. `NoMemory`
+/// where memory runs out, and no other fault.
+pub fn items_text(alloc: Global, config: &Config, items: &[Item]) -> Result<String, LogFault>
+    ensures text { IfOk result (λ text. string_bytes text ≡ log_text config.now items.now) }
+    // Nothing but memory can be missing.
+    ensures fault { IfErr result (λ fault. fault ≡ LogFault.NoMemory) }
 {
     let mut text = String::new(alloc);
     for item in items {
