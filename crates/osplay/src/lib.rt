@@ -7,10 +7,11 @@ pub mod examples;
 mod files;
 mod jobs;
 mod prints;
+mod repeats;
 mod scenes;
 mod tables;
 
 pub use files::files_of;
 pub use jobs::{check_of, cut_of, replay_of, run_of, threads_of};
-pub use prints::{Printed, compare, print};
+pub use prints::{compare, result_of, result_over, result_text, same};
 pub use tables::{given, play_all};

@@ -2,14 +2,14 @@
 
 use crate::files::file_of;
 use crate::jobs::job_of;
-use crate::prints::{ending, ending_of, print_files, same};
+use crate::prints::{result_over, result_text, same};
 use oscommand::Job;
 use std::alloc::{AllocError, Global};
 use std::sync::Wait;
 use std::test::Fail;
 use std::thread::Threads;
 
-/// The files of a table's jobs, and what the job before came to.
+/// The files of a table's jobs, and what the job before printed.
 #[derive(Drop)]
 pub struct Scene<'a> {
     config: Option<String>,
@@ -121,7 +121,7 @@ impl<'a> Scene<'a> {
         Ok(log)
     }
 
-    // Does the job of a head for each value, and compares what it comes to with the block.
+    // Does the job of a head for each value, and compares its result with the block.
     fn play_job(
         &mut self,
         rt: &(impl Threads + Wait + Sync),
@@ -152,7 +152,7 @@ impl<'a> Scene<'a> {
         }
     }
 
-    // Does the job once. Compares what it prints, what it reports, and its status.
+    // Does the job once. Compares its result with the block.
     fn play_once(
         &self,
         rt: &(impl Threads + Wait + Sync),
@@ -163,21 +163,17 @@ impl<'a> Scene<'a> {
         let (words, status) = head.split_once(" -> ").unwrap_or((head, "0"));
         let job = job_of(words, self.turns.map(|_| "turns.json")).ok_or("a job")?;
         let files = self.files(alloc, &job, value)?;
-        let printed = print_files(rt, alloc, &job, files.as_slice());
+        let result = result_over(rt, alloc, &job, files.as_slice())?;
         let due = self.due(alloc, status.parse::<u8>().ok().ok_or("a status")?)?;
         let job = format!(in alloc; "{head} {value}")?;
-        same(
-            job.as_str(),
-            ending_of(alloc, printed)?.as_str(),
-            due.as_str(),
-        )
+        same(job.as_str(), result.as_str(), due.as_str())
     }
 
-    // What the job comes to. It exits with this status, unless it reports a fault.
+    // What the job is to result in. It exits with this status, unless it reports a fault.
     fn due(&self, alloc: Global, status: u8) -> Result<String, AllocError> {
         let (printed, reported) = (self.before.printed.as_str(), self.before.reported.as_str());
         let status = if reported.is_empty() { status } else { 1 };
-        ending(alloc, printed, reported, status)
+        result_text(alloc, printed, reported, status)
     }
 
     // The files of the job, with the value in their places.

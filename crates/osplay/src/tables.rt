@@ -1,5 +1,6 @@
 //! Tables of worked examples, played line by line.
 
+use crate::repeats::written_out;
 use crate::scenes::{Block, Scene};
 use std::alloc::Global;
 use std::mem;
@@ -7,7 +8,7 @@ use std::sync::Wait;
 use std::test::Fail;
 use std::thread::Threads;
 
-/// Plays the tables. They have so many jobs.
+/// Plays the tables, once their parts are written out. They have so many jobs.
 pub fn play_all(
     rt: &(impl Threads + Wait + Sync),
     alloc: Global,
@@ -16,7 +17,8 @@ pub fn play_all(
 ) -> Result<(), Fail> {
     let mut played = 0usize;
     for table in tables {
-        let more = play(rt, alloc, table)?;
+        let text = written_out(alloc, table)?;
+        let more = play(rt, alloc, text.as_str())?;
         played = played.saturating_add(more);
     }
     if played != jobs {

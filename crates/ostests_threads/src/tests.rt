@@ -1,5 +1,6 @@
 //! Runs by threads.
 
 mod gates;
+mod reports;
 mod spinlocks;
 mod threads;

@@ -3,12 +3,12 @@
 ghost use Rattle.std.specs.Prelude.{Some, length};
 
 use super::logs::BORDER;
-use osjob::{Given, Source, perform, print_from};
-use osplay::{check_of, cut_of, files_of, given, run_of};
+use oscommand::Job;
+use osjob::{Given, Source, print_from};
+use osplay::{check_of, cut_of, files_of, given, result_over, run_of, same};
 use ostrace::MemorySink;
 use std::alloc::{AllocError, Global};
 use std::cell::Cell;
-use std::process::Abort;
 use std::sync::Wait;
 use std::test::Fail;
 use std::thread::Threads;
@@ -17,33 +17,20 @@ use std::thread::Threads;
 fn files_that_are_no_text_or_unreadable_are_faults(rt: HostRuntime) -> Result<(), Fail> {
     let alloc = rt.alloc();
     let (border, _) = given(BORDER)?;
-    let mut files = files_of(alloc, [Some(border), None].as_slice())?;
-    assert_eq!(rt;
-        fault_of(&rt, alloc, files.as_slice())?.as_slice(),
-        b"fault 21 Unreadable\n".as_slice()
-    );
+    let mut files = files_of(alloc, &[Some(border), None])?;
+    let unreadable = result_over(&rt, alloc, &run_of(None), files.as_slice())?;
+    same(
+        "",
+        unreadable.as_str(),
+        "and reports\nfault 21 Unreadable\nand exits with 1",
+    )?;
     files.insert(0, Some(Vec::from_slice(alloc, &[255])?))?;
-    assert_eq!(rt;
-        fault_of(&rt, alloc, files.as_slice())?.as_slice(),
-        b"fault 1 NotJson\n".as_slice()
-    );
-    Ok(())
-}
-
-// What a run of these files prints as its fault; it prints nothing else.
-fn fault_of(
-    rt: &(impl Abort + Threads + Wait + Sync),
-    alloc: Global,
-    files: &[Option<Vec<u8>>],
-) -> Result<Vec<u8>, Fail> {
-    let mut out = MemorySink::new(Vec::new(alloc));
-    let mut err = MemorySink::new(Vec::new(alloc));
-    assert_eq!(rt;
-        perform(rt, alloc, &run_of(None), files, &mut out, &mut err),
-        1
-    );
-    assert!(rt; out.bytes.is_empty());
-    Ok(err.bytes)
+    let no_text = result_over(&rt, alloc, &run_of(None), files.as_slice())?;
+    same(
+        "",
+        no_text.as_str(),
+        "and reports\nfault 1 NotJson\nand exits with 1",
+    )
 }
 
 /// Given files, with a count of those that were asked for.
@@ -70,6 +57,26 @@ impl<'a> Source for Counted<'a> {
     }
 }
 
+// How many files the job asks for.
+fn reads(
+    rt: &(impl Threads + Wait + Sync),
+    alloc: Global,
+    job: &Job,
+    texts: &[Option<&str>],
+) -> Result<usize, AllocError> {
+    let files = files_of(alloc, texts)?;
+    let read = Cell::new(0);
+    let source = Counted {
+        given: Given {
+            files: files.as_slice(),
+        },
+        count: &read,
+    };
+    let mut out = MemorySink::new(Vec::new(alloc));
+    let _ = print_from(rt, alloc, job, source, &mut out);
+    Ok(read.get())
+}
+
 #[test]
 fn no_file_is_read_after_one_with_a_fault(rt: HostRuntime) -> Result<(), Fail> {
     let alloc = rt.alloc();
@@ -84,18 +91,8 @@ fn no_file_is_read_after_one_with_a_fault(rt: HostRuntime) -> Result<(), Fail> {
         (cut_of(0), [border, "x", "x"], 1),
     ];
     for (job, texts, count) in examples.as_slice() {
-        let texts = texts.map(Some);
-        let files = files_of(alloc, texts.as_slice())?;
-        let read = Cell::new(0);
-        let source = Counted {
-            given: Given {
-                files: files.as_slice(),
-            },
-            count: &read,
-        };
-        let mut out = MemorySink::new(Vec::new(alloc));
-        let _ = print_from(&rt, alloc, job, source, &mut out);
-        assert_eq!(rt; read.get(), *count);
+        let read = reads(&rt, alloc, job, texts.map(Some).as_slice())?;
+        assert_eq!(rt; read, *count);
     }
     Ok(())
 }

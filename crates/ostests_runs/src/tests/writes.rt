@@ -4,9 +4,12 @@ ghost use Rattle.std.specs.Prelude.{◌≡◌, None};
 
 use super::logs::BORDER;
 use osjob::{Output, perform};
-use osplay::{files_of, given, print, run_of};
+use osplay::{files_of, given, result_over, result_text, run_of, same};
 use ostrace::{MemorySink, Sink, WriteFailed};
+use std::alloc::{AllocError, Global};
+use std::sync::Wait;
 use std::test::Fail;
+use std::thread::Threads;
 
 /// Takes one byte at a time, and fails at one of the writes or at the flush behind them.
 #[derive(Drop)]
@@ -62,31 +65,44 @@ impl Output for Failing {
     }
 }
 
-#[test]
-fn a_refused_write_leaves_a_beginning_of_the_text(rt: HostRuntime) -> Result<(), Fail> {
-    let alloc = rt.alloc();
-    let (border, asked) = given(BORDER)?;
-    let texts = [Some(border), Some(asked)];
-    let whole = print(&rt, alloc, &run_of(None), texts.as_slice())?;
-    let files = files_of(alloc, texts.as_slice())?;
-    for left in 0..210 {
-        let mut out = Failing::new(Vec::new(alloc), left);
-        let mut err = MemorySink::new(Vec::new(alloc));
-        let status = perform(
-            &rt,
-            alloc,
-            &run_of(None),
-            files.as_slice(),
-            &mut out,
-            &mut err,
-        );
-        if status == 1 {
-            assert_eq!(rt; err.bytes.as_slice(), b"fault 19 WriteFailed\n".as_slice());
-            assert_eq!(rt; out.bytes.len() as u64, left);
-        } else {
-            assert_eq!(rt; out.bytes.as_slice(), whole.out.as_slice());
+// The result of a run of these files whose output takes so many bytes.
+fn result_within(
+    rt: &(impl Threads + Wait + Sync),
+    alloc: Global,
+    files: &[Option<Vec<u8>>],
+    left: u64,
+) -> Result<String, Fail> {
+    let mut out = Failing::new(Vec::new(alloc), left);
+    let mut err = MemorySink::new(Vec::new(alloc));
+    let status = perform(rt, alloc, &run_of(None), files, &mut out, &mut err);
+    let out = String::from_utf8(out.bytes).ok().ok_or("a text")?;
+    let err = String::from_utf8(err.bytes).ok().ok_or("a text")?;
+    Ok(result_text(alloc, out.as_str(), err.as_str(), status)?)
+}
+
+// What that is to be, of a run that prints this text.
+fn due_within(alloc: Global, text: &str, left: usize) -> Result<String, AllocError> {
+    match text.get(..left) {
+        Some(prefix) if left < text.len() => {
+            result_text(alloc, prefix, "fault 19 WriteFailed\n", 1)
         }
-        assert!(rt; whole.out.as_slice().starts_with(out.bytes.as_slice()));
+        _ => result_text(alloc, text, "", 0),
+    }
+}
+
+#[test]
+fn a_refused_write_leaves_a_prefix_of_the_text(rt: HostRuntime) -> Result<(), Fail> {
+    let alloc = rt.alloc();
+    let (border, stimuli) = given(BORDER)?;
+    let files = files_of(alloc, &[Some(border), Some(stimuli)])?;
+    let whole = result_over(&rt, alloc, &run_of(None), files.as_slice())?;
+    let text = whole
+        .strip_suffix("and reports\nand exits with 0")
+        .ok_or("a run")?;
+    for left in 0..210u8 {
+        let result = result_within(&rt, alloc, files.as_slice(), u64::from(left))?;
+        let due = due_within(alloc, text, usize::from(left))?;
+        same("", result.as_str(), due.as_str())?;
     }
     Ok(())
 }

@@ -1,10 +1,11 @@
 //! Runs by threads under gates of the tests' own, which say when a core begins a turn and for whom it waits. Each test
 //! has the same verdict whatever the schedule is.
 
-use super::threads::{FEW, block_of};
-use osbase::{CoreId, Report};
-use osconf::{Config, cut, read_config, read_stimuli};
-use osthreads::{Gate, MailKind, ThreadFault, ThreadReason, run_threads};
+use super::reports::text_under;
+use super::threads::FEW;
+use osbase::CoreId;
+use osplay::{cut_of, result_of, same};
+use osthreads::Gate;
 use std::alloc::Global;
 use std::sync::Wait;
 use std::sync::atomic::{AtomicU64, Ordering};
@@ -22,11 +23,19 @@ const STIMULI: &str = r#"{"0":"op op op","1":"op op op","2":"op op op"}"#;
 /// The separate core's own.
 const STIMULI_OF_CORE_2: &str = r#"{"2":"op op op"}"#;
 
+/// What the services of the first two cores return.
+const BOTH_RETURN: &str = "stat A ActivateTask E_OK\nstat B ActivateTask E_OK\n";
+
+/// The separate core's block, and the line behind it as far as every run has it.
+const SEPARATE: &str = "core 2\nhook Startup\nact V\npre V\nvar V v0 3\npost V\nend V\ntook ";
+
+const THREE_END: &str = "worker 0 ended\nworker 1 ended\nworker 2 ended\nworker 3 stopped\n";
+
+const NONE_ENDS: &str = "worker 0 stopped\nworker 1 stopped\nworker 2 stopped\nworker 3 stopped\n";
+
 const CORE_0: CoreId = CoreId { number: 0 };
 
 const CORE_1: CoreId = CoreId { number: 1 };
-
-const CORE_2: CoreId = CoreId { number: 2 };
 
 const CORE_3: CoreId = CoreId { number: 3 };
 
@@ -166,66 +175,40 @@ impl Gate for Delay {
     }
 }
 
-// A run of these cores.
-fn run<R: Threads + Wait + Sync, G: Gate + Sync>(
-    rt: &R,
-    alloc: Global,
-    config: &Config,
-    stimuli: &str,
-    gate: &G,
-    turns: u64,
-) -> Result<Result<Vec<Report>, ThreadFault>, Fail> {
-    let stimuli = read_stimuli(alloc, config, stimuli)?;
-    let kind = MailKind::Locked;
-    Ok(run_threads(rt, alloc, config, &stimuli, kind, gate, turns))
-}
-
-// A run of the four cores.
-fn run_four<R: Threads + Wait + Sync, G: Gate + Sync>(
+// The reports of a run of the four cores, as a text.
+fn four_under<R: Threads + Wait + Sync, G: Gate + Sync>(
     rt: &R,
     alloc: Global,
     gate: &G,
     turns: u64,
-) -> Result<Result<Vec<Report>, ThreadFault>, Fail> {
-    let config = read_config(alloc, FOUR_CORES)?;
-    run(rt, alloc, &config, STIMULI, gate, turns)
+) -> Result<String, Fail> {
+    text_under(rt, alloc, (FOUR_CORES, STIMULI), gate, turns)
 }
 
-// The report of a core.
-fn of_core(reports: &[Report], core: CoreId) -> Result<&Report, Fail> {
-    let mut reports = reports.iter();
-    let report = reports.find(|report| report.core == core);
-    Ok(report.ok_or("a report of the core")?)
-}
-
-// Whether this is the one status that a service of the block returned.
-fn returned_once(block: &str, status: &str) -> bool {
-    let mut statuses = block.lines().filter(|line| line.starts_with("stat "));
-    statuses.next() == Some(status) && statuses.next().is_none()
+// The lines of a text that begin with a word are these.
+fn has(alloc: Global, text: &str, word: &str, due: &str) -> Result<(), Fail> {
+    let mut lines = String::new(alloc);
+    for line in text.lines().filter(|line| line.starts_with(word)) {
+        lines.push_str(line)?;
+        lines.push_str("\n")?;
+    }
+    same(word, lines.as_str(), due)
 }
 
 #[test]
 fn cores_that_call_each_other_end(rt: HostRuntime) -> Result<(), Fail> {
     let alloc = rt.alloc();
-    let config = read_config(alloc, FOUR_CORES)?;
-    let gate = Watcher::new(None, false);
-    let reports = run_four(&rt, alloc, &gate, MANY)?.map_err(|_| "a run")?;
-    for (core, status) in [
-        (CORE_0, "stat A ActivateTask E_OK"),
-        (CORE_1, "stat B ActivateTask E_OK"),
-    ] {
-        let report = of_core(reports.as_slice(), core)?;
-        assert!(rt; report.ended);
-        assert!(rt; returned_once(block_of(alloc, &config, report)?.as_str(), status));
-    }
-    Ok(())
+    let text = four_under(&rt, alloc, &Watcher::new(None, false), MANY)?;
+    has(alloc, text.as_str(), "stat ", BOTH_RETURN)?;
+    has(alloc, text.as_str(), "worker ", THREE_END)
 }
 
 #[test]
 fn all_cores_run_at_once(rt: HostRuntime) -> Result<(), Fail> {
+    let alloc = rt.alloc();
     let gate = Watcher::new(None, true);
-    let reports = run_four(&rt, rt.alloc(), &gate, MANY)?.map_err(|_| "a run")?;
-    assert_eq!(rt; reports.len(), CORE_COUNT);
+    let text = four_under(&rt, alloc, &gate, MANY)?;
+    has(alloc, text.as_str(), "worker ", THREE_END)?;
     assert_eq!(rt; gate.missed.load(Ordering::SeqCst), 0);
     // Each core came to the gate before each of its first turns.
     for begun in gate.turns.iter() {
@@ -236,14 +219,10 @@ fn all_cores_run_at_once(rt: HostRuntime) -> Result<(), Fail> {
 
 #[test]
 fn a_core_that_nobody_starts_does_not_hold_up_the_others(rt: HostRuntime) -> Result<(), Fail> {
-    let gate = Watcher::new(None, false);
-    let reports = run_four(&rt, rt.alloc(), &gate, MANY)?.map_err(|_| "a run")?;
-    for report in &reports {
-        assert_eq!(rt; report.ended, report.core != CORE_3);
-    }
-    let last = of_core(reports.as_slice(), CORE_3)?;
-    assert_eq!(rt; last.items.as_slice().len(), 0);
-    assert_eq!(rt; last.marks.as_slice().len(), 0);
+    let alloc = rt.alloc();
+    let text = four_under(&rt, alloc, &Watcher::new(None, false), MANY)?;
+    has(alloc, text.as_str(), "worker ", THREE_END)?;
+    assert!(rt; text.ends_with("\ncore 3\ntook 0\nworker 3 stopped\n"));
     Ok(())
 }
 
@@ -251,18 +230,14 @@ fn a_core_that_nobody_starts_does_not_hold_up_the_others(rt: HostRuntime) -> Res
 fn a_separate_core_prints_what_its_configuration_alone_prints(rt: HostRuntime) -> Result<(), Fail> {
     let alloc = rt.alloc();
     let gate = Watcher::new(None, false);
-    let reports = run_four(&rt, alloc, &gate, MANY)?.map_err(|_| "a run")?;
-    let among_others = of_core(reports.as_slice(), CORE_2)?;
-    let alone = cut(alloc, &read_config(alloc, FOUR_CORES)?, CORE_2)?;
-    let reports = run(&rt, alloc, &alone, STIMULI_OF_CORE_2, &gate, MANY)?;
-    let reports = reports.map_err(|_| "a run of core 2 alone")?;
-    let by_itself = of_core(reports.as_slice(), CORE_2)?;
-    assert_eq!(rt; reports.len(), 1);
-    assert!(rt; among_others.ended && by_itself.ended);
-    assert_eq!(rt; among_others.marks.as_slice(), by_itself.marks.as_slice());
-    let block = block_of(alloc, &alone, by_itself)?;
-    let expected = "core 2\nhook Startup\nact V\npre V\nvar V v0 3\npost V\nend V\n";
-    assert!(rt; block.as_str() == expected, "{block}");
+    let text = four_under(&rt, alloc, &gate, MANY)?;
+    has(alloc, text.as_str(), "worker ", THREE_END)?;
+    assert!(rt; text.contains(SEPARATE));
+    let printed = result_of(&rt, alloc, &cut_of(2), &[Some(FOUR_CORES)])?;
+    let (alone, _) = printed.split_once('\n').ok_or("a configuration")?;
+    let text = text_under(&rt, alloc, (alone, STIMULI_OF_CORE_2), &gate, MANY)?;
+    has(alloc, text.as_str(), "worker ", "worker 2 ended\n")?;
+    assert!(rt; text.starts_with(SEPARATE));
     Ok(())
 }
 
@@ -270,43 +245,38 @@ fn a_separate_core_prints_what_its_configuration_alone_prints(rt: HostRuntime) -
 fn a_core_that_waits_for_ever_does_not_end(rt: HostRuntime) -> Result<(), Fail> {
     let alloc = rt.alloc();
     let gate = Delay::new();
-    let reports = run_four(&rt, alloc, &gate, FEW)?.map_err(|_| "a run")?;
+    let text = four_under(&rt, alloc, &gate, FEW)?;
     assert_eq!(rt; gate.missed.load(Ordering::SeqCst), 0);
-    for report in &reports {
-        assert!(rt; !report.ended);
-    }
-    let config = read_config(alloc, FOUR_CORES)?;
-    let block = block_of(alloc, &config, of_core(reports.as_slice(), CORE_0)?)?;
+    has(alloc, text.as_str(), "worker ", NONE_ENDS)?;
     assert!(rt;
-        block.as_str() == "core 0\nstart 1 E_OK\nstart 2 E_OK\n",
-        "{block}"
+        text.starts_with("core 0\nstart 1 E_OK\nstart 2 E_OK\ntook "),
+        "{text}"
     );
     Ok(())
 }
 
 #[test]
 fn with_no_turn_allowed_nothing_is_done(rt: HostRuntime) -> Result<(), Fail> {
-    let gate = Watcher::new(None, false);
-    let reports = run_four(&rt, rt.alloc(), &gate, 0)?.map_err(|_| "a run")?;
-    assert_eq!(rt; reports.len(), CORE_COUNT);
-    for report in &reports {
-        assert!(rt; !report.ended);
-        assert_eq!(rt; report.items.as_slice().len(), 0);
-    }
-    Ok(())
+    let alloc = rt.alloc();
+    let text = four_under(&rt, alloc, &Watcher::new(None, false), 0)?;
+    has(alloc, text.as_str(), "worker ", NONE_ENDS)?;
+    has(
+        alloc,
+        text.as_str(),
+        "took ",
+        "took 0\ntook 0\ntook 0\ntook 0\n",
+    )
 }
 
 #[test]
 fn a_thread_that_may_not_start_is_a_fault(rt: HostRuntime) -> Result<(), Fail> {
-    let gate = Watcher::new(Some(CORE_1), false);
-    let fault = run_four(&rt, rt.alloc(), &gate, 10)?
-        .err()
-        .ok_or("a fault")?;
-    assert_eq!(rt; fault.reason, ThreadReason::NoThread);
-    assert_eq!(rt; fault.reports.len(), 2);
-    for report in &fault.reports {
-        assert!(rt; report.core == CORE_2 || report.core == CORE_3);
-        assert!(rt; !report.ended);
-    }
-    Ok(())
+    let alloc = rt.alloc();
+    let text = four_under(&rt, alloc, &Watcher::new(Some(CORE_1), false), 10)?;
+    assert!(rt; text.starts_with("a thread could not be started\ncore 2\n"));
+    has(
+        alloc,
+        text.as_str(),
+        "worker ",
+        "worker 2 stopped\nworker 3 stopped\n",
+    )
 }

@@ -1,20 +1,14 @@
 //! Runs by threads. Each prints what every order of the cores' turns prints, or is compared with itself.
 
+use super::reports::replays;
 use super::spinlocks::{OWED, SHARED};
-use osbase::Report;
-use osconf::{Config, read_config, read_stimuli};
-use osjob::Yielding;
-use oslog::items_text;
 use osplay::examples::{ALL_DOWN, ASKERS, MUTUAL, POLLING, REFUSED};
-use osplay::{compare, given, play_all, print, replay_of, run_of, threads_of};
-use osthreads::{MailKind, run_threads};
-use ostrace::{MemorySink, write_reports};
+use osplay::{given, play_all, result_of, run_of, threads_of};
 use std::alloc::Global;
 use std::process::Abort;
 use std::sync::Wait;
 use std::test::Fail;
 use std::thread::Threads;
-use std::{slice, str};
 
 /// More turns than any core of the runs below may find nothing to do in.
 const MANY: u64 = 1_000_000_000;
@@ -183,66 +177,34 @@ fn runs_by_threads_come_to_their_texts(rt: HostRuntime) -> Result<(), Fail> {
     )
 }
 
-// A run by threads of a table's first files ends in this text, and both calls return E_OK.
-fn both_calls_return(
-    rt: &(impl Abort + Threads + Wait + Sync),
+// The result of a run by threads of a table's first files.
+fn threaded(
+    rt: &(impl Threads + Wait + Sync),
     alloc: Global,
     table: &str,
-    end: &str,
-) -> Result<(), Fail> {
+    turns: u64,
+) -> Result<String, Fail> {
     let (config, stimuli) = given(table)?;
     let texts = [Some(config), Some(stimuli)];
-    let run = print(rt, alloc, &threads_of(MANY, None), &texts)?;
-    assert_eq!(rt; run.status, 0);
-    assert!(rt; run.err.is_empty());
-    let out = str::from_utf8(run.out.as_slice()).ok().ok_or("a text")?;
-    assert!(rt; out.contains("stat A ActivateTask E_OK\n"));
-    assert!(rt; out.contains("stat B ActivateTask E_OK\n"));
-    assert!(rt; out.ends_with(end));
-    Ok(())
+    result_of(rt, alloc, &threads_of(turns, None), &texts)
 }
 
 #[test]
 fn cores_that_call_each_other_end_and_a_separate_one_prints_its_block(
     rt: HostRuntime,
 ) -> Result<(), Fail> {
-    let alloc = rt.alloc();
-    both_calls_return(&rt, alloc, MUTUAL, "ended\n")?;
-    both_calls_return(&rt, alloc, BOUND_AND_SEPARATE, SEPARATE_END)
-}
-
-// The block of a report as `run` prints it.
-pub(super) fn block_of(alloc: Global, config: &Config, report: &Report) -> Result<String, Fail> {
-    let mut out = MemorySink::new(Vec::new(alloc));
-    write_reports(config, &mut out, slice::from_ref(report))
-        .ok()
-        .ok_or("a block")?;
-    Ok(String::from_utf8(out.bytes).ok().ok_or("a text")?)
-}
-
-// Each report's log replays to its block, by the configuration of this text.
-fn replays(
-    rt: &(impl Abort + Threads + Wait + Sync),
-    alloc: Global,
-    text: &str,
-    config: &Config,
-    reports: &[Report],
-) -> Result<(), Fail> {
-    for report in reports {
-        let log = items_text(alloc, config, report.items.as_slice())
-            .ok()
-            .ok_or("a log")?;
-        let block = block_of(alloc, config, report)?;
-        let texts = [Some(text), Some(log.as_str())];
-        let job = replay_of(report.core.number);
-        compare(rt, alloc, &job, &texts, (block.as_str(), "", 0))?;
+    for (table, end) in [(MUTUAL, "ended\n"), (BOUND_AND_SEPARATE, SEPARATE_END)].as_slice() {
+        let result = threaded(&rt, rt.alloc(), table, MANY)?;
+        assert!(rt; result.contains("stat A ActivateTask E_OK\n"));
+        assert!(rt; result.contains("stat B ActivateTask E_OK\n"));
+        let text = result.strip_suffix("and reports\nand exits with 0");
+        assert!(rt; text.ok_or("a run that ended")?.ends_with(end));
     }
     Ok(())
 }
 
 #[test]
 fn each_log_of_a_run_by_threads_replays_to_its_block(rt: HostRuntime) -> Result<(), Fail> {
-    let alloc = rt.alloc();
     let examples = [
         (MUTUAL, 2, MANY),
         (BOUND_AND_SEPARATE, 3, MANY),
@@ -254,28 +216,16 @@ fn each_log_of_a_run_by_threads_replays_to_its_block(rt: HostRuntime) -> Result<
         (REFUSED, 2, FEW),
     ];
     for (table, cores, turns) in examples.as_slice() {
-        let (text, stimuli) = given(table)?;
-        let config = read_config(alloc, text)?;
-        let stimuli = read_stimuli(alloc, &config, stimuli)?;
-        let run = run_threads(
-            &rt,
-            alloc,
-            &config,
-            &stimuli,
-            MailKind::Locked,
-            &Yielding::new(),
-            *turns,
-        );
-        let reports = run.ok().ok_or("reports")?;
-        assert_eq!(rt; reports.len(), *cores);
-        replays(&rt, alloc, text, &config, reports.as_slice())?;
+        let (config, stimuli) = given(table)?;
+        let replayed = replays(&rt, rt.alloc(), config, stimuli, *turns)?;
+        assert_eq!(rt; replayed, *cores);
     }
     Ok(())
 }
 
-// A run by threads of a table's first files ends. It prints what their run by the default schedule does, or what the run of
-// these files does.
-fn prints_either(
+// A run by threads of a table's first files ends. Its result is that of their run by the default schedule, or that of the run of
+// these files.
+fn is_either(
     rt: &(impl Abort + Threads + Wait + Sync),
     alloc: Global,
     table: &str,
@@ -283,14 +233,11 @@ fn prints_either(
     files: &[Option<&str>],
 ) -> Result<(), Fail> {
     let (config, stimuli) = given(table)?;
-    let texts = [Some(config), Some(stimuli)];
-    let one = print(rt, alloc, &run_of(None), &texts)?;
-    let other = print(rt, alloc, &run_of(schedule), files)?;
-    let run = print(rt, alloc, &threads_of(MANY, None), &texts)?;
-    assert_eq!(rt; run.status, 0);
-    assert!(rt; run.err.is_empty());
-    let out = run.out.as_slice();
-    assert!(rt; out == one.out.as_slice() || out == other.out.as_slice());
+    let one = result_of(rt, alloc, &run_of(None), &[Some(config), Some(stimuli)])?;
+    let other = result_of(rt, alloc, &run_of(schedule), files)?;
+    let result = threaded(rt, alloc, table, MANY)?;
+    assert!(rt; result.ends_with("ended\nand reports\nand exits with 0"));
+    assert!(rt; result.as_str() == one.as_str() || result.as_str() == other.as_str());
     Ok(())
 }
 
@@ -300,20 +247,16 @@ fn all_cores_see_who_asked_first_for_their_shutdown(rt: HostRuntime) -> Result<(
     let (askers, stimuli) = given(ASKERS)?;
     let second_first = r#""0o 1l 1o 0o 0l 1l 0o 1o 0l 1l 0o 1o 1o 0l 0o 1o 0o 0l 1l 0l 1l""#;
     let files = [Some(askers), Some(stimuli), Some(second_first)];
-    prints_either(&rt, alloc, ASKERS, Some("turns.json"), &files)?;
+    is_either(&rt, alloc, ASKERS, Some("turns.json"), &files)?;
     // The second core may have drained before it sees the halt.
     let (all_down, _) = given(ALL_DOWN)?;
     let files = [Some(all_down), Some(r#"{"0":"op"}"#)];
-    prints_either(&rt, alloc, ALL_DOWN, None, &files)
+    is_either(&rt, alloc, ALL_DOWN, None, &files)
 }
 
 #[test]
 fn a_core_that_waits_for_a_spinlock_gives_up_whoever_took_it(rt: HostRuntime) -> Result<(), Fail> {
-    let (config, stimuli) = given(REFUSED)?;
-    let texts = [Some(config), Some(stimuli)];
-    let run = print(&rt, rt.alloc(), &threads_of(FEW, None), &texts)?;
-    assert_eq!(rt; run.status, 3);
-    assert!(rt; run.err.is_empty());
-    assert!(rt; run.out.as_slice().ends_with(b"stalled\n"));
+    let result = threaded(&rt, rt.alloc(), REFUSED, FEW)?;
+    assert!(rt; result.ends_with("stalled\nand reports\nand exits with 3"));
     Ok(())
 }

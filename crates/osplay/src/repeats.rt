@@ -1,0 +1,64 @@
+//! Long texts in short: a part that stands many times is written once.
+
+use std::alloc::{AllocError, Global};
+use std::test::Fail;
+
+/// More parts than a table has.
+const PARTS: u32 = 1_000;
+
+/// The text with its parts written out. `<N*T>` is N times T. `<N#T>` is N times T, too, where each `#` is the number of that
+/// time, from 1; so is `<N%T>`, where each `%` is that number with two digits. A T may have such parts of its own.
+pub fn written_out(alloc: Global, text: &str) -> Result<String, Fail> {
+    let mut text = String::from_str(alloc, text)?;
+    for _ in 0..PARTS {
+        match with_one_out(alloc, text.as_str())? {
+            Some(longer) => text = longer,
+            None => return Ok(text),
+        }
+    }
+    Err(Fail::new("too many parts"))
+}
+
+// The text with one part written out which has none of its own; `None` where the text has no part.
+fn with_one_out(alloc: Global, text: &str) -> Result<Option<String>, Fail> {
+    let Some((before, rest)) = text.rsplit_once('<') else {
+        return Ok(None);
+    };
+    let (part, after) = rest.split_once('>').ok_or("the end of a part")?;
+    let mut longer = String::from_str(alloc, before)?;
+    push_part(alloc, &mut longer, part)?;
+    longer.push_str(after)?;
+    Ok(Some(longer))
+}
+
+fn push_part(alloc: Global, longer: &mut String, part: &str) -> Result<(), Fail> {
+    let rest = part.trim_start_matches(|c: char| c.is_ascii_digit());
+    let count = part.strip_suffix(rest).ok_or("a count")?;
+    let mark = rest.chars().next().ok_or("a mark")?;
+    let text = rest.strip_prefix(mark).ok_or("a text")?;
+    for number in 1..=count.parse::<u32>().ok().ok_or("a count")? {
+        let number = if mark == '%' {
+            format!(in alloc; "{number:02}")?
+        } else {
+            format!(in alloc; "{number}")?
+        };
+        push_numbered(longer, text, mark, number.as_str())?;
+    }
+    Ok(())
+}
+
+// Adds the text, with the number in place of each mark.
+fn push_numbered(
+    longer: &mut String,
+    text: &str,
+    mark: char,
+    number: &str,
+) -> Result<(), AllocError> {
+    let mut place = "";
+    for piece in text.split(mark) {
+        longer.push_str(place)?;
+        longer.push_str(piece)?;
+        place = number;
+    }
+    Ok(())
+}
