@@ -1,5 +1,7 @@
 //! The results of jobs, each in one text, and the first line in which one is not what it is to be.
 
+ghost use Rattle.std.specs.Prelude.{◌≡◌, OnOk};
+
 use crate::files::files_of;
 use oscommand::Job;
 use osjob::perform;
@@ -57,7 +59,9 @@ pub fn result_text(alloc: Global, out: &str, err: &str, status: u8) -> Result<St
 }
 
 /// The text is as it is to be; else the first line that is not is the failure.
-pub fn same(job: &str, text: &str, due: &str) -> Result<(), Fail> {
+pub fn same(job: &str, text: &str, due: &str) -> Result<(), Fail>
+    ensures { OnOk result (text.now ≡ due.now) }
+{
     if text == due {
         return Ok(());
     }

@@ -54,11 +54,11 @@ fn push_numbered(
     mark: char,
     number: &str,
 ) -> Result<(), AllocError> {
-    let mut place = "";
-    for piece in text.split(mark) {
-        longer.push_str(place)?;
+    let mut pieces = text.split(mark);
+    longer.push_str(pieces.next().unwrap_or(""))?;
+    for piece in pieces {
+        longer.push_str(number)?;
         longer.push_str(piece)?;
-        place = number;
     }
     Ok(())
 }
