@@ -43,6 +43,7 @@ use Rattle.osturn.specs.Asking.{Calls}
 use Rattle.osturn.specs.Fits.{Fits, FitsBy, IsBeginning, has_drained, history_by, items_of}
 use Rattle.osturn.proofs.Ahead.{boot_items, Goes, goes-alone, live_items, solo-alone}
 use Rattle.osturn.proofs.Beginnings.{begins-all_pass, begins-flat_map}
+use Rattle.osturn.proofs.Drained.{drained-where-ended}
 use Rattle.osturn.proofs.Mailed.{is_reply, posts-replies, takes-no-mail}
 use Rattle.osturn.proofs.Members.{has_core-more, nobody-there, only-own}
 use Rattle.osturn.proofs.Sane.{AreAgreed, AreQuiet, never-conflict}
@@ -204,6 +205,7 @@ module _ (plan : Plan) (stimuli : List CoreStimuli) (lists : List (CoreId × Lis
       block_begins = subst (λ (lines : List ℕ). IsBeginning ((title_of id ++ line_end) ++ lines) (alone_block plan stimuli id)) (sym lines_alone)
           (begins-flat_map (λ (m : Mark). line_of (cut_of plan id) m ++ line_end) (title_of id ++ line_end) marks _ begins_alone);
       block_whole = λ drained. ap (λ (lines : List ℕ). (title_of id ++ line_end) ++ lines) (lines_alone ∙ ap (lines_of (cut_of plan id)) (whole_alone drained));
+      ends = drained-where-ended v (items_of lists id) (fits.cores id).alone no_conflict.0;
       alone = subst (λ (view : View). solo view (alone_items plan stimuli id) ≡ Some (history_from view [] (alone_items plan stimuli id))) (sym view_alone)
           (subst (λ (items : List Item). solo self items ≡ Some (history_from self [] items)) (sym items_alone) takes_alone);
     }

@@ -10,7 +10,7 @@ use Rattle.oskernel.specs.Admission.{has_asked_halt}
 use Rattle.oskernel.specs.declared.wants.Want.{Want}
 use Rattle.oskernel.specs.declared.wants.Watch.{Watch}
 use Rattle.oskernel.specs.Wants.{want_in, watch_in}
-use Rattle.osboard.specs.declared.calls.BoardCall.TheVariants.{AskHalt, Drain, Enter, Look, Start}
+use Rattle.osboard.specs.declared.calls.BoardCall.TheVariants.{AskHalt, Drain, Enter, Start}
 use Rattle.osturn.specs.declared.asks.Ask.{Ask}
 use Rattle.osturn.specs.declared.asks.Ask.TheVariants.{OfBoard, StartUnknown, TakeStimulus}
 use Rattle.osturn.specs.Asking.{asked_by, look_asked}

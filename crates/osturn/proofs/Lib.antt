@@ -14,5 +14,8 @@ pub mod Relying
 pub mod Sane
 pub mod Mailed
 pub mod Ahead
+pub mod Drained
 pub mod Alone
+pub mod Begun
+pub mod Finished
 mod Known

@@ -81,13 +81,14 @@ abbrev pub alone_block : Plan → List CoreStimuli → CoreId → List ℕ
 alone_block plan stimuli id = block_of (cut_of plan id) (alone_report plan stimuli id)
 
 -- A separate core that took these items prints a beginning of what its configuration alone prints, and all of it once it
--- has drained: so it is of the marks, and of the block, which is their text. By itself it may take each of those items in
--- turn. [own]
+-- has drained: so it is of the marks, and of the block, which is their text. If it has ended, it has drained. By itself it may
+-- take each of those items in turn. [own]
 pub record IsAlone (plan : Plan) (stimuli : List CoreStimuli) (id : CoreId) (items : List Item) : Type 0 where
   pub begins : IsBeginning (report_by plan id items).marks (alone_report plan stimuli id).marks
   pub whole : has_drained items ≡ true → (report_by plan id items).marks ≡ (alone_report plan stimuli id).marks
   pub block_begins : IsBeginning (block_of plan (report_by plan id items)) (alone_block plan stimuli id)
   pub block_whole : has_drained items ≡ true → block_of plan (report_by plan id items) ≡ alone_block plan stimuli id
+  pub ends : end_by items ≡ true → has_drained items ≡ true
   pub alone : solo (view_of (cut_of plan id) id) (alone_items plan stimuli id) ≡ Some (history_by (cut_of plan id) id (alone_items plan stimuli id))
 
 -- Each separate core of these lists is.

@@ -4,6 +4,7 @@
 pub mod asks;
 pub mod cores;
 pub mod ends;
+pub mod laws;
 pub mod seats;
 
 pub use asks::{Answer, Ask, look_asked, named, own_asked, spin_call_of};
