@@ -25,7 +25,8 @@ use Rattle.osthreads.specs.declared.worker.Shift.{Shift}
 use Rattle.osthreads.specs.declared.worker.Worked.{Worked}
 use Rattle.osthreads.specs.declared.worker.Worker.{Worker}
 use Rattle.osthreads.specs.Seats.{made_from}
-use Rattle.osthreads.specs.Working.{HasDone, HasNoWork, HasWorked, IsFinished, IsGoing, IsStopped, IsStuck, IsWorked, core_count, is_ended_by, is_finished_by, loads_at, next_at, refusal_at, since_own, turns_of}
+use Rattle.osthreads.specs.Rounds.{IsGoing, IsStopped, core_count, loads_at, next_at, since_own, turns_of}
+use Rattle.osthreads.specs.Working.{HasDone, HasNoWork, HasWorked, IsFinished, IsStuck, IsWorked, is_ended_by, is_finished_by, refusal_at}
 use Rattle.osthreads.proofs.Working.{next-left}
 
 -- A core has not ended at first.

@@ -1,5 +1,5 @@
 -- What a worker of one core has done, said of its core, of its calls of the board and the spinlocks, and of its end of the mail. [own]
-use Rattle.std.specs.Prelude.{◌≡◌, ◌⊎◌, ◌+◌, ◌/◌, ◌<◌, ◌≤◌, nat_lt, ℕ, zero, suc, Bool, true, false, Option, Some, None, if◌then◌else◌, List, [], ◌∷◌, ◌++◌, length, slice_get}
+use Rattle.std.specs.Prelude.{◌≡◌, ◌⊎◌, ◌+◌, ◌/◌, ◌<◌, ◌≤◌, ℕ, Bool, true, false, Option, Some, None, if◌then◌else◌, List, [], ◌∷◌, ◌++◌, length, slice_get}
 use Rattle.std.specs.List.{AllByRecursion}
 use Rattle.osbase.specs.declared.references.CoreId.{CoreId}
 use Rattle.osbase.specs.declared.messages.Envelope.{Envelope}
@@ -32,7 +32,7 @@ use Rattle.oskernel.specs.declared.wants.SpinWish.TheVariants as Wish
 use Rattle.oskernel.specs.declared.wants.Want.{Want}
 use Rattle.osturn.specs.Asking.{Calls, asked_by, named_by, spin_call_of}
 use Rattle.osturn.specs.Fits.{AreAnswered, FitsCore, history_by, ids_of, stimuli_in}
-use Rattle.osturn.specs.Seats.{IsSeated, is_ended_phase}
+use Rattle.osturn.specs.Seats.{IsSeated}
 use Rattle.osturn.specs.Sound.{IsOwn}
 use Rattle.osthreads.specs.declared.run.Run.{Run}
 use Rattle.osthreads.specs.Calling.{call_of_item}
@@ -41,7 +41,6 @@ use Rattle.osthreads.specs.declared.turns.Stop.{Stop}
 use Rattle.osthreads.specs.declared.turns.Turned.{Turned}
 use Rattle.osthreads.specs.declared.turns.Turned.TheVariants.{Took, Nothing, Refused}
 use Rattle.osthreads.specs.declared.worker.Worker.{Worker}
-use Rattle.osthreads.specs.declared.worker.Shift.{Shift}
 use Rattle.osthreads.specs.declared.worker.Worked.{Worked}
 
 -- ---- what a turn asks
@@ -169,37 +168,7 @@ UnlessTook turned P = P
 abbrev pub HasNoWork : {M : Type 0} → Worker M → Type 0
 HasNoWork w = IsStuck (view_of w.run.now.config.now w.core.id) w.core.kernel (slice_get w.core.stimuli.now 0)
 
--- ---- rounds
-
--- A round has a turn for every other core, one for the core's own work, and then a look. So the look has the number of cores as its
--- place.
-abbrev pub loads_at : ℕ → ℕ → ℕ
-loads_at cores at = if nat_lt at cores then 0 else 1
-
-abbrev pub next_at : ℕ → ℕ → ℕ
-next_at cores at = if nat_lt at cores then at + 1 else 0
-
--- How many turns ago the core's own turn was, where this is the next place.
-abbrev pub since_own : ℕ → ℕ → ℕ
-since_own cores at = if nat_lt at cores then at + 2 else 1
-
--- The turns of so many rounds.
-abbrev pub turns_of : ℕ → ℕ → ℕ
-turns_of cores zero = 0
-turns_of cores (suc rounds) = turns_of cores rounds + (cores + 1)
-
-abbrev pub core_count : {M : Type 0} → Shift M → ℕ
-core_count shift = length shift.worker.run.now.cores.now
-
--- A worker between two turns, whose core has not ended. The last turns changed nothing: those of the rounds whose looks stand at the
--- end of its calls, and those of the round that it is in. If the core's own turn is among them, the core can do nothing by itself.
-pub record IsGoing {M : Type 0} (sent taken : M → Streams) (stimuli : List CoreStimuli) (shift : Shift M) : Type 0 where
-  pub loads : ℕ
-  pub worked : HasWorked sent taken stimuli None loads shift.worker
-  pub count : shift.fruitless ≤ turns_of (core_count shift) loads + shift.at
-  pub place : shift.at ≤ core_count shift
-  pub running : is_ended_phase shift.worker.core.kernel.progress.phase ≡ false
-  pub stuck : 0 < core_count shift → since_own (core_count shift) shift.at ≤ shift.fruitless → HasNoWork shift.worker
+-- ---- the end
 
 abbrev pub refusal_at : Stop → Refusal
 refusal_at Stop.Ended = None
@@ -227,14 +196,6 @@ abbrev pub is_finished_by : Stop → Bool
 is_finished_by Stop.Ended = true
 is_finished_by Stop.Stalled = true
 is_finished_by stop = false
-
--- A worker that stopped.
-pub record IsStopped {M : Type 0} (sent taken : M → Streams) (stimuli : List CoreStimuli) (stop : Stop) (shift : Shift M) : Type 0 where
-  pub loads : ℕ
-  pub worked : HasWorked sent taken stimuli (refusal_at stop) loads shift.worker
-  pub ended : is_ended_phase shift.worker.core.kernel.progress.phase ≡ is_ended_by stop
-  pub stalled : stop ≡ Stop.Stalled → shift.worker.run.now.turns < turns_of (core_count shift) (suc loads)
-  pub stuck : stop ≡ Stop.Stalled → 0 < core_count shift → core_count shift < shift.worker.run.now.turns → HasNoWork shift.worker
 
 -- So many turns in a row changed nothing. A round has a turn for each configured core, its own for the core itself, and a look. So the
 -- core's calls of the board end with a look for each whole round, and if there was one, the core can do nothing by itself, but for an

@@ -9,7 +9,8 @@ ghost use Rattle.osturn.specs.Fits.{ids_of};
 ghost use Rattle.osturn.specs.Seats.{report_of};
 ghost use Rattle.osturn.specs.Asking.{no_calls};
 ghost use Rattle.osthreads.specs.Seats.{AreAt, made_from, shared};
-ghost use Rattle.osthreads.specs.Working.{HasNoWork, IsGoing, IsStopped, IsWorked, Turns, UnlessTook, loads_at, next_at};
+ghost use Rattle.osthreads.specs.Rounds.{IsGoing, IsStopped, loads_at, next_at};
+ghost use Rattle.osthreads.specs.Working.{HasNoWork, IsWorked, Turns, UnlessTook};
 
 use crate::gates::Gate;
 use crate::run::Run;

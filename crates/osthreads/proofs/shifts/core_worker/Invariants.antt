@@ -1,5 +1,5 @@
 use Rattle.std.proofs.Common.{◌≡◌}
-use Rattle.osthreads.specs.Working.{IsGoing}
+use Rattle.osthreads.specs.Rounds.{IsGoing}
 use Rattle.osthreads.proofs.shifts.core_worker.Given as goal
 
 abbrev pub invariant-loop : goal.invariant-loop

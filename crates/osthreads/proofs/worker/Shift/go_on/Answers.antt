@@ -4,7 +4,7 @@ use Rattle.osturn.specs.declared.seats.Seat.{Seat}
 use Rattle.osturn.specs.Seats.{is_ended_phase}
 use Rattle.osthreads.specs.declared.run.Run.{Run}
 use Rattle.osthreads.specs.declared.worker.Worker.{Worker}
-use Rattle.osthreads.specs.Working.{next_at}
+use Rattle.osthreads.specs.Rounds.{next_at}
 use Rattle.osthreads.proofs.Shifting.{IsStillAt, stopped-stalled, went-nothing, went-took}
 use Rattle.osthreads.proofs.worker.Shift.go_on.Goals as goal
 
