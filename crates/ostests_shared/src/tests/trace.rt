@@ -3,34 +3,39 @@
 mod marks;
 mod sinks;
 
-use marks::{ONE, TASK, ZERO};
+use marks::{ONE, ZERO};
 use osbase::{CoreId, List, Mark, Report};
 use osdraft::read_config;
 use ostrace::{MemorySink, Word, WriteFailed, WriteSink, write_ended_words, write_reports};
 use sinks::FailingSink;
 use std::alloc::{AllocError, Global};
 use std::process::Abort;
+use std::slice;
 use std::test::Fail;
 
 // Core 0 has the task A, the ISR I1, the alarm L and the table S1; core 1 has the task Blink.
 const CONFIG: &str =
     r#"{"cores":[{"id":0,"tasks":[{"name":"A","prio":1,"script":""}],"isrs":[{"name":"I1","level":1,"script":""}],"counters":[{"name":"C","max":9}],"alarms":[{"name":"L","counter":"C","action":"ActivateTask A"}],"tables":[{"name":"S1","counter":"C","duration":3,"points":[{"offset":0,"actions":["ActivateTask A"]}]}]},{"id":1,"tasks":[{"name":"Blink","prio":1,"script":""}]}]}"#;
 
-fn report(alloc: Global, core: CoreId, marks: &[Mark]) -> Result<Report, AllocError> {
-    Ok(Report {
+fn report(alloc: Global, core: CoreId, marks: Vec<Mark>) -> Report {
+    Report {
         core,
         items: List::new(alloc),
-        marks: List::from_vec(marks.to_vec(alloc)?),
+        marks: List::from_vec(marks),
         ended: true,
-    })
+    }
 }
 
 // The marks of core 0 have these lines.
 fn compare(rt: &impl Abort, alloc: Global, marks: &[Mark], lines: &str) -> Result<(), Fail> {
+    let report = report(alloc, ZERO, marks.to_vec(alloc)?);
+    let config = read_config(alloc, CONFIG)?;
     let mut out = MemorySink::new(Vec::new(alloc));
-    let report = report(alloc, ZERO, marks)?;
-    write_reports(&read_config(alloc, CONFIG)?, &mut out, &[report])?;
-    assert!(rt; out.bytes.as_slice() == lines.as_bytes(), "{lines}");
+    let outcome = write_reports(&config, &mut out, slice::from_ref(&report));
+    assert!(rt;
+        outcome.is_ok() && out.bytes.as_slice() == lines.as_bytes(),
+        "{lines}"
+    );
     Ok(())
 }
 
@@ -44,28 +49,26 @@ fn each_kind_of_mark_has_its_line(rt: HostRuntime) -> Result<(), Fail> {
 }
 
 // A request of core 0, and what core 1 answers.
-fn exchange(alloc: Global) -> Result<[Report; 2], AllocError> {
-    let request = report(alloc, ZERO, &marks::REQUEST)?;
-    let answer = report(alloc, ONE, &marks::ANSWER)?;
-    Ok([request, answer])
+fn exchange(alloc: Global) -> Result<Vec<Report>, AllocError> {
+    let request = marks::REQUEST.to_vec(alloc)?;
+    let answer = marks::ANSWER.to_vec(alloc)?;
+    let mut reports = Vec::with_capacity(alloc, 2)?;
+    reports.push(report(alloc, ZERO, request))?;
+    reports.push(report(alloc, ONE, answer))?;
+    Ok(reports)
 }
 
 #[test]
 fn reports_are_blocks_in_their_order(rt: HostRuntime) -> Result<(), Fail> {
+    let reports = exchange(rt.alloc())?;
+    let config = read_config(rt.alloc(), CONFIG)?;
+    let text = marks::EXCHANGE_LINES.as_bytes();
     let mut out = MemorySink::new(Vec::new(rt.alloc()));
-    let config = read_config(rt.alloc(), CONFIG)?;
-    write_reports(&config, &mut out, &exchange(rt.alloc())?)?;
-    assert!(rt; out.bytes.as_slice() == marks::EXCHANGE_LINES.as_bytes());
-    Ok(())
-}
-
-#[test]
-fn reports_are_written_to_a_stream(rt: HostRuntime) -> Result<(), Fail> {
-    let mut out = WriteSink::new(Vec::new(rt.alloc()));
-    let config = read_config(rt.alloc(), CONFIG)?;
-    write_reports(&config, &mut out, &exchange(rt.alloc())?)?;
-    assert!(rt; out.writer.as_slice() == marks::EXCHANGE_LINES.as_bytes());
-    assert!(rt; out.failed == 0);
+    assert!(rt; write_reports(&config, &mut out, reports.as_slice()).is_ok());
+    assert!(rt; out.bytes.as_slice() == text);
+    let mut stream = WriteSink::new(Vec::new(rt.alloc()));
+    assert!(rt; write_reports(&config, &mut stream, reports.as_slice()).is_ok());
+    assert!(rt; stream.writer.as_slice() == text && stream.failed == 0);
     Ok(())
 }
 
@@ -88,12 +91,12 @@ fn judge(
 
 #[test]
 fn a_write_that_fails_leaves_a_beginning(rt: HostRuntime) -> Result<(), Fail> {
-    let config = read_config(rt.alloc(), CONFIG)?;
     let reports = exchange(rt.alloc())?;
+    let config = read_config(rt.alloc(), CONFIG)?;
     let text = marks::EXCHANGE_LINES.as_bytes();
     for writes in 0..40 {
         let mut out = FailingSink::new(rt.alloc(), writes);
-        let outcome = write_reports(&config, &mut out, &reports);
+        let outcome = write_reports(&config, &mut out, reports.as_slice());
         let count = judge(&rt, &out, outcome, text, writes);
         assert!(rt;
             count == text.len().min(writes * 3),
@@ -103,26 +106,17 @@ fn a_write_that_fails_leaves_a_beginning(rt: HostRuntime) -> Result<(), Fail> {
     Ok(())
 }
 
-// So many ticks of core 0, and then that its task is activated.
-fn ticking(alloc: Global, ticks: u32) -> Result<Report, AllocError> {
-    let mut marks = Vec::new(alloc);
-    for _tick in 0..ticks {
-        marks.push(Mark::Tick)?;
-    }
-    marks.push(Mark::Activated(TASK))?;
-    report(alloc, ZERO, marks.as_slice())
-}
-
 #[test]
 fn many_lines_are_written_in_parts(rt: HostRuntime) -> Result<(), Fail> {
-    let config = read_config(rt.alloc(), CONFIG)?;
-    let reports = [ticking(rt.alloc(), 5000)?];
     let ticks = "tick\n".repeat(rt.alloc(), 5000)?;
-    let text = format!(in rt.alloc(); "core 0\n{ticks}act A\n")?;
+    let text = format!(in rt.alloc(); "core 0\n{ticks}")?;
+    let marks = vec![in rt.alloc(); Mark::Tick; 5000]?;
+    let report = report(rt.alloc(), ZERO, marks);
+    let config = read_config(rt.alloc(), CONFIG)?;
     let mut before = 0;
     for writes in [0, 1, 5460, 5461, 5462, 6000, 8000, 9000] {
         let mut out = FailingSink::new(rt.alloc(), writes);
-        let outcome = write_reports(&config, &mut out, &reports);
+        let outcome = write_reports(&config, &mut out, slice::from_ref(&report));
         let count = judge(&rt, &out, outcome, text.as_str().as_bytes(), writes);
         assert!(rt; count >= before, "after {writes} writes");
         before = count;
@@ -131,28 +125,23 @@ fn many_lines_are_written_in_parts(rt: HostRuntime) -> Result<(), Fail> {
     Ok(())
 }
 
-// So many short words, a long one, a short one, and the long one again.
-fn long_line(alloc: Global, count: u32, long: &str) -> Result<Vec<Word<'_>>, AllocError> {
-    let mut words = Vec::new(alloc);
-    for _word in 0..count {
-        words.push(Word::Text("tick"))?;
-    }
-    words.push(Word::Text(long))?;
-    words.push(Word::Text("end"))?;
-    words.push(Word::Text(long))?;
-    Ok(words)
-}
-
+// Behind words for which there is room comes one for which there never is.
 #[test]
-fn a_long_line_is_written_in_parts(rt: HostRuntime) -> Result<(), Fail> {
+fn a_long_word_is_written_by_itself(rt: HostRuntime) -> Result<(), Fail> {
+    let ticks = "tick".repeat(rt.alloc(), 4000)?;
     let long = "abcdefghij".repeat(rt.alloc(), 2000)?;
-    let words = long_line(rt.alloc(), 5000, long.as_str())?;
-    let ticks = " tick".repeat(rt.alloc(), 5000)?;
-    let text = format!(in rt.alloc(); "many{ticks} {long} end {long}\n")?;
+    let text = format!(in rt.alloc(); "many {ticks} {long} end {ticks} {long}\n")?;
+    let words = [
+        Word::Text(ticks.as_str()),
+        Word::Text(long.as_str()),
+        Word::Text("end"),
+        Word::Text(ticks.as_str()),
+        Word::Text(long.as_str()),
+    ];
     let mut before = 0;
     for writes in [0, 1, 5460, 5461, 5462, 9000, 15000, 20000, 30000] {
         let mut out = FailingSink::new(rt.alloc(), writes);
-        let outcome = write_ended_words(&mut out, "many", words.as_slice());
+        let outcome = write_ended_words(&mut out, "many", &words);
         let count = judge(&rt, &out, outcome, text.as_str().as_bytes(), writes);
         assert!(rt; count >= before, "after {writes} writes");
         before = count;

@@ -9,12 +9,12 @@ pub const ZERO: CoreId = CoreId { number: 0 };
 
 pub const ONE: CoreId = CoreId { number: 1 };
 
-pub const TASK: TaskRef = TaskRef {
+const TASK: TaskRef = TaskRef {
     core: ZERO,
     index: 0,
 };
 
-pub const BLINK: TaskRef = TaskRef {
+const BLINK: TaskRef = TaskRef {
     core: ONE,
     index: 0,
 };
