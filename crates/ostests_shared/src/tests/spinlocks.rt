@@ -211,15 +211,14 @@ fn one_core_holds_a_spinlock(rt: HostRuntime) -> Result<(), Fail> {
         panic!(rt; "two seats")
     };
     let lock = SpinlockId { index: 15 };
-    assert!(rt; bank.look(&mut a, lock).is_none());
-    assert!(rt; bank.try_take(&mut a, lock));
-    assert!(rt; !bank.try_take(&mut b, lock));
-    assert!(rt; !bank.try_take(&mut a, lock));
-    assert!(rt; !bank.free(&mut b, lock));
-    assert!(rt; bank.look(&mut b, lock) == Some(CoreId { number: 0 }));
-    assert!(rt; bank.free(&mut a, lock));
-    assert!(rt; bank.try_take(&mut b, lock));
-    assert!(rt; bank.look(&mut a, lock) == Some(CoreId { number: 5 }));
+    assert!(rt; bank.look(&mut a, lock).is_none() && bank.try_take(&mut a, lock));
+    assert!(rt;
+        !bank.try_take(&mut b, lock) && !bank.try_take(&mut a, lock) && !bank.free(&mut b, lock)
+    );
+    assert!(rt; bank.look(&mut b, lock) == Some(CoreId { number: 0 }) && bank.free(&mut a, lock));
+    assert!(rt;
+        bank.try_take(&mut b, lock) && bank.look(&mut a, lock) == Some(CoreId { number: 5 })
+    );
     let (take, free) = (
         call_of(lock, SpinAction::Take),
         call_of(lock, SpinAction::Free),
@@ -237,14 +236,9 @@ fn the_listed_spinlocks_answer_alike(rt: HostRuntime) -> Result<(), Fail> {
     let mut locks = SpinList::new();
     let (a, b) = (CoreId { number: 0 }, CoreId { number: 5 });
     let lock = SpinlockId { index: 15 };
-    assert!(rt; locks.look(lock).is_none());
-    assert!(rt; locks.try_take(a, lock));
-    assert!(rt; !locks.try_take(b, lock));
-    assert!(rt; !locks.try_take(a, lock));
-    assert!(rt; !locks.free(b, lock));
-    assert!(rt; locks.look(lock) == Some(a));
-    assert!(rt; locks.free(a, lock));
-    assert!(rt; locks.look(lock).is_none());
+    assert!(rt; locks.look(lock).is_none() && locks.try_take(a, lock));
+    assert!(rt; !locks.try_take(b, lock) && !locks.try_take(a, lock) && !locks.free(b, lock));
+    assert!(rt; locks.look(lock) == Some(a) && locks.free(a, lock) && locks.look(lock).is_none());
     let take = call_of(lock, SpinAction::Take);
     let (free, look) = (
         call_of(lock, SpinAction::Free),

@@ -108,11 +108,11 @@ fn a_write_that_fails_leaves_a_beginning(rt: HostRuntime) -> Result<(), Fail> {
 
 #[test]
 fn many_lines_are_written_in_parts(rt: HostRuntime) -> Result<(), Fail> {
-    let ticks = "tick\n".repeat(rt.alloc(), 5000)?;
-    let text = format!(in rt.alloc(); "core 0\n{ticks}")?;
     let marks = vec![in rt.alloc(); Mark::Tick; 5000]?;
     let report = report(rt.alloc(), ZERO, marks);
     let config = read_config(rt.alloc(), CONFIG)?;
+    let ticks = "tick\n".repeat(rt.alloc(), 5000)?;
+    let text = format!(in rt.alloc(); "core 0\n{ticks}")?;
     let mut before = 0;
     for writes in [0, 1, 5460, 5461, 5462, 6000, 8000, 9000] {
         let mut out = FailingSink::new(rt.alloc(), writes);
