@@ -1,12 +1,14 @@
 //! A kernel by itself, item by item.
 
-use osbase::{
-    Agreement, CORES, CoreId, CoreSet, Item, Mark, Message, ModeId, RemoteCall, Runner, ServiceId,
-    Status, Stimulus, TaskRef,
-};
-use osconf::read_config;
-use oskernel::{Kernel, Want};
-use std::alloc::{AllocError, Global};
+use osbase::{CoreId, Item, List, Mark, Message, Report, Status};
+use osconf::{Config, read_config};
+use oskernel::{Kernel, STEP_MARKS, Want};
+use oslog::read_log;
+use osplay::same;
+use ostrace::{MemorySink, write_reports};
+use std::alloc::Global;
+use std::process::Abort;
+use std::slice;
 use std::test::Fail;
 
 /// Task A of core 0, which starts core 1, activates task B of core 1.
@@ -15,109 +17,83 @@ const TWO_CORES: &str =
 
 const CORE_0: CoreId = CoreId { number: 0 };
 
-const CORE_1: CoreId = CoreId { number: 1 };
-
-const MODE: ModeId = ModeId { index: 0 };
-
-const TASK_A: TaskRef = TaskRef {
-    core: CORE_0,
-    index: 0,
+const REPLY: Item = Item::Received {
+    from: CoreId { number: 1 },
+    number: 0,
+    message: Message::Reply(Status::EOk),
 };
 
-const TASK_B: TaskRef = TaskRef {
-    core: CORE_1,
-    index: 0,
-};
+/// The items of core 0 up to the reply.
+const REPLIED: &str =
+    "began 1 E_OK\nentered\npass1 M\nreadied\npass2 0 1\nstim op\npost 1\nin 1 0 rep E_OK\n";
 
-fn started() -> CoreSet {
-    let mut members = [false; CORES];
-    members[0] = true;
-    members[1] = true;
-    CoreSet { members }
+/// The items of core 0 up to its end.
+const ITEMS: &str =
+    "began 1 E_OK\nentered\npass1 M\nreadied\npass2 0 1\nstim op\npost 1\nin 1 0 rep E_OK\nstim op\ndrained\npassend\nlast\n";
+
+const BLOCK: &str =
+    "core 0\nstart 1 E_OK\nhook Startup\nact A\npre A\nout 1 ActivateTask B\nstat A ActivateTask E_OK\npost A\nend A\n";
+
+// The items of a log of core 0.
+fn items_of(alloc: Global, config: &Config, log: &str) -> Result<List<Item>, Fail> {
+    let _core = config.plan().core(CORE_0).ok_or("core 0")?;
+    Ok(read_log(alloc, config, CORE_0, log).ok().ok_or("a log")?)
 }
 
-fn reply() -> Item {
-    Item::Received {
-        from: CORE_1,
-        number: 0,
-        message: Message::Reply(Status::EOk),
+// The kernel of core 0 once it took these items, whose marks it printed.
+fn kernel_after<'a>(
+    rt: &impl Abort,
+    config: &'a Config,
+    items: &[Item],
+    marks: &mut Vec<Mark>,
+) -> Result<Kernel<'a, 32, 64, 64>, Fail> {
+    let _core = config.plan().core(CORE_0).ok_or("core 0")?;
+    let mut kernel: Kernel<32, 64, 64> = Kernel::new(config, CORE_0);
+    for item in items {
+        assert!(rt; kernel.may_take(item));
+        assert!(rt; marks.capacity() - marks.len() >= STEP_MARKS);
+        kernel.step(*item, marks);
     }
+    Ok(kernel)
 }
 
-// The items of core 0, up to its end.
-fn items(alloc: Global) -> Result<Vec<Item>, AllocError> {
-    let (core, status) = (CORE_1, Status::EOk);
-    let items = [
-        Item::Began { core, status },
-        Item::Entered,
-        Item::Pass1(Agreement::Mode(MODE)),
-        Item::Readied,
-        Item::Pass2(started()),
-        Item::Stim(Stimulus::Op),
-        Item::Posted(CORE_1),
-        reply(),
-        Item::Stim(Stimulus::Op),
-        Item::Drained,
-        Item::PassEnd,
-        Item::Last(None),
-    ];
-    items.to_vec(alloc)
-}
-
-// The marks of core 0.
-fn marks(alloc: Global) -> Result<Vec<Mark>, AllocError> {
-    let marks = [
-        Mark::StartCoreReturned {
-            core: CORE_1,
-            status: Status::EOk,
-        },
-        Mark::StartupHook,
-        Mark::Activated(TASK_A),
-        Mark::PreTaskHook(TASK_A),
-        Mark::CallQueued {
-            core: CORE_1,
-            call: RemoteCall::ActivateTask(TASK_B),
-        },
-        Mark::ServiceReturned {
-            runner: Runner::Task(TASK_A),
-            service: ServiceId::ActivateTask,
-            status: Status::EOk,
-        },
-        Mark::PostTaskHook(TASK_A),
-        Mark::Terminated(TASK_A),
-    ];
-    marks.to_vec(alloc)
+// The block of these marks.
+fn block_of(alloc: Global, config: &Config, marks: Vec<Mark>) -> Result<String, Fail> {
+    let report = Report {
+        core: CORE_0,
+        items: List::new(alloc),
+        marks: List::from_vec(marks),
+        ended: true,
+    };
+    let mut out = MemorySink::new(Vec::new(alloc));
+    let written = write_reports(config, &mut out, slice::from_ref(&report));
+    written.ok().ok_or("a block")?;
+    Ok(String::from_utf8(out.bytes).ok().ok_or("a text")?)
 }
 
 #[test]
 fn a_core_takes_its_items(rt: HostRuntime) -> Result<(), Fail> {
-    let config = read_config(rt.alloc(), TWO_CORES)?;
-    let _core = config.plan().core(CORE_0).ok_or("core 0")?;
-    let mut kernel: Kernel<32, 64, 64> = Kernel::new(&config, CORE_0);
-    let mut printed = Vec::with_capacity(rt.alloc(), 8192)?;
-    for item in items(rt.alloc())? {
-        assert!(rt; kernel.may_take(&item));
-        assert!(rt; printed.len() <= 4096);
-        kernel.step(item, &mut printed);
-    }
-    assert_eq!(rt; printed.as_slice(), marks(rt.alloc())?.as_slice());
-    Ok(())
+    let alloc = rt.alloc();
+    let config = read_config(alloc, TWO_CORES)?;
+    let items = items_of(alloc, &config, ITEMS)?;
+    let mut marks = Vec::with_capacity(alloc, 8192)?;
+    let _kernel = kernel_after(&rt, &config, items.as_slice(), &mut marks)?;
+    same("", block_of(alloc, &config, marks)?.as_str(), BLOCK)
+}
+
+// Whether the kernel goes on by itself, with nothing in its outbox.
+fn goes_on(kernel: &Kernel<32, 64, 64>) -> bool {
+    kernel.may_serve() && matches!(kernel.want(), Want::GoOn) && kernel.front().is_none()
 }
 
 #[test]
 fn a_second_reply_is_refused(rt: HostRuntime) -> Result<(), Fail> {
-    let config = read_config(rt.alloc(), TWO_CORES)?;
-    let _core = config.plan().core(CORE_0).ok_or("core 0")?;
-    let mut kernel: Kernel<32, 64, 64> = Kernel::new(&config, CORE_0);
-    let mut printed = Vec::with_capacity(rt.alloc(), 8192)?;
-    for item in items(rt.alloc())?.iter().take(8) {
-        assert!(rt; kernel.may_take(item));
-        assert!(rt; printed.len() <= 4096);
-        kernel.step(*item, &mut printed);
-    }
-    assert!(rt; !kernel.may_take(&reply()));
-    assert!(rt; kernel.may_serve());
-    assert_eq!(rt; kernel.want(), Want::GoOn);
-    assert_eq!(rt; kernel.front(), None);
+    let alloc = rt.alloc();
+    let config = read_config(alloc, TWO_CORES)?;
+    let items = items_of(alloc, &config, REPLIED)?;
+    let mut marks = Vec::with_capacity(alloc, 8192)?;
+    let kernel = kernel_after(&rt, &config, items.as_slice(), &mut marks)?;
+    assert!(rt; !kernel.may_take(&REPLY));
+    assert!(rt; goes_on(&kernel));
     Ok(())
 }
