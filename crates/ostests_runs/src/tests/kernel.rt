@@ -1,9 +1,10 @@
 //! A kernel by itself, item by item.
 
-use osbase::{CoreId, Item, List, Mark, Message, Report, Status};
+use osbase::{
+    Agreement, CoreId, CoreSet, Item, List, Mark, Message, ModeId, Report, Status, Stimulus,
+};
 use osconf::{Config, read_config};
 use oskernel::{Kernel, STEP_MARKS, Want};
-use oslog::read_log;
 use osplay::same;
 use ostrace::{MemorySink, write_reports};
 use std::alloc::Global;
@@ -17,28 +18,43 @@ const TWO_CORES: &str =
 
 const CORE_0: CoreId = CoreId { number: 0 };
 
+const CORE_1: CoreId = CoreId { number: 1 };
+
 const REPLY: Item = Item::Received {
-    from: CoreId { number: 1 },
+    from: CORE_1,
     number: 0,
     message: Message::Reply(Status::EOk),
 };
 
-/// The items of core 0 up to the reply.
-const REPLIED: &str =
-    "began 1 E_OK\nentered\npass1 M\nreadied\npass2 0 1\nstim op\npost 1\nin 1 0 rep E_OK\n";
+/// Cores 0 and 1.
+const STARTED: CoreSet = CoreSet {
+    members: [
+        true, true, false, false, false, false, false, false, false, false, false, false, false,
+        false, false, false,
+    ],
+};
 
-/// The items of core 0 up to its end.
-const ITEMS: &str =
-    "began 1 E_OK\nentered\npass1 M\nreadied\npass2 0 1\nstim op\npost 1\nin 1 0 rep E_OK\nstim op\ndrained\npassend\nlast\n";
+/// The items of core 0, up to its end.
+const ITEMS: [Item; 12] = [
+    Item::Began {
+        core: CORE_1,
+        status: Status::EOk,
+    },
+    Item::Entered,
+    Item::Pass1(Agreement::Mode(ModeId { index: 0 })),
+    Item::Readied,
+    Item::Pass2(STARTED),
+    Item::Stim(Stimulus::Op),
+    Item::Posted(CORE_1),
+    REPLY,
+    Item::Stim(Stimulus::Op),
+    Item::Drained,
+    Item::PassEnd,
+    Item::Last(None),
+];
 
 const BLOCK: &str =
     "core 0\nstart 1 E_OK\nhook Startup\nact A\npre A\nout 1 ActivateTask B\nstat A ActivateTask E_OK\npost A\nend A\n";
-
-// The items of a log of core 0.
-fn items_of(alloc: Global, config: &Config, log: &str) -> Result<List<Item>, Fail> {
-    let _core = config.plan().core(CORE_0).ok_or("core 0")?;
-    Ok(read_log(alloc, config, CORE_0, log).ok().ok_or("a log")?)
-}
 
 // The kernel of core 0 once it took these items, whose marks it printed.
 fn kernel_after<'a>(
@@ -75,9 +91,8 @@ fn block_of(alloc: Global, config: &Config, marks: Vec<Mark>) -> Result<String, 
 fn a_core_takes_its_items(rt: HostRuntime) -> Result<(), Fail> {
     let alloc = rt.alloc();
     let config = read_config(alloc, TWO_CORES)?;
-    let items = items_of(alloc, &config, ITEMS)?;
     let mut marks = Vec::with_capacity(alloc, 8192)?;
-    let _kernel = kernel_after(&rt, &config, items.as_slice(), &mut marks)?;
+    let _kernel = kernel_after(&rt, &config, &ITEMS, &mut marks)?;
     same("", block_of(alloc, &config, marks)?.as_str(), BLOCK)
 }
 
@@ -90,9 +105,9 @@ fn goes_on(kernel: &Kernel<32, 64, 64>) -> bool {
 fn a_second_reply_is_refused(rt: HostRuntime) -> Result<(), Fail> {
     let alloc = rt.alloc();
     let config = read_config(alloc, TWO_CORES)?;
-    let items = items_of(alloc, &config, REPLIED)?;
     let mut marks = Vec::with_capacity(alloc, 8192)?;
-    let kernel = kernel_after(&rt, &config, items.as_slice(), &mut marks)?;
+    // The first eight end with the reply.
+    let kernel = kernel_after(&rt, &config, &ITEMS[..8], &mut marks)?;
     assert!(rt; !kernel.may_take(&REPLY));
     assert!(rt; goes_on(&kernel));
     Ok(())

@@ -1,11 +1,14 @@
 //! The turns of the default schedule.
 
+ghost use Rattle.osplan.specs.Stimuli.{AreKnown};
+
 use super::logs::BORDER;
-use osconf::{read_config, read_stimuli};
+use osbase::Report;
+use osconf::{Config, Stimuli, read_config, read_stimuli};
 use osplay::examples::MUTUAL;
 use osplay::{compare, given, run_of};
 use ostrace::{MemorySink, write_reports};
-use osworld::{default_schedule, run_world};
+use osworld::{RunFault, default_schedule, run_world};
 use std::alloc::Global;
 use std::test::Fail;
 
@@ -25,18 +28,29 @@ fn the_turns_of_the_default_schedule_give_what_the_default_run_gives(
     Ok(())
 }
 
+// The reports of the run of the default schedule's turns.
+fn reports_of(alloc: Global, config: &Config, stimuli: &Stimuli) -> Result<Vec<Report>, RunFault>
+    requires { AreKnown config.now stimuli.now }
+{
+    let turns = default_schedule(alloc, config, stimuli)?;
+    run_world(alloc, config, stimuli, turns.as_slice())
+}
+
+// What a run with these reports prints where each started core ended.
+fn run_text(alloc: Global, config: &Config, reports: &[Report]) -> Result<String, Fail> {
+    let mut out = MemorySink::new(Vec::new(alloc));
+    let written = write_reports(config, &mut out, reports);
+    written.ok().ok_or("blocks")?;
+    out.bytes.extend_from_slice(b"ended\n")?;
+    Ok(String::from_utf8(out.bytes).ok().ok_or("a text")?)
+}
+
 // What the run of the default schedule's turns prints.
 fn run_of_default_turns(alloc: Global, config: &str, stimuli: &str) -> Result<String, Fail> {
     let config = read_config(alloc, config)?;
     let stimuli = read_stimuli(alloc, &config, stimuli)?;
-    let turns = default_schedule(alloc, &config, &stimuli);
-    let turns = turns.ok().ok_or("turns")?;
-    let reports = run_world(alloc, &config, &stimuli, turns.as_slice());
-    let reports = reports.ok().ok_or("reports")?;
-    let mut out = MemorySink::new(Vec::new(alloc));
-    write_reports(&config, &mut out, reports.as_slice())
-        .ok()
-        .ok_or("blocks")?;
-    out.bytes.extend_from_slice(b"ended\n")?;
-    Ok(String::from_utf8(out.bytes).ok().ok_or("a text")?)
+    match reports_of(alloc, &config, &stimuli) {
+        Ok(reports) => run_text(alloc, &config, reports.as_slice()),
+        Err(fault) => Err(Fail::from(fault)),
+    }
 }
