@@ -1,10 +1,9 @@
 //! Runs by threads under gates of the tests' own, which say when a core begins a turn and for whom it waits. Each test
 //! has the same verdict whatever the schedule is.
 
-use super::reports::text_under;
 use super::threads::FEW;
 use osbase::CoreId;
-use osplay::{cut_of, result_of, same};
+use osplay::{cut_of, result_of, same, text_under};
 use osthreads::Gate;
 use std::alloc::Global;
 use std::sync::Wait;

@@ -1,9 +1,8 @@
 //! Runs by threads. Each prints what every order of the cores' turns prints, or is compared with itself.
 
-use super::reports::replays;
 use super::spinlocks::{OWED, SHARED};
 use osplay::examples::{ALL_DOWN, ASKERS, MUTUAL, POLLING, REFUSED};
-use osplay::{given, play_all, result_of, run_of, threads_of};
+use osplay::{given, play_all, replays, result_of, run_of, threads_of};
 use std::alloc::Global;
 use std::process::Abort;
 use std::sync::Wait;

@@ -1,11 +1,14 @@
 //! The reports of runs by threads, as texts.
 
+ghost use Rattle.osplan.specs.Stimuli.{AreKnown};
+
+use crate::jobs::replay_of;
+use crate::prints::compare;
 use osbase::Report;
-use osconf::{Config, read_config, read_stimuli};
+use osconf::{Config, Stimuli, read_config, read_stimuli};
 use osjob::Yielding;
 use oslog::items_text;
-use osplay::{compare, replay_of};
-use osthreads::{Gate, MailKind, run_threads};
+use osthreads::{Gate, MailKind, ThreadFault, run_threads};
 use ostrace::{MemorySink, write_reports};
 use std::alloc::Global;
 use std::slice;
@@ -38,6 +41,26 @@ fn reports_text(alloc: Global, config: &Config, reports: &[Report]) -> Result<St
     Ok(text)
 }
 
+// The reports of a run by threads under a gate.
+fn reports_under<R: Threads + Wait + Sync, G: Gate + Sync>(
+    rt: &R,
+    alloc: Global,
+    config: &Config,
+    stimuli: &Stimuli,
+    gate: &G,
+    turns: u64,
+) -> Result<Vec<Report>, ThreadFault>
+    requires { AreKnown config.now stimuli.now }
+{
+    run_threads(rt, alloc, config, stimuli, MailKind::Locked, gate, turns)
+}
+
+// Why a run broke off, and the reports that there are.
+fn fault_text(alloc: Global, config: &Config, fault: &ThreadFault) -> Result<String, Fail> {
+    let text = reports_text(alloc, config, fault.reports.as_slice())?;
+    Ok(format!(in alloc; "{}\n{text}", fault.reason)?)
+}
+
 /// The reports of a run by threads under a gate, as a text. Where the run broke off, its first line says why.
 pub fn text_under<R: Threads + Wait + Sync, G: Gate + Sync>(
     rt: &R,
@@ -48,14 +71,9 @@ pub fn text_under<R: Threads + Wait + Sync, G: Gate + Sync>(
 ) -> Result<String, Fail> {
     let config = read_config(alloc, config)?;
     let stimuli = read_stimuli(alloc, &config, stimuli)?;
-    let kind = MailKind::Locked;
-    match run_threads(rt, alloc, &config, &stimuli, kind, gate, turns) {
+    match reports_under(rt, alloc, &config, &stimuli, gate, turns) {
         Ok(reports) => reports_text(alloc, &config, reports.as_slice()),
-        Err(fault) => {
-            let text = reports_text(alloc, &config, fault.reports.as_slice())?;
-            let reason = fault.reason;
-            Ok(format!(in alloc; "{reason}\n{text}")?)
-        }
+        Err(fault) => fault_text(alloc, &config, &fault),
     }
 }
 
@@ -74,6 +92,19 @@ fn replay_one(
     compare(rt, alloc, &job, &texts, (block.as_str(), "", 0))
 }
 
+// Each report's log replays to its block.
+fn replay_all(
+    rt: &(impl Threads + Wait + Sync),
+    alloc: Global,
+    (text, config): (&str, &Config),
+    reports: &[Report],
+) -> Result<(), Fail> {
+    for report in reports {
+        replay_one(rt, alloc, (text, config), report)?;
+    }
+    Ok(())
+}
+
 /// Each report's log of a run by threads replays to its block. Answers how many reports there are.
 pub fn replays(
     rt: &(impl Threads + Wait + Sync),
@@ -84,11 +115,11 @@ pub fn replays(
 ) -> Result<usize, Fail> {
     let config = read_config(alloc, text)?;
     let stimuli = read_stimuli(alloc, &config, stimuli)?;
-    let (kind, gate) = (MailKind::Locked, Yielding::new());
-    let reports = run_threads(rt, alloc, &config, &stimuli, kind, &gate, turns);
-    let reports = reports.ok().ok_or("reports")?;
-    for report in &reports {
-        replay_one(rt, alloc, (text, &config), report)?;
+    match reports_under(rt, alloc, &config, &stimuli, &Yielding::new(), turns) {
+        Ok(reports) => {
+            replay_all(rt, alloc, (text, &config), reports.as_slice())?;
+            Ok(reports.len())
+        }
+        Err(fault) => Err(Fail::from(fault)),
     }
-    Ok(reports.len())
 }
