@@ -40,7 +40,9 @@ def _run(figures: Figures) -> List[str]:
     run = figures["run"]
     schedule = "%s schedule" % run["schedule"]
     rounds = "" if run["rounds"] is None else ", %d rounds" % run["rounds"]
-    return ["%s: %s%s, %d turns" % (schedule, "ended" if run["ended"] else "stalled", rounds, run["turns"])]
+    end = "ended" if run["ended"] else "stalled"
+    conflict = " in a conflict of modes" if run["conflict"] else ""
+    return ["%s: %s%s%s, %d turns" % (schedule, end, conflict, rounds, run["turns"])]
 
 
 def _table(titles: Sequence[str], rows: List[Sequence[str]], first_number: int) -> List[str]:

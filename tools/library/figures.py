@@ -56,6 +56,7 @@ def figures_of(jobs: Jobs) -> Figures:
     found: Figures = {
         "run": {
             "ended": run.has_ended,
+            "conflict": run.has_conflict,
             "schedule": run.schedule,
             TURNS: last.turn if last else 0,
             ROUNDS: (last.round if last else 0) if run.turns is None else None,

@@ -168,8 +168,10 @@ def _still(wanted: _Wanted, found: Figures) -> bool:
 
 
 def judge_all(figures: Figures, texts: List[str]) -> List[Verdict]:
-    """Judges requirements, and with them that the run ended."""
+    """Judges requirements, and with them that the run ended, and that the cores agreed on a mode."""
     verdicts = [judge(figures, text) for text in texts]
     if verdicts and not figures["run"]["ended"]:
         verdicts.append(Verdict("the run ends", False, "it stalled"))
+    if verdicts and figures["run"]["conflict"]:
+        verdicts.append(Verdict("the cores agree on a mode", False, "their modes are in conflict"))
     return verdicts

@@ -54,6 +54,11 @@ class Run:
         """The configured cores by ascending number."""
         return sorted(self.draft.ids)
 
+    @property
+    def has_conflict(self) -> bool:
+        """Whether the modes of the started cores are in conflict. Then none of them did any of its work."""
+        return any("pass1 conflict" in log for log in self.logs.values())
+
 
 def blocks_of(text: str) -> Dict[int, Tuple[str, ...]]:
     """The lines of each core in the text that a run prints."""

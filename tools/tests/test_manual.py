@@ -202,6 +202,13 @@ class ManualPage(unittest.TestCase):
     def test_exit_statuses_are_those_of_formats(self):
         self.assertEqual([item for item, _ in items("EXIT STATUS")], formats_column("Exit statuses"))
 
+    def test_status_0_names_the_lines_that_readme_names(self):
+        row = re.search(r"^\| 0 \| (.*) \|$", read(os.path.join(ROOT, "README.md")), re.MULTILINE).group(1)
+        text = next(text for item, text in items("EXIT STATUS") if item == "0")
+        named = [line.split(" ")[1] for line in text if line.startswith(".Ql ")]
+        self.assertEqual(named, re.findall("`(.*?)`", row))
+        self.assertEqual(named, ["E_OS_", "conflict"])
+
     def test_faults_are_those_of_formats(self):
         self.assertEqual([item for item, _ in items("FAULTS")], formats_column("Faults"))
 

@@ -111,7 +111,9 @@ class Counts(unittest.TestCase):
 
     def test_first(self):
         found = first_figures()
-        self.assertEqual(found["run"], {"ended": True, "schedule": "default", "turns": 57, "rounds": 10})
+        self.assertEqual(
+            found["run"], {"ended": True, "conflict": False, "schedule": "default", "turns": 57, "rounds": 10}
+        )
         response = found_for(found["tasks"], task="B")["response"]
         shown = {unit: [times["least"], times["greatest"], times["mean"]] for unit, times in response.items()}
         self.assertEqual(shown, FIRST_TIMES)
@@ -169,7 +171,9 @@ class Counts(unittest.TestCase):
         run = sample_runs.first_run()
         listed = runs.Run(run.draft, run.blocks, run.logs, True, tuple(turns.first_turns(run, 57)))
         found = figures.figures_of(jobs.jobs_of(timeline.timeline_of(listed)))
-        self.assertEqual(found["run"], {"ended": True, "schedule": "listed", "turns": 57, "rounds": None})
+        self.assertEqual(
+            found["run"], {"ended": True, "conflict": False, "schedule": "listed", "turns": 57, "rounds": None}
+        )
         self.assertEqual(found["chains"][0]["turns"]["sum"], 41 - 21)
         self.assertIn("listed schedule: ended, 57 turns\n", figure_tables.tables(found))
         self.assertTrue(requirements.judge(found, "chain A > B length<=20 turns").is_met)
@@ -214,6 +218,27 @@ class Requirements(unittest.TestCase):
             [str(verdict) for verdict in verdicts], ["met: A lost=0 (0)", "not met: the run ends (it stalled)"]
         )
         self.assertEqual(requirements.judge_all(found, []), [])
+
+    def test_modes_in_conflict_meet_none(self):
+        blocks, logs = {0: ["conflict"]}, {0: ["on", "entered", "pass1 conflict"]}
+        found = figures.figures_of(jobs.jobs_of(timeline.timeline_of(runs.run_of(CONFIGURATION, blocks, logs))))
+        self.assertTrue(found["run"]["conflict"])
+        verdicts = requirements.judge_all(found, ["all cores refused=0"])
+        self.assertEqual(
+            [str(verdict) for verdict in verdicts],
+            [
+                "met: all cores refused=0 (0)",
+                "not met: the cores agree on a mode (their modes are in conflict)",
+            ],
+        )
+        self.assertIn("default schedule: ended in a conflict of modes, ", figure_tables.tables(found))
+        self.assertEqual(requirements.judge_all(found, []), [])
+
+    @needs_program
+    def test_the_modes_of_an_example_are_in_conflict(self):
+        files = [os.path.join(sample_runs.EXAMPLES, "modes", name) for name in ("conflict.json", "stimuli.json")]
+        status, printed, _ = called(MAIN, "--mcos", PROGRAM, "--require", "all cores refused=0", *files)
+        self.assertEqual((status, printed.splitlines()[-1][:9]), (1, "not met: "))
 
 
 @needs_program
