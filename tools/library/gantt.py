@@ -23,25 +23,40 @@ BAR = 12  # of a running job; the other states are lower
 _HEIGHTS = {RUNNING: BAR, INTERRUPTED: BAR, READY: 6, WAITING: 2}
 NEAREST = 18  # between two numbers on the axis
 
-# The colours are those of Okabe and Ito, which also colour-blind people tell apart; on dark ground they are lighter.
-_STYLE = """
-  svg { --ground: #ffffff; --text: #1f2328; --faint: #656d76; --line: #d0d7de; --band: #f6f8fa;
-        --running: #0072b2; --ready: #e69f00; --waiting: #8c959f; --held: #cc79a7; --error: #d1242f; --flow: #009e73; }
-  @media (prefers-color-scheme: dark) {
-    svg { --ground: #0d1117; --text: #e6edf3; --faint: #9198a1; --line: #30363d; --band: #161b22; --running: #56b4e9;
-          --ready: #f0b429; --waiting: #7d8590; --held: #e39ac2; --error: #ff7b72; --flow: #3fd0a0; }
-  }
-  text { font: 12px system-ui, "Segoe UI", "DejaVu Sans", sans-serif; fill: var(--text); }
-  .ground { fill: var(--ground); } .band { fill: var(--band); } .line { stroke: var(--line); stroke-width: 1; }
-  .faint { fill: var(--faint); font-size: 10px; } .core { font-weight: 600; }
-  .middle { text-anchor: middle; } .end { text-anchor: end; }
-  .running { fill: var(--running); } .ready { fill: var(--ready); } .waiting { fill: var(--waiting); }
-  .interrupted { fill: var(--running); opacity: 0.4; }
-  .held { fill: var(--held); } .tick { stroke: var(--faint); stroke-width: 1; }
-  .error { stroke: var(--error); stroke-width: 2; fill: none; }
-  .edge { stroke: var(--ground); stroke-width: 5; fill: none; }
-  .flow { stroke: var(--flow); stroke-width: 1.2; fill: none; } .head { fill: var(--flow); }
-"""
+# What has a colour, by the reader's choice of light or dark. The colours are those of Okabe and Ito, which also colour-blind
+# people tell apart; on dark ground they are lighter. Each is written out, since many viewers know no variables of CSS.
+_COLOURS = (
+    ("text", "fill", "#1f2328", "#e6edf3"),
+    (".ground", "fill", "#ffffff", "#0d1117"),
+    (".band", "fill", "#f6f8fa", "#161b22"),
+    (".line", "stroke", "#d0d7de", "#30363d"),
+    (".faint", "fill", "#656d76", "#9198a1"),
+    (".running", "fill", "#0072b2", "#56b4e9"),
+    (".interrupted", "fill", "#0072b2", "#56b4e9"),
+    (".ready", "fill", "#e69f00", "#f0b429"),
+    (".waiting", "fill", "#8c959f", "#7d8590"),
+    (".held", "fill", "#cc79a7", "#e39ac2"),
+    (".tick", "stroke", "#656d76", "#9198a1"),
+    (".error", "stroke", "#d1242f", "#ff7b72"),
+    (".edge", "stroke", "#ffffff", "#0d1117"),
+    (".flow", "stroke", "#009e73", "#3fd0a0"),
+    (".head", "fill", "#009e73", "#3fd0a0"),
+)
+
+
+def _style() -> str:
+    """The style sheet. Behind `:root` a rule for dark ground goes before the other one; LibreOffice, which takes what
+    stands in `@media` as if it held always, passes over it."""
+    light = "".join("  %s { %s: %s; }\n" % (what, how, colour) for what, how, colour, _ in _COLOURS)
+    dark = "".join("    :root %s { %s: %s; }\n" % (what, how, colour) for what, how, _, colour in _COLOURS)
+    return """
+  text { font-size: 12px; font-family: system-ui, "Segoe UI", "DejaVu Sans", sans-serif; }
+  .faint { font-size: 10px; } .core { font-weight: 600; } .middle { text-anchor: middle; } .end { text-anchor: end; }
+  .line, .tick { stroke-width: 1; } .interrupted { opacity: 0.4; } .error { stroke-width: 2; fill: none; }
+  .edge { stroke-width: 5; fill: none; } .flow { stroke-width: 1.2; fill: none; }
+%s  @media (prefers-color-scheme: dark) {
+%s  }
+""" % (light, dark)
 
 
 class Span(NamedTuple):
@@ -101,7 +116,7 @@ def picture(jobs: Jobs, span: Span, width: int, title: str) -> str:
         '<svg xmlns="http://www.w3.org/2000/svg" width="%d" height="%d" viewBox="0 0 %d %d" role="img">'
         % (width, layout.height, width, layout.height),
         "<title>%s</title>" % escape(title),
-        "<style>%s</style>" % _STYLE,
+        "<style>%s</style>" % _style(),
         '<rect class="ground" width="%d" height="%d"/>' % (width, layout.height),
     ]
     parts += _legend(layout.left)

@@ -3,8 +3,11 @@
 import os
 import re
 import runpy
+import shutil
+import subprocess
 import sys
 import unittest
+import zlib
 from xml.etree import ElementTree
 
 sys.path.insert(0, os.path.dirname(os.path.abspath(__file__)))
@@ -24,6 +27,19 @@ def drawn(text):
         if title is not None and "class" in shape.attrib:
             found.setdefault(shape.attrib["class"], []).append((title.text, shape.attrib))
     return found
+
+
+def pixel(text, x, y):
+    """The red, green and blue of the picture at a place, as rsvg-convert draws it: as a picture of one pixel."""
+    one, places = re.subn(
+        r' width="\d+" height="\d+" viewBox="[\d ]+"', ' width="1" height="1" viewBox="%d %d 1 1"' % (x, y), text, count=1
+    )
+    assert places == 1
+    png = subprocess.run(["rsvg-convert"], input=one.encode(), capture_output=True, check=True).stdout
+    size = int.from_bytes(png[png.index(b"IDAT") - 4 :][:4], "big")
+    data = zlib.decompress(png[png.index(b"IDAT") + 4 :][:size])
+    # The first byte says how the line is packed, which changes nothing in a line of one pixel.
+    return tuple(data[1:4])
 
 
 def texts(text):
@@ -87,6 +103,20 @@ class First(unittest.TestCase):
         empty = timeline.Timeline(self.jobs.timeline.run, ())
         with self.assertRaisesRegex(ending.Failed, "^the run has no turn in which something happens$"):
             gantt.span_of_ticks(empty, 0, None, None)
+
+
+class Colours(unittest.TestCase):
+    """The picture of the documents, which is what the tool draws."""
+
+    def test_many_viewers_know_no_variables(self):
+        self.assertNotIn("var(", sample_runs.read("docs", "engine.svg"))
+
+    @unittest.skipUnless(shutil.which("rsvg-convert"), "rsvg-convert is not installed")
+    def test_pixels(self):
+        picture = sample_runs.read("docs", "engine.svg")
+        self.assertEqual(pixel(picture, 600, 100), (0xFF, 0xFF, 0xFF))
+        self.assertEqual(pixel(picture, 600, 50), (0xF6, 0xF8, 0xFA))
+        self.assertEqual(pixel(picture, 150, 18), (0x00, 0x72, 0xB2))
 
 
 class Commands(unittest.TestCase):
