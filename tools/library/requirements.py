@@ -2,8 +2,8 @@
 
 import operator
 import re
-from dataclasses import dataclass
-from typing import Any, Callable, Dict, List, Optional, Tuple
+from dataclasses import dataclass, replace
+from typing import Any, Callable, Dict, List, Optional, Sequence, Tuple
 
 from library.figures import Figures, tasks_and_isrs, units_of
 from library.findings import did_you_mean, listed
@@ -35,15 +35,41 @@ class WrongRequirement(ValueError):
 
 
 @dataclass(frozen=True)
+class Requirement:
+    """A requirement as it was given: its text, its id if it has one, and its place if it stands in a file."""
+
+    text: str
+    id: Optional[str] = None
+    path: Optional[str] = None
+    line: Optional[int] = None
+
+    @property
+    def title(self) -> str:
+        """The text with the id before it."""
+        return "%s: %s" % (self.id, self.text) if self.id is not None else self.text
+
+    @property
+    def place(self) -> str:
+        """What a message about it begins with; nothing if it stands in no file."""
+        return "%s:%d: " % (self.path, self.line) if self.path is not None else ""
+
+
+@dataclass(frozen=True)
 class Verdict:
-    """Whether a requirement is met, and by what."""
+    """Whether a requirement is met, and by what; of one that was given also how."""
 
     text: str
     is_met: bool
     found: str
+    requirement: Optional[Requirement] = None
+
+    @property
+    def title(self) -> str:
+        """The text, with the id of the requirement before it if it has one."""
+        return self.requirement.title if self.requirement is not None else self.text
 
     def __str__(self) -> str:
-        return "%s: %s (%s)" % ("met" if self.is_met else "not met", self.text, self.found)
+        return "%s: %s (%s)" % ("met" if self.is_met else "not met", self.title, self.found)
 
 
 @dataclass(frozen=True)
@@ -167,11 +193,24 @@ def _still(wanted: _Wanted, found: Figures) -> bool:
     return so_far < wanted.number if wanted.sign == "<" else so_far <= wanted.number
 
 
-def judge_all(figures: Figures, texts: List[str]) -> List[Verdict]:
+def judge_all(figures: Figures, texts: Sequence[str]) -> List[Verdict]:
     """Judges requirements, and with them that the run ended, and that the cores agreed on a mode."""
-    verdicts = [judge(figures, text) for text in texts]
+    return judge_given(figures, [Requirement(text) for text in texts])
+
+
+def judge_given(figures: Figures, given: Sequence[Requirement]) -> List[Verdict]:
+    """Judges requirements that may have an id and a place, with them what `judge_all` judges."""
+    verdicts = [_judge_given(figures, requirement) for requirement in given]
     if verdicts and not figures["run"]["ended"]:
         verdicts.append(Verdict("the run ends", False, "it stalled"))
     if verdicts and figures["run"]["conflict"]:
         verdicts.append(Verdict("the cores agree on a mode", False, "their modes are in conflict"))
     return verdicts
+
+
+def _judge_given(figures: Figures, requirement: Requirement) -> Verdict:
+    """Judges a requirement. What is wrong with one of a file is reported with its place."""
+    try:
+        return replace(judge(figures, requirement.text), requirement=requirement)
+    except WrongRequirement as wrong:
+        raise WrongRequirement(requirement.place + str(wrong)) from None

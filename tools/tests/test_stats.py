@@ -12,7 +12,9 @@ sys.path.insert(0, os.path.dirname(os.path.abspath(__file__)))
 import documents  # noqa: E402
 import sample_runs  # noqa: E402
 from sample_runs import PROGRAM, TOOLS, called, first_timeline, needs_program  # noqa: E402
-from library import columns, figure_tables, figures, jobs, requirements, runs, timeline, turns  # noqa: E402
+from library import columns, ending, figure_tables, figures, jobs, requirements, runs, timeline, turns  # noqa: E402
+from library.requirement_files import read_requirements  # noqa: E402
+from library.requirements import Requirement  # noqa: E402
 
 MAIN = runpy.run_path(os.path.join(TOOLS, "stats"))["main"]
 
@@ -53,6 +55,23 @@ WRONG = [
     ("mailbox 0 to 0 fullest<1", "there is no mailbox from core 0 to core 0"),
     ("chain A > B fullest<1", "has the figures complete, open, broken and length"),
     ("chain A > B length<9 ticks", "the unit is rounds"),
+]
+# The text of a file of requirements, and what is in it: the line, the id and the requirement.
+FILES = [
+    ("A lost=0", [(1, None, "A lost=0")]),
+    ("\ufeff# of A\r\n\r\n  R-1 :A lost=0  # none\r\n", [(3, "R-1", "A lost=0")]),
+    ("R-1: A lost=0\nR-1: B lost=0\n", [(1, "R-1", "A lost=0"), (2, "R-1", "B lost=0")]),
+    ("SYS#12: A lost=0\t#", [(1, "SYS#12", "A lost=0")]),
+    ("doors:12: chain A > B broken=0", [(1, "doors:12", "chain A > B broken=0")]),
+    ("\u00e4: A\x0clost=0\n\n", [(1, "\u00e4", "A\x0clost=0")]),
+]
+ONE_WORD = "an id is one word, as in `BRK-12: T1ms lost=0`"
+WRONG_FILES = [
+    (b"", ": there is no requirement in it"),
+    (b"# A lost=0\n \n", ": there is no requirement in it"),
+    (b"A lost=0\nR 1: A lost=0\n", ":2: 'R 1: A lost=0' is no requirement: " + ONE_WORD),
+    (b": A lost=0\n", ":1: ': A lost=0' is no requirement: " + ONE_WORD),
+    (b"\xff", ": this is no UTF-8"),
 ]
 # A time of a job that still goes on: the requirement, what is done, what still goes on, and whether it is met.
 STILL = [
@@ -234,11 +253,55 @@ class Requirements(unittest.TestCase):
         self.assertIn("default schedule: ended in a conflict of modes, ", figure_tables.tables(found))
         self.assertEqual(requirements.judge_all(found, []), [])
 
+    def test_an_id_and_a_place(self):
+        found = first_figures()
+        given = [Requirement("A lost=0", "R-1", "a.txt", 7), Requirement("B lost=1")]
+        lines = [str(verdict) for verdict in requirements.judge_given(found, given)]
+        self.assertEqual(lines, ["met: R-1: A lost=0 (0)", "not met: B lost=1 (0)"])
+        with self.assertRaisesRegex(requirements.WrongRequirement, "^a.txt:7: 'A' is no requirement"):
+            requirements.judge_given(found, [Requirement("A", "R-1", "a.txt", 7)])
+
     @needs_program
     def test_the_modes_of_an_example_are_in_conflict(self):
         files = [os.path.join(sample_runs.EXAMPLES, "modes", name) for name in ("conflict.json", "stimuli.json")]
         status, printed, _ = called(MAIN, "--mcos", PROGRAM, "--require", "all cores refused=0", *files)
         self.assertEqual((status, printed.splitlines()[-1][:9]), (1, "not met: "))
+
+
+class RequirementFiles(unittest.TestCase):
+    def setUp(self):
+        folder = tempfile.TemporaryDirectory()
+        self.addCleanup(folder.cleanup)
+        self.path = os.path.join(folder.name, "requirements.txt")
+
+    def read(self, data):
+        """The requirements in a file of these bytes."""
+        with open(self.path, "wb") as file:
+            file.write(data)
+        return read_requirements(self.path)
+
+    def test_right_files(self):
+        for text, expected in FILES:
+            with self.subTest(text=text):
+                found = [(each.line, each.id, each.text) for each in self.read(text.encode())]
+                self.assertEqual(found, expected)
+
+    def test_wrong_files(self):
+        for data, words in WRONG_FILES:
+            with self.subTest(data=data), self.assertRaises(requirements.WrongRequirement) as wrong:
+                self.read(data)
+            self.assertEqual(str(wrong.exception), self.path + words)
+
+    def test_no_file(self):
+        with self.assertRaisesRegex(ending.Failed, "cannot be read"):
+            read_requirements(self.path)
+
+    def test_a_wrong_file_is_reported_before_the_run(self):
+        with open(self.path, "wb"):
+            pass
+        status, output, messages = called(MAIN, "--mcos", "none", "--requirements", self.path, "a", "b")
+        self.assertEqual((status, output), (2, ""))
+        self.assertIn("requirements.txt: there is no requirement in it\n", messages)
 
 
 @needs_program
@@ -358,6 +421,22 @@ class Commands(unittest.TestCase):
         self.assertEqual((status, output), (0, "met: T1ms lost=0 (0)\nmet: T10ms response<=2 ticks (2 to 2 ticks)\n"))
         status, output, _ = self.run_stats("--require", "all cores lost=0")
         self.assertEqual((status, output), (1, "not met: all cores lost=0 (1)\n"))
+
+    def test_a_file_of_requirements(self):
+        text, printed = documents.example("This is `requirements.txt`:").split("$ tools/stats --requirements ")
+        text = text.strip("\n") + "\n"
+        with tempfile.TemporaryDirectory() as folder:
+            path = os.path.join(folder, "requirements.txt")
+            ending.save(path, text)
+            status, output, messages = self.run_stats("--requirements", path)
+            self.assertEqual((status, output, messages), (0, printed.partition("\n")[2], ""))
+            status, output, _ = self.run_stats("--requirements", path, "--require", "all cores lost=0")
+            self.assertEqual(status, 1)
+            self.assertEqual(output.splitlines()[:2], ["not met: all cores lost=0 (1)", "met: ENG-1: T1ms lost=0 (0)"])
+            ending.save(path, text + "ENG-4: T1m lost=0\n")
+            status, output, messages = self.run_stats("--requirements", path)
+            self.assertEqual((status, output), (2, ""))
+            self.assertIn(":5: 'T1m lost=0': no task and no ISR is called `T1m`; did you mean", messages)
 
     def test_wrong_usage(self):
         status, output, messages = self.run_stats("--require", "T1m lost=0")
