@@ -20,7 +20,7 @@ WORDS = [
 # Those that run the program, and how.
 FIRST = ["examples/first/config.json", "examples/first/stim.json"]
 RUNS = [["timeline"], ["timeline", "--check", "1"], ["stats"], ["stats", "--json"], ["export", "vcd"], ["gantt"]]
-RUNS += [["stats", "--require", "A lost=0"]]
+RUNS += [["stats", "--require", "A lost=0"], ["stats", "--format", "junit", "--require", "A lost=0"]]
 
 
 def shell(command, words):
