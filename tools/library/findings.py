@@ -3,7 +3,7 @@
 import difflib
 import re
 from dataclasses import dataclass
-from typing import Iterable, List, Optional
+from typing import Dict, Iterable, List, Optional, Union
 
 from library.formats import Fault
 from library.places import Document, Json, Place
@@ -30,6 +30,12 @@ class Finding:
         what = str(self.fault) if self.fault is not None else "note"
         pointer = self.pointer or '""'
         return "%s:%d:%d: %s: %s: %s" % (path, self.place.line, self.place.column, what, pointer, self.text)
+
+    def members(self, path: str) -> Dict[str, Union[str, int, None]]:
+        """The members of the object that a report in JSON has for it."""
+        number, name = (self.fault.number, self.fault.name) if self.fault is not None else (None, "note")
+        place = {"file": path, "line": self.place.line, "column": self.place.column}
+        return {**place, "fault": number, "name": name, "pointer": self.pointer, "text": self.text}
 
 
 class Report:

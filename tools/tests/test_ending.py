@@ -15,6 +15,7 @@ WORDS = [
     ["border", "examples/first/config.json"],
     ["expand", "examples/first/config.json"],
     ["explain", "examples/faults/limit.json"],
+    ["explain", "--json", "examples/faults/limit.json"],
     ["schemas"],
 ]
 # Those that run the program, and how.

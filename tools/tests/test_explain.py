@@ -1,7 +1,9 @@
 """Tests of tools/explain: each usual mistake is found, with its file, line, column and number."""
 
 import contextlib
+import json
 import os
+import re
 import runpy
 import subprocess
 import sys
@@ -1039,6 +1041,13 @@ def lines_of(judgement, path):
     return [finding.line(path) for finding in judgement.findings]
 
 
+def line_of(members):
+    """The line for a finding, from its members in JSON."""
+    what = "note" if members["fault"] is None else "fault %d %s" % (members["fault"], members["name"])
+    words = (members["file"], members["line"], members["column"], what, members["pointer"] or '""', members["text"])
+    return "%s:%d:%d: %s: %s: %s" % words
+
+
 def run(program, *words, folder=None):
     """The exit status, the standard output and the standard error of a command."""
     ran = subprocess.run([program, *words], cwd=folder, capture_output=True, timeout=60)
@@ -1178,6 +1187,37 @@ class Files(unittest.TestCase):
         status, lines, _ = explain(self.folder, "config.json")
         self.assertEqual(1, status)
         self.assertIn('config.json:1:1: fault 1 NotJson: "": the file begins with a byte order mark', lines[0])
+
+    def test_json(self):
+        self.assertEqual((0, ["[]"], ""), explain(self.folder, "--json", "config.json"))
+        self.write("config.json", BASE.replace('"ceiling": 20', '"ceiling": 10'))
+        self.write("stim.json", '{"0": "opp"}')
+        status, lines, _ = explain(self.folder, "--json", "config.json", "stim.json", "none.json")
+        found = json.loads("\n".join(lines))
+        self.assertEqual((1, 3), (status, len(found)))
+        place = {"file": "stim.json", "line": 1, "column": 8, "fault": 12, "name": "BadStimulus", "pointer": "/0"}
+        self.assertEqual(place, {name: found[0][name] for name in place})
+        place = {"file": "config.json", "line": 12, "column": 45, "fault": None, "name": "note"}
+        self.assertEqual(place, {name: found[1][name] for name in place})
+        whole = {"file": "none.json", "line": 1, "column": 1, "fault": None, "name": "note", "pointer": ""}
+        self.assertEqual({**whole, "text": "not judged, since stim.json has a fault"}, found[2])
+
+    def test_json_has_what_the_lines_have(self):
+        for case in CASES:
+            with self.subTest(case.title):
+                self.write("config.json", case.text)
+                status, lines, _ = explain(self.folder, "config.json")
+                status_of_json, text, _ = explain(self.folder, "--json", "config.json")
+                found = [line_of(members) for members in json.loads("\n".join(text))]
+                self.assertEqual((status, lines), (status_of_json, found))
+
+    def test_the_members_are_in_the_document(self):
+        self.write("config.json", "")
+        found = json.loads("\n".join(explain(self.folder, "--json", "config.json")[1]))
+        with open(os.path.join(ROOT, "docs", "TOOLS.md"), encoding="utf-8") as file:
+            table = file.read().partition("| Member | JSON type | What it is |\n")[2].partition("\n\n")[0]
+        first_cells = [line.split("|")[1] for line in table.splitlines()]
+        self.assertEqual(list(found[0]), re.findall(r"`(\w+)`", "".join(first_cells)))
 
     def test_a_cut(self):
         application = os.path.join(ROOT, "examples", "application", "config.json")
