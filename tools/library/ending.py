@@ -1,19 +1,35 @@
 """How a tool ends: with what it prints, or with a line that says why it prints nothing."""
 
+import contextlib
+import errno
 import os
 import signal
 import sys
-from typing import Callable
+from typing import BinaryIO, Callable, Iterator
+
+STANDARD_INPUT = "-"
 
 
 class Failed(Exception):
     """Why a tool has nothing to print: lines for the standard error."""
 
 
-def read(path: str) -> bytes:
-    """The bytes of a file."""
-    try:
+@contextlib.contextmanager
+def opened(path: str) -> Iterator[BinaryIO]:
+    """A file to read, or the standard input for `-`."""
+    if path != STANDARD_INPUT:
         with open(path, "rb") as file:
+            yield file
+    elif sys.stdin is None:
+        raise OSError(errno.EBADF, "the standard input is closed")
+    else:
+        yield sys.stdin.buffer
+
+
+def read(path: str, takes_input: bool = False) -> bytes:
+    """The bytes of a file; if that is wanted, those of the standard input for `-`."""
+    try:
+        with opened(path) if takes_input else open(path, "rb") as file:
             return file.read()
     except OSError as error:
         raise Failed("%s: cannot be read: %s" % (path, error.strerror)) from None

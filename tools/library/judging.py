@@ -1,9 +1,9 @@
 """All faults of a configuration, of stimuli for it and of a schedule, as docs/FORMATS.md orders them, and the notes."""
 
-import os
 from dataclasses import dataclass, replace
 from typing import Callable, List, Optional, Sequence, Tuple
 
+from library import ending
 from library.border import reasons
 from library.drafts import Draft, draft_of
 from library.findings import Finding, Report
@@ -124,20 +124,12 @@ def judge_files(
 
 
 def _judge_file(path: str, index: int, draft: Optional[Draft], sources: Optional[SourceMap]) -> Judgement:
-    """Judges the file at a path: the configuration, the stimuli or the schedule."""
+    """Judges the file at a path, or the standard input: the configuration, the stimuli or the schedule."""
     try:
-        with open(path, "rb") as file:
+        with ending.opened(path) as file:
             data = file.read(MOST_BYTES + 1)
     except OSError as error:
-        return Judgement((Finding(UNREADABLE, START, "", _unreadable(path, error)),))
+        return Judgement((Finding(UNREADABLE, START, "", error.strerror or str(error)),))
     if index == 0:
         return judge_configuration(data, sources)
     return (judge_stimuli if index == 1 else judge_schedule)(data, draft, sources)
-
-
-def _unreadable(path: str, error: OSError) -> str:
-    """Why a file cannot be read."""
-    reason = error.strerror or str(error)
-    if path == "-" and not os.path.exists(path):
-        return "%s: `-` is a file's name like any other; the standard input is `/dev/stdin`" % reason
-    return reason

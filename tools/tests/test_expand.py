@@ -427,6 +427,29 @@ class Whole(unittest.TestCase):
         message = "./no/b.map: cannot be written: No such file or directory\n"
         self.assertEqual(called(MAIN, "--map", "./no/b.map", "b.json"), (1, "", message))
 
+    def test_the_standard_input(self):
+        self.write("-", '{"0": "op"}')
+        self.assertEqual(self.expand_input('{"0": "2*op"}', "-"), (0, '{"0": "op op"}', ""))
+        self.assertEqual(self.expand_input("", "./-"), (0, '{"0": "op"}', ""))
+        message = "-:1:2: no JSON: the file ends here, and a value is wanted: `[` of line 1 is open\n"
+        self.assertEqual(self.expand_input("[", "-"), (1, "", message))
+        self.assertEqual(self.expand_input("{}", "--cut", "2", "-"), (0, "{}\n", "-: note: core 2 has no stimuli\n"))
+        self.expand_input('"2*0o"', "--map", "a.map", "-")
+        with open("a.map", encoding="utf-8") as file:
+            self.assertEqual(source_map.read_map(file.read()).source, "-")
+
+    def test_a_closed_standard_input(self):
+        words = ["sh", "-c", '"$@" - <&-', "sh", os.path.join(TOOLS, "expand")]
+        done = subprocess.run(words, capture_output=True, text=True, timeout=60)
+        self.assertEqual((done.returncode, done.stdout), (1, ""))
+        self.assertEqual(done.stderr, "-: cannot be read: the standard input is closed\n")
+
+    def expand_input(self, text, *words):
+        """The status, the output and the messages of the script with a text as its standard input."""
+        line = [os.path.join(TOOLS, "expand"), *words]
+        done = subprocess.run(line, input=text, capture_output=True, encoding="utf-8", timeout=60)
+        return done.returncode, done.stdout, done.stderr
+
     def test_kinds(self):
         self.write("a.json", '{"x": "2*op", "0": "2*op"}')
         self.assertEqual(called(MAIN, "a.json"), (0, '{"x": "2*op", "0": "2*op"}', ""))

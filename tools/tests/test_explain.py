@@ -1172,9 +1172,6 @@ class Files(unittest.TestCase):
         self.assertEqual((1, [expected], ""), explain(self.folder, "none.json"))
         self.assertEqual((1, ['.:1:1: fault 21 Unreadable: "": Is a directory'], ""), explain(self.folder, "."))
         self.assertEqual((1, [expected], ""), explain(self.folder, "config.json", "none.json"))
-        status, lines, _ = explain(self.folder, "-")
-        self.assertEqual(1, status)
-        self.assertIn("the standard input is `/dev/stdin`", lines[0])
 
     @unittest.skipIf(os.geteuid() == 0, "the superuser may read each file")
     def test_a_file_without_permission(self):
@@ -1271,6 +1268,37 @@ class Files(unittest.TestCase):
         self.assertEqual((0, "", ""), run(script, "config.json", "stim.json", "sched.json", folder=self.folder))
         expected = 'none.json:1:1: fault 21 Unreadable: "": No such file or directory\n'
         self.assertEqual((1, expected, ""), run(script, "none.json", folder=self.folder))
+
+    def test_the_standard_input(self):
+        status, output, messages = self.explain_input(CASES[0].text, "-")
+        expected = [line.replace("config.json:", "-:", 1) for line in CASES[0].lines]
+        self.assertEqual((1, expected, ""), (status, output.splitlines(), messages))
+        status, output, _ = self.explain_input('{"0": "opp"}', "config.json", "-")
+        self.assertEqual((1, "-:1:8: fault 12 BadStimulus"), (status, output.split(": /")[0]))
+        status, output, _ = self.explain_input('"9"', "config.json", "stim.json", "-")
+        self.assertEqual((1, "-:1:2: fault 13 BadSchedule"), (status, output.split(': "')[0]))
+
+    def test_a_file_that_is_called_as_the_standard_input(self):
+        self.write("-", "")
+        self.assertEqual((0, "", ""), self.explain_input(BASE, "-"))
+        self.assertIn("./-:1:1: fault 1 NotJson: ", self.explain_input(BASE, "./-")[1])
+
+    def test_the_standard_input_twice(self):
+        status, output, messages = self.explain_input(BASE, "-", "-")
+        self.assertEqual((2, ""), (status, output))
+        self.assertIn("error: `-` is the standard input, and may stand once\n", messages)
+
+    def test_a_closed_standard_input(self):
+        words = ["sh", "-c", '"$@" - <&-', "sh", os.path.join(TOOLS, "explain")]
+        done = subprocess.run(words, capture_output=True, text=True, timeout=60)
+        expected = '-:1:1: fault 21 Unreadable: "": the standard input is closed\n'
+        self.assertEqual((1, expected, ""), (done.returncode, done.stdout, done.stderr))
+
+    def explain_input(self, text, *words):
+        """The status, the output and the messages of the script with a text as its standard input."""
+        line = [os.path.join(TOOLS, "explain"), *words]
+        done = subprocess.run(line, cwd=self.folder, input=text, capture_output=True, encoding="utf-8", timeout=60)
+        return done.returncode, done.stdout, done.stderr
 
     def test_help(self):
         status, lines, _ = explain(self.folder, "--help")
