@@ -22,7 +22,7 @@ FORMATS = verdict_formats.FORMATS
 
 # Whatever a format has to escape: `<`, quotes, `#`, a backslash, `,`, `:`, `%`, a control character, a line end, and half
 # of a surrogate pair, as a path has it that is no UTF-8.
-STRANGE = Requirement("chain A\x01 > B<&\"' broken=0", "S#1,%:\\", "a\n,:%\udc80.txt", 3)
+STRANGE = Requirement("chain A\x01 > B<&\"' broken=0", "S#1,%2C:\\", "a\n,:%\udc80.txt", 3)
 VERDICTS = [
     Verdict("A lost=0", True, "0", Requirement("A lost=0", "R-1", "a.txt", 1)),
     Verdict("B lost=0", False, "1", Requirement("B lost=0")),
@@ -84,7 +84,7 @@ class JUnit(unittest.TestCase):
         suite = ElementTree.fromstring(FORMATS["junit"].of_verdicts('"\x00<', VERDICTS).encode())[0]
         self.assertEqual((suite.get("name"), suite.get("tests"), suite.get("failures")), ('"\\u0000<', "4", "3"))
         case = suite[2]
-        self.assertEqual(case.get("name"), "S#1,%:\\: chain A\\u0001 > B<&\"' broken=0")
+        self.assertEqual(case.get("name"), "S#1,%2C:\\: chain A\\u0001 > B<&\"' broken=0")
         self.assertEqual((case.get("file"), case.get("line")), ("a\\n,:%\\udc80.txt", "3"))
         self.assertEqual([len(case) for case in suite], [0, 1, 1, 1])
         self.assertEqual(suite[3][0].get("message"), "not met: the run ends (it stalled)")
@@ -116,7 +116,7 @@ class Tap(unittest.TestCase):
         lines = FORMATS["tap"].of_verdicts("run", VERDICTS).splitlines()
         self.assertEqual(lines[:3], ["TAP version 13", "1..4", "ok 1 - R-1: A lost=0"])
         self.assertEqual(lines[3:7], ["not ok 2 - B lost=0", "  ---", '  found: "1"', "  ..."])
-        self.assertEqual(lines[7], "not ok 3 - S\\#1,%:\\\\: chain A\\\\u0001 > B<&\"' broken=0")
+        self.assertEqual(lines[7], "not ok 3 - S\\#1,%2C:\\\\: chain A\\\\u0001 > B<&\"' broken=0")
         self.assertEqual(lines[10:12], ['  file: "a\\\\n,:%\\\\udc80.txt"', "  line: 3"])
 
     def test_no_run(self):
