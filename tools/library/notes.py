@@ -19,10 +19,13 @@ from library.formats import (
     NAMED_LISTS,
     NO_OBJECT,
     OF_SPINLOCKS,
+    SPIN_ORDER,
     UNKNOWN_NAME,
+    WRONG_CORE,
     Fault,
     words_of,
 )
+from library.held import refused_steps
 from library.not_json import shown
 from library.places import Json, JsonText
 from library.steps import Step, is_action, steps_of, value_of
@@ -94,6 +97,8 @@ class _Notes:
             self._unused()
             self._unshared()
             self._unset_events()
+        if not self._has(LIMIT, DUPLICATE_NAME, UNKNOWN_NAME, WRONG_CORE, SPIN_ORDER, BAD_SCRIPT):
+            self._held()
 
     def _has(self, *faults: Fault) -> bool:
         """Whether the configuration has one of these faults."""
@@ -212,6 +217,14 @@ class _Notes:
                 self._note(use, 0, use.refusal)
             elif use.name in judges and (use.name == "StartCore" or NO_OBJECT not in use.words):
                 judges[use.name](use)
+
+    def _held(self) -> None:
+        """Operations that are refused for what the job holds, whichever way it comes there."""
+        for core in self.draft.cores:
+            for scripted in core.scripted:
+                for refused in refused_steps(self.draft, scripted):
+                    use = _Use(scripted.spot("script"), refused.step, core, scripted)
+                    self._note(use, refused.word, refused.text)
 
     def _start(self, use: _Use) -> None:
         """A StartCore in a script, which starts nothing."""
