@@ -26,7 +26,6 @@ from library.steps import Step, steps_of, value_of
 _MOST_STATES = 5000
 # What a call is refused for that is not what the job holds: other notes say that.
 _OTHERWISE = "otherwise"
-_BEHIND_OTHERS = "; or, another way, "
 
 
 class State(NamedTuple):
@@ -129,7 +128,7 @@ class _Walk:
             text = _joined(refusals[state] for state in states)
             if text:
                 texts.setdefault(text, []).append(-1 if origin is None else origin)
-        return _BEHIND_OTHERS.join("%s %s" % (_behind(texts[text]), text) for text in sorted(texts))
+        return "; and ".join("%s %s" % (_behind(texts[text]), text) for text in sorted(texts))
 
     def _outcome(self, step: Step, state: State) -> _Outcome:
         """What an operation does in a state."""
@@ -292,7 +291,7 @@ def _behind(places: List[int]) -> str:
 def _joined(refusals: Iterable[str]) -> str:
     """Why an operation is refused on some ways, if it is refused on each of them for what the job holds."""
     texts = sorted(set(refusals))
-    return _BEHIND_OTHERS.join(texts) if texts and not {"", _OTHERWISE} & set(texts) else ""
+    return "; or ".join(texts) if texts and not {"", _OTHERWISE} & set(texts) else ""
 
 
 def _shown(kind: str, names: Tuple[str, ...]) -> str:
