@@ -72,7 +72,7 @@ def refused_steps(draft: Draft, scripted: Named) -> Iterator[Refused]:
 
     If they are not refused on all ways, they may be so on each way from one operation. All operations are in form.
     """
-    walk = _Walk(draft, scripted)
+    walk = Walk(draft, scripted)
     if not walk.go():
         return
     for step in walk.steps:
@@ -82,7 +82,7 @@ def refused_steps(draft: Draft, scripted: Named) -> Iterator[Refused]:
             yield Refused(step, word, text)
 
 
-class _Walk:
+class Walk:
     """The ways of one script: the refusals by operation and state, and the states by operation and the one before."""
 
     def __init__(self, draft: Draft, scripted: Named):
@@ -116,6 +116,10 @@ class _Walk:
             if seen > _MOST_STATES:
                 return False
         return True
+
+    def states(self, place: int) -> List[State]:
+        """The states in which a job can come to an operation."""
+        return list(self.refusals.get(place, {}))
 
     def refusal(self, step: Step) -> str:
         """Why an operation is refused on all ways, or on all ways from some operations; empty if neither is so."""

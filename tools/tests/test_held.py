@@ -1,4 +1,4 @@
-"""Tests of the notes of tools/explain on what jobs hold: which operations must be refused, and that they are."""
+"""Tests of the notes of tools/explain on what jobs hold: they are what a run of the program answers."""
 
 import json
 import os
@@ -150,6 +150,136 @@ EXAMPLES = {
     "resources/refusals.json": ("3 E_OS_ACCESS", "5 E_OS_NOFUNC", "7 E_OS_RESOURCE"),
     "spinlocks/config.json": ("1 E_OS_INTERFERENCE_DEADLOCK", "2 E_OS_NESTING_DEADLOCK", "3 E_OS_SPINLOCK"),
 }
+# A core with the tasks and ISRs of a case and an alarm with its action, and a second core that gets both spinlocks.
+PAIR_FRAME = """\
+{"modes": ["M", "N"], "spinlocks": [{"name": "X", "next": "Y"}, {"name": "Y"}],
+ "cores": [
+  {"id": 0, "start": [1], "counters": [{"name": "C", "max": 9}],
+   "resources": [{"name": "R", "ceiling": 2}],
+   "tasks": [%s], "isrs": [%s],
+   "alarms": [{"name": "A", "counter": "C", "action": "ActivateTask %s",
+               "auto": {"modes": ["M"], "start": 3, "cycle": 3}}]},
+  {"id": 1, "tasks": [{"name": "Far", "prio": 1, "auto": ["M", "N"],
+    "script": "GetSpinlock X;GetSpinlock Y;ReleaseSpinlock Y;ReleaseSpinlock X;TerminateTask"}]}]}
+"""
+TASK = '{"name": "%s", "prio": %d, %s"script": "%s"}'
+END = "TerminateTask"
+LONG = "GetSpinlock X;work;work;work;ReleaseSpinlock X;" + END
+SHORT = "GetSpinlock X;ReleaseSpinlock X;" + END
+AUTO, NONE = '"auto": ["M"], ', ""
+LOW = TASK % ("Low", 1, AUTO, LONG)
+PREEMPTED = ("1 `High` can preempt",)
+
+
+def tasks(*members):
+    """The tasks of a pair's configuration."""
+    return ", ".join(members)
+
+
+PAIRS = (
+    ("an alarm", tasks(LOW, TASK % ("High", 2, NONE, SHORT)), "", "High", PREEMPTED),
+    ("an equal priority", tasks(LOW, TASK % ("High", 1, NONE, SHORT)), "", "High", ()),
+    ("what only autostarts has run", tasks(LOW, TASK % ("High", 2, AUTO, SHORT)), "", "Low", ()),
+    (
+        "what only autostarts and goes on by itself",
+        tasks(LOW, TASK % ("High", 2, AUTO, SHORT.replace("TerminateTask", "ChainTask High"))),
+        "",
+        "Low",
+        (),
+    ),
+    (
+        "the holder activates it",
+        tasks(TASK % ("Low", 1, AUTO, LONG.replace("work", "ActivateTask High", 1)), TASK % ("High", 2, NONE, SHORT)),
+        "",
+        "Low",
+        PREEMPTED,
+    ),
+    (
+        "the holder activates it before",
+        tasks(TASK % ("Low", 1, AUTO, "ActivateTask High;" + LONG), TASK % ("High", 2, NONE, SHORT)),
+        "",
+        "Low",
+        (),
+    ),
+    (
+        "it waits for an event of the alarm's task",
+        tasks(
+            LOW,
+            TASK % ("High", 2, AUTO + '"extended": true, ', "WaitEvent 1;" + SHORT),
+            TASK % ("Top", 3, NONE, "SetEvent High 1;TerminateTask"),
+        ),
+        "",
+        "Top",
+        PREEMPTED,
+    ),
+    (
+        "a lower task activates it",
+        tasks(LOW, TASK % ("High", 2, NONE, SHORT), TASK % ("Idle", 0, AUTO, "ActivateTask High;TerminateTask")),
+        "",
+        "Low",
+        (),
+    ),
+    (
+        "not preemptable",
+        tasks(TASK % ("Low", 1, AUTO + '"preemptable": false, ', LONG), TASK % ("High", 2, NONE, SHORT)),
+        "",
+        "High",
+        (),
+    ),
+    (
+        "a ceiling",
+        tasks(
+            TASK % ("Low", 1, AUTO, "GetResource R;GetSpinlock X;work;ReleaseSpinlock X;ReleaseResource R;" + END),
+            TASK % ("High", 2, NONE, SHORT),
+        ),
+        "",
+        "High",
+        (),
+    ),
+    (
+        "a resource that is given back too early",
+        tasks(
+            TASK % ("Low", 1, AUTO, "GetResource R;GetSpinlock X;ReleaseResource R;work;work;ReleaseSpinlock X;" + END),
+            TASK % ("High", 2, NONE, SHORT),
+        ),
+        "",
+        "High",
+        ("3 `High` can preempt",),
+    ),
+    ("another spinlock", tasks(LOW, TASK % ("High", 2, NONE, SHORT.replace("X", "Y"))), "", "High", ()),
+    ("another mode", tasks(LOW, TASK % ("High", 2, '"auto": ["N"], ', SHORT)), "", "Low", ()),
+    (
+        "an alarm that another mode sets",
+        tasks(TASK % ("Low", 1, '"auto": ["N"], ', LONG), TASK % ("High", 2, NONE, SHORT)),
+        "",
+        "High",
+        (),
+    ),
+    (
+        "an ISR",
+        LOW,
+        '{"name": "I", "level": 1, "script": "GetSpinlock X;ReleaseSpinlock X"}',
+        "Low",
+        ("1 `I` can interrupt",),
+    ),
+    (
+        "an ISR and suspended interrupts",
+        TASK % ("Low", 1, AUTO, "SuspendAllInterrupts;GetSpinlock X;work;ReleaseSpinlock X;ResumeAllInterrupts;" + END),
+        '{"name": "I", "level": 1, "script": "GetSpinlock X;ReleaseSpinlock X"}',
+        "Low",
+        (),
+    ),
+    (
+        "an ISR and a task",
+        tasks(LOW, TASK % ("High", 2, NONE, SHORT)),
+        '{"name": "I", "level": 1, "script": "GetSpinlock X;ReleaseSpinlock X"}',
+        "High",
+        ("1 `High` and `I` can interrupt or preempt", "1 `I` can interrupt"),
+    ),
+)
+PAIR_NOTE = re.compile(
+    r"operation ([0-9]+) `[^`]*`: the job can hold `X` here, and (.*) it and ask for that: E_OS_INTERFERENCE_DEADLOCK"
+)
 NOTE = re.compile(r"operation ([0-9]+) `[^`]*`: (.*\bthe job (?:holds|still holds|does not hold) .*)")
 
 
@@ -157,6 +287,13 @@ def held_notes(text: bytes) -> List[str]:
     """The notes on what jobs hold: the number of the operation, and the text."""
     findings = judge_configuration(text).findings
     return [" ".join(found.groups()) for found in map(NOTE.fullmatch, (each.text for each in findings)) if found]
+
+
+def pair_notes(text: str) -> List[str]:
+    """The notes on pairs of jobs: the number of the operation, and who can preempt the job."""
+    judgement = judge_configuration(text.encode())
+    found = (PAIR_NOTE.fullmatch(each.text) for each in judgement.findings)
+    return [" ".join(each.groups()) for each in found if each]
 
 
 class Notes(unittest.TestCase):
@@ -211,6 +348,18 @@ class Notes(unittest.TestCase):
                         found[key] = tuple("%s %s" % (note[0], note[-1]) for note in notes)
         self.assertEqual(EXAMPLES, found)
 
+    def test_pairs(self):
+        for title, members, isrs, alarm, notes in PAIRS:
+            with self.subTest(title):
+                self.assertEqual(list(notes), pair_notes(PAIR_FRAME % (members, isrs, alarm)))
+
+    def test_no_pair_of_the_examples(self):
+        for folder, _, files in os.walk(os.path.join(ROOT, "examples")):
+            for name in files:
+                if name.endswith(".json"):
+                    with open(os.path.join(folder, name), encoding="utf-8") as file:
+                        self.assertEqual([], pair_notes(file.read()), name)
+
 
 @needs_program
 class Program(unittest.TestCase):
@@ -253,6 +402,14 @@ class Program(unittest.TestCase):
         for script, notes in ISR_SCRIPTS:
             with self.subTest(script=script):
                 self.assert_answered("I", notes, self.answers("TerminateTask", script))
+
+    def test_each_pair(self):
+        """A run has the refusal if it is noted, and has none if it is not."""
+        words = ["op", "op", "irq=I", "op", "tick", "op", "tick"] + ["tick", "op"] * 20
+        for title, members, isrs, alarm, notes in PAIRS:
+            stimuli = {"0": " ".join(word for word in words if isrs or word != "irq=I"), "1": "op op op op op"}
+            with self.subTest(title), written(PAIR_FRAME % (members, isrs, alarm), stimuli) as source:
+                self.assertEqual(bool(notes), "E_OS_INTERFERENCE_DEADLOCK" in source.printed().text)
 
 
 if __name__ == "__main__":
