@@ -23,7 +23,7 @@ from library.formats import (
 from library.steps import Step, steps_of, value_of
 
 # The most pairs of an operation and a state that a walk looks at. Of a script with more nothing is said.
-_MOST_STATES = 5000
+_MOST_STATES = 2000
 # What a call is refused for that is not what the job holds: other notes say that.
 _OTHERWISE = "otherwise"
 
@@ -67,14 +67,20 @@ class Refused:
     text: str
 
 
-def refused_steps(draft: Draft, scripted: Named) -> Iterator[Refused]:
+def walks_of(draft: Draft) -> Dict[Named, "Walk"]:
+    """The walks of the scripts that take or get anything, or give it back, if they came to an end.
+
+    All operations are in form.
+    """
+    scripted = (each for core in draft.cores for each in core.scripted)
+    return {each: walk for each in scripted for walk in (Walk(draft, each),) if walk.go()}
+
+
+def refused_steps(walk: "Walk") -> Iterator[Refused]:
     """The operations of a script that are refused for what the job holds, whichever way it comes there.
 
-    If they are not refused on all ways, they may be so on each way from one operation. All operations are in form.
+    If they are not refused on all ways, they may be so on each way from one operation.
     """
-    walk = Walk(draft, scripted)
-    if not walk.go():
-        return
     for step in walk.steps:
         text = walk.refusal(step)
         if text:

@@ -25,10 +25,10 @@ from library.formats import (
     Fault,
     words_of,
 )
-from library.held import refused_steps
+from library.held import refused_steps, walks_of
 from library.not_json import shown
 from library.places import Json, JsonText
-from library.sharing import shared_spinlocks
+from library.sharing import Shared, shared_spinlocks
 from library.steps import Step, is_action, steps_of, value_of
 
 # How many operations or tasks a note lists.
@@ -100,7 +100,6 @@ class _Notes:
             self._unset_events()
         if not self._has(LIMIT, DUPLICATE_NAME, UNKNOWN_NAME, WRONG_CORE, SPIN_ORDER, BAD_SCRIPT):
             self._held()
-            self._shared()
 
     def _has(self, *faults: Fault) -> bool:
         """Whether the configuration has one of these faults."""
@@ -221,21 +220,22 @@ class _Notes:
                 judges[use.name](use)
 
     def _held(self) -> None:
-        """Operations that are refused for what the job holds, whichever way it comes there."""
-        for core in self.draft.cores:
-            for scripted in core.scripted:
-                for refused in refused_steps(self.draft, scripted):
-                    use = _Use(scripted.spot("script"), refused.step, core, scripted)
-                    self._note(use, refused.word, refused.text)
+        """Operations that are refused for what the job holds, and spinlocks for which two jobs of a core can ask."""
+        walks = walks_of(self.draft)
+        for scripted, walk in walks.items():
+            for refused in refused_steps(walk):
+                use = _Use(scripted.spot("script"), refused.step, scripted.core, scripted)
+                self._note(use, refused.word, refused.text)
+        for shared in shared_spinlocks(self.draft, walks):
+            self._shared(shared)
 
-    def _shared(self) -> None:
-        """Spinlocks for which one job of a core can ask while another one holds them."""
-        for shared in shared_spinlocks(self.draft):
-            use = _Use(shared.holder.spot("script"), shared.step, shared.holder.core, shared.holder)
-            others = listed("`%s`" % each.name for each in shared.others)
-            verbs = {"interrupt" if each.kind is ISR else "preempt" for each in shared.others}
-            text = "the job can hold `%s` here, and %s can %s it and ask for that: E_OS_INTERFERENCE_DEADLOCK"
-            self._note(use, 0, text % (shared.spinlock, others, " or ".join(sorted(verbs))))
+    def _shared(self, shared: Shared) -> None:
+        """A spinlock for which other jobs can ask while one holds it."""
+        use = _Use(shared.holder.spot("script"), shared.step, shared.holder.core, shared.holder)
+        others = listed("`%s`" % each.name for each in shared.others)
+        verbs = {"interrupt" if each.kind is ISR else "preempt" for each in shared.others}
+        text = "the job can hold `%s` here, and %s can %s it and ask for that: E_OS_INTERFERENCE_DEADLOCK"
+        self._note(use, 0, text % (shared.spinlock, others, " or ".join(sorted(verbs))))
 
     def _start(self, use: _Use) -> None:
         """A StartCore in a script, which starts nothing."""

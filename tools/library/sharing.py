@@ -52,14 +52,18 @@ class _Cause:
     step: Step
 
 
-def shared_spinlocks(draft: Draft) -> Iterator[Shared]:
-    """Of each job and each spinlock that it holds the others of its core that can ask for it meanwhile."""
+def shared_spinlocks(draft: Draft, all_walks: Dict[Named, Walk]) -> Iterator[Shared]:
+    """Of each job and each spinlock that it holds the others of its core that can ask for it meanwhile.
+
+    The walks are those of the scripts.
+    """
     starts = _Starts(draft)
     for core in draft.cores:
-        walks = {each: walk for each in core.scripted for walk in (Walk(draft, each),) if walk.go()}
+        walks = {each: all_walks[each] for each in core.scripted if each in all_walks}
+        asked = {each: _asked(walk) for each, walk in walks.items()}
         for holder, walk in walks.items():
             for holding in _holdings(core, holder, walk):
-                asking = (each for each in walks if each is not holder and _asks(walks[each], holding.spinlock))
+                asking = (each for each in walks if each is not holder and holding.spinlock in asked[each])
                 above = (each for each in asking if _priority(each) > holding.priority)
                 others = [each for each in above if starts.can_come(each, holding)]
                 if others:
@@ -83,10 +87,10 @@ def _holdings(core: Core, holder: Named, walk: Walk) -> Iterator[_Holding]:
     yield from least.values()
 
 
-def _asks(walk: Walk, spinlock: str) -> bool:
-    """Whether a job of a script can ask for a spinlock, and is not refused for what it holds itself."""
-    getting = (step for step in walk.steps if step.operation.name in GETS_SPINLOCK and step.arguments[0] == spinlock)
-    return any("" in walk.refusals.get(step.number, {}).values() for step in getting)
+def _asked(walk: Walk) -> Set[str]:
+    """The spinlocks that a job of a script can ask for, and is not refused for what it holds itself."""
+    getting = (step for step in walk.steps if step.operation.name in GETS_SPINLOCK)
+    return {step.arguments[0] for step in getting if "" in walk.refusals.get(step.number, {}).values()}
 
 
 def _priority(scripted: Named) -> int:
