@@ -59,6 +59,10 @@ SCRIPTS = (
         ("1 the job holds `Y`, and by `next` `X` does not come after it: E_OS_NESTING_DEADLOCK",),
     ),
     (
+        "GetSpinlock X;GetSpinlock Z;GetSpinlock Y;ReleaseSpinlock Z;ReleaseSpinlock X;TerminateTask",
+        ("2 the job holds `Z`, and by `next` `Y` does not come after it: E_OS_NESTING_DEADLOCK",),
+    ),
+    (
         "GetSpinlock Z;TryToGetSpinlock X v0;ReleaseSpinlock Z;TerminateTask",
         ("1 the job holds `Z`, and by `next` `X` does not come after it: E_OS_NESTING_DEADLOCK",),
     ),
@@ -98,6 +102,10 @@ SCRIPTS = (
     # So is whether a service was refused.
     ("GetResource R;status v0;jz v0 4;TerminateTask;ReleaseResource R;TerminateTask", ()),
     ("GetSpinlock X;status v0;jz v0 4;TerminateTask;ReleaseSpinlock X;TerminateTask", ()),
+    (
+        "GetResource R;GetResource R;status v0;jz v0 6;ReleaseResource R;TerminateTask;TerminateTask",
+        ("1 the job holds `R` already: E_OS_ACCESS",),
+    ),
     # Two ways, of which one takes the resource, and each asks for the same variable.
     ("jz v0 2;GetResource R;work;jz v0 5;ReleaseResource R;TerminateTask", ()),
     ("jz v0 2;GetResource R;add v0 1;jz v0 5;ReleaseResource R;TerminateTask", ()),
@@ -245,6 +253,30 @@ PAIRS = (
         "",
         "High",
         ("3 `High` can preempt",),
+    ),
+    (
+        "a lower task activates it, again and again",
+        tasks(LOW, TASK % ("High", 2, NONE, SHORT), TASK % ("Idle", 0, NONE, "ActivateTask High;" + END)),
+        "",
+        "Idle",
+        (),
+    ),
+    (
+        "a ChainTask that is refused",
+        tasks(
+            TASK % ("Low", 1, AUTO, "GetSpinlock X;ChainTask High;ReleaseSpinlock X;" + END),
+            TASK % ("High", 2, NONE, SHORT),
+        ),
+        "",
+        "Low",
+        (),
+    ),
+    (
+        "an alarm of another mode",
+        tasks(TASK % ("Low", 1, '"auto": ["N"], ', LONG), TASK % ("High", 2, '"auto": ["N"], ', SHORT)),
+        "",
+        "High",
+        (),
     ),
     ("another spinlock", tasks(LOW, TASK % ("High", 2, NONE, SHORT.replace("X", "Y"))), "", "High", ()),
     ("another mode", tasks(LOW, TASK % ("High", 2, '"auto": ["N"], ', SHORT)), "", "Low", ()),
