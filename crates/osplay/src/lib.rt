@@ -1,19 +1,19 @@
 //! Worked examples for tests: tables of texts in, and the texts that the program's jobs print.
 //!
-//! A difference is answered as a failure, so a test only hands it on.
+//! What is not as it is to be is answered as a `Difference`, and a test only hands it on.
 #![tactic(auto)]
 
+mod differences;
 pub mod examples;
 mod files;
 mod jobs;
 mod prints;
 mod repeats;
-mod reports;
 mod scenes;
 mod tables;
 
+pub use differences::Difference;
 pub use files::files_of;
 pub use jobs::{check_of, cut_of, replay_of, run_of, threads_of};
-pub use prints::{compare, result_of, result_over, result_text, same};
-pub use reports::{replays, text_under};
-pub use tables::{given, play_all};
+pub use prints::{blocks_of, compare, result_from, result_of, result_over, result_text, same};
+pub use tables::{given, play_all, play_tables};

@@ -1,14 +1,17 @@
-//! The results of jobs, each in one text, and the first line in which one is not what it is to be.
+//! What jobs and reports print, each in one text, and the first line in which one is not what it is to be.
 
-ghost use Rattle.std.specs.Prelude.{◌≡◌, OnOk};
+ghost use Rattle.std.specs.Prelude.{◌≡◌, IfOk, OnOk, string_bytes};
+ghost use Rattle.ostext.specs.Trace.{text_of};
 
+use crate::differences::Difference;
 use crate::files::files_of;
+use osbase::Report;
 use oscommand::Job;
 use osjob::perform;
-use ostrace::MemorySink;
+use osplan::Config;
+use ostrace::{MemorySink, write_reports};
 use std::alloc::{AllocError, Global};
 use std::sync::Wait;
-use std::test::Fail;
 use std::thread::Threads;
 
 /// Does the job over these texts, and compares its result: what it prints, what it reports, and its status.
@@ -18,13 +21,10 @@ pub fn compare(
     job: &Job,
     texts: &[Option<&str>],
     (out, err, status): (&str, &str, u8),
-) -> Result<(), Fail> {
+) -> Result<(), Difference> {
     let text = result_of(rt, alloc, job, texts)?;
-    same(
-        "",
-        text.as_str(),
-        result_text(alloc, out, err, status)?.as_str(),
-    )
+    let due = result_text(alloc, out, err, status)?;
+    same(alloc, "", text.as_str(), due.as_str())
 }
 
 /// The result of a job over these texts.
@@ -33,7 +33,7 @@ pub fn result_of(
     alloc: Global,
     job: &Job,
     texts: &[Option<&str>],
-) -> Result<String, Fail> {
+) -> Result<String, Difference> {
     let files = files_of(alloc, texts)?;
     result_over(rt, alloc, job, files.as_slice())
 }
@@ -44,12 +44,22 @@ pub fn result_over(
     alloc: Global,
     job: &Job,
     files: &[Option<Vec<u8>>],
-) -> Result<String, Fail> {
+) -> Result<String, Difference> {
     let mut out = MemorySink::new(Vec::new(alloc));
     let mut err = MemorySink::new(Vec::new(alloc));
     let status = perform(rt, alloc, job, files, &mut out, &mut err);
-    let out = String::from_utf8(out.bytes).ok().ok_or("a text")?;
-    let err = String::from_utf8(err.bytes).ok().ok_or("a text")?;
+    result_from(alloc, out.bytes, err.bytes, status)
+}
+
+/// The result of a job that printed and reported these bytes.
+pub fn result_from(
+    alloc: Global,
+    out: Vec<u8>,
+    err: Vec<u8>,
+    status: u8,
+) -> Result<String, Difference> {
+    let out = text_from(out)?;
+    let err = text_from(err)?;
     Ok(result_text(alloc, out.as_str(), err.as_str(), status)?)
 }
 
@@ -58,21 +68,43 @@ pub fn result_text(alloc: Global, out: &str, err: &str, status: u8) -> Result<St
     format!(in alloc; "{out}and reports\n{err}and exits with {status}")
 }
 
-/// The text is as it is to be; else the first line that is not is the failure.
-pub fn same(job: &str, text: &str, due: &str) -> Result<(), Fail>
+/// The blocks of the reports, in one text.
+pub fn blocks_of(alloc: Global, config: &Config, reports: &[Report]) -> Result<String, Difference>
+    ensures { IfOk result (λ text. string_bytes text ≡ text_of config.now reports.now) }
+{
+    let mut out = MemorySink::new(Vec::new(alloc));
+    write_reports(config, &mut out, reports)?;
+    text_from(out.bytes)
+}
+
+// The text of these bytes.
+fn text_from(bytes: Vec<u8>) -> Result<String, Difference>
+    ensures { IfOk result (λ text. string_bytes text ≡ bytes.items) }
+{
+    match String::from_utf8(bytes) {
+        Ok(text) => Ok(text),
+        Err(_error) => Err(Difference::Lacks("a text")),
+    }
+}
+
+/// The text is as it is to be; else the first line that is not is the difference.
+pub fn same(alloc: Global, job: &str, text: &str, due: &str) -> Result<(), Difference>
     ensures { OnOk result (text.now ≡ due.now) }
 {
     if text == due {
         return Ok(());
     }
+    Err(Difference::Line(line_apart(alloc, job, text, due)?))
+}
+
+// The first line of the text that is not as it is to be.
+fn line_apart(alloc: Global, job: &str, text: &str, due: &str) -> Result<String, AllocError> {
     let mut lines = due.split('\n');
     for (at, line) in text.split('\n').enumerate() {
         let wanted = lines.next().unwrap_or("no line");
         if line != wanted {
-            return Err(Fail::new(format_args!(
-                "{job}: line {at} is `{line}` in place of `{wanted}`"
-            )));
+            return format!(in alloc; "{job}: line {at} is `{line}` in place of `{wanted}`");
         }
     }
-    Err(Fail::new(format_args!("{job}: the last lines are missing")))
+    format!(in alloc; "{job}: the last lines are missing")
 }

@@ -1,14 +1,14 @@
 //! Long texts in short: a part that stands many times is written once.
 
+use crate::differences::Difference;
 use std::alloc::{AllocError, Global};
-use std::test::Fail;
 
 /// More parts than a table has.
 const PARTS: u32 = 1_000;
 
 /// The text with its parts written out. `<N*T>` is N times T. `<N#T>` is N times T, too, where each `#` is the number of that
 /// time, from 1; so is `<N%T>`, where each `%` is that number with two digits. A T may have such parts of its own.
-pub fn written_out(alloc: Global, text: &str) -> Result<String, Fail> {
+pub fn written_out(alloc: Global, text: &str) -> Result<String, Difference> {
     let mut text = String::from_str(alloc, text)?;
     for _ in 0..PARTS {
         match with_one_out(alloc, text.as_str())? {
@@ -16,11 +16,11 @@ pub fn written_out(alloc: Global, text: &str) -> Result<String, Fail> {
             None => return Ok(text),
         }
     }
-    Err(Fail::new("too many parts"))
+    Err(Difference::TooManyParts)
 }
 
 // The text with one part written out which has none of its own; `None` where the text has no part.
-fn with_one_out(alloc: Global, text: &str) -> Result<Option<String>, Fail> {
+fn with_one_out(alloc: Global, text: &str) -> Result<Option<String>, Difference> {
     let Some((before, rest)) = text.rsplit_once('<') else {
         return Ok(None);
     };
@@ -31,7 +31,7 @@ fn with_one_out(alloc: Global, text: &str) -> Result<Option<String>, Fail> {
     Ok(Some(longer))
 }
 
-fn push_part(alloc: Global, longer: &mut String, part: &str) -> Result<(), Fail> {
+fn push_part(alloc: Global, longer: &mut String, part: &str) -> Result<(), Difference> {
     let rest = part.trim_start_matches(|c: char| c.is_ascii_digit());
     let count = part.strip_suffix(rest).ok_or("a count")?;
     let mark = rest.chars().next().ok_or("a mark")?;

@@ -1,12 +1,12 @@
 //! The files of a table's jobs, and the blocks of what they print.
 
+use crate::differences::Difference;
 use crate::files::file_of;
 use crate::jobs::job_of;
 use crate::prints::{result_over, result_text, same};
 use oscommand::Job;
 use std::alloc::{AllocError, Global};
 use std::sync::Wait;
-use std::test::Fail;
 use std::thread::Threads;
 
 /// The files of a table's jobs, and what the job before printed.
@@ -101,7 +101,7 @@ impl<'a> Scene<'a> {
         alloc: Global,
         head: &str,
         block: Block,
-    ) -> Result<usize, Fail> {
+    ) -> Result<usize, Difference> {
         match head {
             "first" => self.first = block.printed,
             "log" => self.log = Some(self.begun(alloc, block.printed.as_str())?),
@@ -128,7 +128,7 @@ impl<'a> Scene<'a> {
         alloc: Global,
         head: &str,
         block: Block,
-    ) -> Result<usize, Fail> {
+    ) -> Result<usize, Difference> {
         if block.printed.as_str() != "as before\n" {
             self.before = block;
         }
@@ -159,14 +159,14 @@ impl<'a> Scene<'a> {
         alloc: Global,
         head: &str,
         value: &str,
-    ) -> Result<(), Fail> {
+    ) -> Result<(), Difference> {
         let (words, status) = head.split_once(" -> ").unwrap_or((head, "0"));
         let job = job_of(words, self.turns.map(|_| "turns.json")).ok_or("a job")?;
         let files = self.files(alloc, &job, value)?;
         let result = result_over(rt, alloc, &job, files.as_slice())?;
         let due = self.due(alloc, status.parse::<u8>().ok().ok_or("a status")?)?;
         let job = format!(in alloc; "{head} {value}")?;
-        same(job.as_str(), result.as_str(), due.as_str())
+        same(alloc, job.as_str(), result.as_str(), due.as_str())
     }
 
     // What the job is to result in. It exits with this status, unless it reports a fault.

@@ -1,5 +1,6 @@
 //! Tables of worked examples, played line by line.
 
+use crate::differences::Difference;
 use crate::repeats::written_out;
 use crate::scenes::{Block, Scene};
 use std::alloc::Global;
@@ -9,12 +10,12 @@ use std::test::Fail;
 use std::thread::Threads;
 
 /// Plays the tables, once their parts are written out. They have so many jobs.
-pub fn play_all(
+pub fn play_tables(
     rt: &(impl Threads + Wait + Sync),
     alloc: Global,
     tables: &[&str],
     jobs: usize,
-) -> Result<(), Fail> {
+) -> Result<(), Difference> {
     let mut played = 0usize;
     for table in tables {
         let text = written_out(alloc, table)?;
@@ -22,8 +23,19 @@ pub fn play_all(
         played = played.saturating_add(more);
     }
     if played != jobs {
-        return Err(Fail::new(format_args!("{played} jobs, not {jobs}")));
+        return Err(Difference::Jobs(played));
     }
+    Ok(())
+}
+
+/// Plays the tables for a test, which fails with what is not as it is to be.
+pub fn play_all(
+    rt: &(impl Threads + Wait + Sync),
+    alloc: Global,
+    tables: &[&str],
+    jobs: usize,
+) -> Result<(), Fail> {
+    play_tables(rt, alloc, tables, jobs)?;
     Ok(())
 }
 
@@ -40,7 +52,11 @@ pub fn play_all(
 // `run`, `items CORE`, `replay CORE`, `check`, `cut CORE`, `threads TURNS` or `threads TURNS CORE`: a job, and what it prints.
 // A last line `fault ..` is reported, and the job exits with 1; else it exits with 0, or with the N of `JOB -> N`. The one line
 // `as before` stands for the block of the job before. What `items` prints is the log of the jobs behind it.
-fn play(rt: &(impl Threads + Wait + Sync), alloc: Global, table: &str) -> Result<usize, Fail> {
+fn play(
+    rt: &(impl Threads + Wait + Sync),
+    alloc: Global,
+    table: &str,
+) -> Result<usize, Difference> {
     let mut scene = Scene::new(alloc);
     let mut head = None;
     let mut block = Block::new(alloc);
@@ -61,7 +77,7 @@ fn play(rt: &(impl Threads + Wait + Sync), alloc: Global, table: &str) -> Result
 }
 
 /// The first configuration of a table, and the first stimuli.
-pub fn given(table: &str) -> Result<(&str, &str), Fail> {
+pub fn given(table: &str) -> Result<(&str, &str), Difference> {
     let config = first_of(table, "config ").ok_or("a configuration")?;
     let stimuli = first_of(table, "stimuli ").ok_or("stimuli")?;
     Ok((config, stimuli))

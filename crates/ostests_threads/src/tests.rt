@@ -2,5 +2,6 @@
 
 mod gates;
 mod refused;
+mod reports;
 mod spinlocks;
 mod threads;

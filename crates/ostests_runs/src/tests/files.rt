@@ -20,6 +20,7 @@ fn files_that_are_no_text_or_unreadable_are_faults(rt: HostRuntime) -> Result<()
     let mut files = files_of(alloc, &[Some(border), None])?;
     let unreadable = result_over(&rt, alloc, &run_of(None), files.as_slice())?;
     same(
+        alloc,
         "",
         unreadable.as_str(),
         "and reports\nfault 21 Unreadable\nand exits with 1",
@@ -27,10 +28,12 @@ fn files_that_are_no_text_or_unreadable_are_faults(rt: HostRuntime) -> Result<()
     files.insert(0, Some(Vec::from_slice(alloc, &[255])?))?;
     let no_text = result_over(&rt, alloc, &run_of(None), files.as_slice())?;
     same(
+        alloc,
         "",
         no_text.as_str(),
         "and reports\nfault 1 NotJson\nand exits with 1",
-    )
+    )?;
+    Ok(())
 }
 
 /// Given files, with a count of those that were asked for.

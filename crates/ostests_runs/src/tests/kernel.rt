@@ -4,9 +4,9 @@ use osbase::{
     Agreement, CoreId, CoreSet, Item, List, Mark, Message, ModeId, Report, Status, Stimulus,
 };
 use osconf::{Config, read_config};
-use oskernel::{Kernel, STEP_MARKS, Want};
-use osplay::same;
-use ostrace::{MemorySink, write_reports};
+use oskernel::{STEP_MARKS, Want};
+use osplay::{Difference, blocks_of, same};
+use osturn::CoreKernel;
 use std::alloc::Global;
 use std::process::Abort;
 use std::slice;
@@ -62,9 +62,9 @@ fn kernel_after<'a>(
     config: &'a Config,
     items: &[Item],
     marks: &mut Vec<Mark>,
-) -> Result<Kernel<'a, 32, 64, 64>, Fail> {
+) -> Result<CoreKernel<'a>, Fail> {
     let _core = config.plan().core(CORE_0).ok_or("core 0")?;
-    let mut kernel: Kernel<32, 64, 64> = Kernel::new(config, CORE_0);
+    let mut kernel = CoreKernel::new(config, CORE_0);
     for item in items {
         assert!(rt; kernel.may_take(item));
         assert!(rt; marks.capacity() - marks.len() >= STEP_MARKS);
@@ -74,17 +74,14 @@ fn kernel_after<'a>(
 }
 
 // The block of these marks.
-fn block_of(alloc: Global, config: &Config, marks: Vec<Mark>) -> Result<String, Fail> {
+fn block_of(alloc: Global, config: &Config, marks: Vec<Mark>) -> Result<String, Difference> {
     let report = Report {
         core: CORE_0,
         items: List::new(alloc),
         marks: List::from_vec(marks),
         ended: true,
     };
-    let mut out = MemorySink::new(Vec::new(alloc));
-    let written = write_reports(config, &mut out, slice::from_ref(&report));
-    written.ok().ok_or("a block")?;
-    Ok(String::from_utf8(out.bytes).ok().ok_or("a text")?)
+    blocks_of(alloc, config, slice::from_ref(&report))
 }
 
 #[test]
@@ -93,11 +90,13 @@ fn a_core_takes_its_items(rt: HostRuntime) -> Result<(), Fail> {
     let config = read_config(alloc, TWO_CORES)?;
     let mut marks = Vec::with_capacity(alloc, 8192)?;
     let _kernel = kernel_after(&rt, &config, &ITEMS, &mut marks)?;
-    same("", block_of(alloc, &config, marks)?.as_str(), BLOCK)
+    let block = block_of(alloc, &config, marks)?;
+    same(alloc, "", block.as_str(), BLOCK)?;
+    Ok(())
 }
 
 // Whether the kernel goes on by itself, with nothing in its outbox.
-fn goes_on(kernel: &Kernel<32, 64, 64>) -> bool {
+fn goes_on(kernel: &CoreKernel) -> bool {
     kernel.may_serve() && matches!(kernel.want(), Want::GoOn) && kernel.front().is_none()
 }
 

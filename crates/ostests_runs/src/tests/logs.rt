@@ -397,5 +397,6 @@ fn a_line_end_of_two_characters_is_a_bad_log(rt: HostRuntime) -> Result<(), Fail
     let (border, _) = given(BORDER)?;
     let texts = [Some(border), Some("stim op\r\n")];
     let came = ("", "fault 14 BadLog\n", 1);
-    compare(&rt, rt.alloc(), &replay_of(0), &texts, came)
+    compare(&rt, rt.alloc(), &replay_of(0), &texts, came)?;
+    Ok(())
 }

@@ -6,8 +6,7 @@ use super::logs::BORDER;
 use osbase::Report;
 use osconf::{Config, Stimuli, read_config, read_stimuli};
 use osplay::examples::MUTUAL;
-use osplay::{compare, given, run_of};
-use ostrace::{MemorySink, write_reports};
+use osplay::{Difference, blocks_of, compare, given, run_of};
 use osworld::{RunFault, default_schedule, run_world};
 use std::alloc::Global;
 use std::test::Fail;
@@ -37,12 +36,10 @@ fn reports_of(alloc: Global, config: &Config, stimuli: &Stimuli) -> Result<Vec<R
 }
 
 // What a run with these reports prints where each started core ended.
-fn run_text(alloc: Global, config: &Config, reports: &[Report]) -> Result<String, Fail> {
-    let mut out = MemorySink::new(Vec::new(alloc));
-    let written = write_reports(config, &mut out, reports);
-    written.ok().ok_or("blocks")?;
-    out.bytes.extend_from_slice(b"ended\n")?;
-    Ok(String::from_utf8(out.bytes).ok().ok_or("a text")?)
+fn run_text(alloc: Global, config: &Config, reports: &[Report]) -> Result<String, Difference> {
+    let mut text = blocks_of(alloc, config, reports)?;
+    text.push_str("ended\n")?;
+    Ok(text)
 }
 
 // What the run of the default schedule's turns prints.
@@ -50,7 +47,7 @@ fn run_of_default_turns(alloc: Global, config: &str, stimuli: &str) -> Result<St
     let config = read_config(alloc, config)?;
     let stimuli = read_stimuli(alloc, &config, stimuli)?;
     match reports_of(alloc, &config, &stimuli) {
-        Ok(reports) => run_text(alloc, &config, reports.as_slice()),
+        Ok(reports) => Ok(run_text(alloc, &config, reports.as_slice())?),
         Err(fault) => Err(Fail::from(fault)),
     }
 }

@@ -45,7 +45,8 @@ fn words_make_a_job_or_are_wrong_usage(rt: HostRuntime) -> Result<(), Fail> {
     let mut cases = 0usize;
     for (line, due) in WORDS.lines().filter_map(|line| line.split_once(" => ")) {
         let words: Vec<&str> = line.split_whitespace().collect(alloc)?;
-        same(line, job_text(alloc, words.as_slice())?.as_str(), due)?;
+        let text = job_text(alloc, words.as_slice())?;
+        same(alloc, line, text.as_str(), due)?;
         cases = cases.saturating_add(1);
     }
     assert_eq!(rt; cases, 21);

@@ -4,7 +4,7 @@ ghost use Rattle.std.specs.Prelude.{◌≡◌, None};
 
 use super::logs::BORDER;
 use osjob::{Output, perform};
-use osplay::{files_of, given, result_over, result_text, run_of, same};
+use osplay::{Difference, files_of, given, result_from, result_over, result_text, run_of, same};
 use ostrace::{MemorySink, Sink, WriteFailed};
 use std::alloc::{AllocError, Global};
 use std::sync::Wait;
@@ -71,13 +71,11 @@ fn result_within(
     alloc: Global,
     files: &[Option<Vec<u8>>],
     left: u64,
-) -> Result<String, Fail> {
+) -> Result<String, Difference> {
     let mut out = Failing::new(Vec::new(alloc), left);
     let mut err = MemorySink::new(Vec::new(alloc));
     let status = perform(rt, alloc, &run_of(None), files, &mut out, &mut err);
-    let out = String::from_utf8(out.bytes).ok().ok_or("a text")?;
-    let err = String::from_utf8(err.bytes).ok().ok_or("a text")?;
-    Ok(result_text(alloc, out.as_str(), err.as_str(), status)?)
+    result_from(alloc, out.bytes, err.bytes, status)
 }
 
 // What that is to be, of a run that prints this text.
@@ -102,7 +100,7 @@ fn a_refused_write_leaves_a_prefix_of_the_text(rt: HostRuntime) -> Result<(), Fa
     for left in 0..210u8 {
         let result = result_within(&rt, alloc, files.as_slice(), u64::from(left))?;
         let due = due_within(alloc, text, usize::from(left))?;
-        same("", result.as_str(), due.as_str())?;
+        same(alloc, "", result.as_str(), due.as_str())?;
     }
     Ok(())
 }

@@ -1,9 +1,10 @@
 //! Runs by threads under gates of the tests' own, which say when a core begins a turn and for whom it waits. Each test
 //! has the same verdict whatever the schedule is.
 
+use super::reports::text_under;
 use super::threads::FEW;
 use osbase::CoreId;
-use osplay::{cut_of, result_of, same, text_under};
+use osplay::{cut_of, result_of, same};
 use osthreads::Gate;
 use std::alloc::Global;
 use std::sync::Wait;
@@ -191,7 +192,8 @@ fn has(alloc: Global, text: &str, word: &str, due: &str) -> Result<(), Fail> {
         lines.push_str(line)?;
         lines.push_str("\n")?;
     }
-    same(word, lines.as_str(), due)
+    same(alloc, word, lines.as_str(), due)?;
+    Ok(())
 }
 
 #[test]

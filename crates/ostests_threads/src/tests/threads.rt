@@ -1,8 +1,9 @@
 //! Runs by threads. Each prints what every order of the cores' turns prints, or is compared with itself.
 
+use super::reports::replays;
 use super::spinlocks::{OWED, SHARED};
 use osplay::examples::{ALL_DOWN, ASKERS, MUTUAL, POLLING, REFUSED};
-use osplay::{given, play_all, replays, result_of, run_of, threads_of};
+use osplay::{Difference, given, play_all, result_of, run_of, threads_of};
 use std::alloc::Global;
 use std::process::Abort;
 use std::sync::Wait;
@@ -182,7 +183,7 @@ fn threaded(
     alloc: Global,
     table: &str,
     turns: u64,
-) -> Result<String, Fail> {
+) -> Result<String, Difference> {
     let (config, stimuli) = given(table)?;
     let texts = [Some(config), Some(stimuli)];
     result_of(rt, alloc, &threads_of(turns, None), &texts)

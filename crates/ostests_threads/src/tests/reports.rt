@@ -2,31 +2,21 @@
 
 ghost use Rattle.osplan.specs.Stimuli.{AreKnown};
 
-use crate::jobs::replay_of;
-use crate::prints::compare;
 use osbase::Report;
 use osconf::{Config, Stimuli, read_config, read_stimuli};
 use osjob::Yielding;
 use oslog::items_text;
+use osplay::{blocks_of, compare, replay_of};
 use osthreads::{Gate, MailKind, ThreadFault, run_threads};
-use ostrace::{MemorySink, write_reports};
 use std::alloc::Global;
 use std::slice;
 use std::sync::Wait;
 use std::test::Fail;
 use std::thread::Threads;
 
-// The block of a report as `run` prints it.
-fn block_of(alloc: Global, config: &Config, report: &Report) -> Result<String, Fail> {
-    let mut out = MemorySink::new(Vec::new(alloc));
-    let written = write_reports(config, &mut out, slice::from_ref(report));
-    written.ok().ok_or("a block")?;
-    Ok(String::from_utf8(out.bytes).ok().ok_or("a text")?)
-}
-
 // A report's block, how many items its core took, and whether it ended.
 fn report_text(alloc: Global, config: &Config, report: &Report) -> Result<String, Fail> {
-    let block = block_of(alloc, config, report)?;
+    let block = blocks_of(alloc, config, slice::from_ref(report))?;
     let items = report.items.len();
     let core = report.core.number;
     let end = if report.ended { "ended" } else { "stopped" };
@@ -62,7 +52,7 @@ fn fault_text(alloc: Global, config: &Config, fault: &ThreadFault) -> Result<Str
 }
 
 /// The reports of a run by threads under a gate, as a text. Where the run broke off, its first line says why.
-pub fn text_under<R: Threads + Wait + Sync, G: Gate + Sync>(
+pub(super) fn text_under<R: Threads + Wait + Sync, G: Gate + Sync>(
     rt: &R,
     alloc: Global,
     (config, stimuli): (&str, &str),
@@ -86,10 +76,11 @@ fn replay_one(
 ) -> Result<(), Fail> {
     let log = items_text(alloc, config, report.items.as_slice());
     let log = log.ok().ok_or("a log")?;
-    let block = block_of(alloc, config, report)?;
+    let block = blocks_of(alloc, config, slice::from_ref(report))?;
     let job = replay_of(report.core.number);
     let texts = [Some(text), Some(log.as_str())];
-    compare(rt, alloc, &job, &texts, (block.as_str(), "", 0))
+    compare(rt, alloc, &job, &texts, (block.as_str(), "", 0))?;
+    Ok(())
 }
 
 // Each report's log replays to its block.
@@ -106,7 +97,7 @@ fn replay_all(
 }
 
 /// Each report's log of a run by threads replays to its block. Answers how many reports there are.
-pub fn replays(
+pub(super) fn replays(
     rt: &(impl Threads + Wait + Sync),
     alloc: Global,
     text: &str,
