@@ -8,6 +8,7 @@ mod interrupts;
 mod kernel;
 mod limits;
 mod logs;
+mod player;
 mod program;
 mod runs;
 mod schedules;

@@ -1,0 +1,77 @@
+//! What plays the tables of the other tests: a right one passes, and a wrong one is refused for what is wrong with it.
+
+use osplay::{Difference, play_tables, same};
+use std::alloc::Global;
+use std::sync::Wait;
+use std::test::Fail;
+use std::thread::Threads;
+
+const CONFIG: &str = r#"config {"cores":[{"id":0}]}"#;
+
+const RIGHT: &str = "check\nok\ncore 0 separate\n";
+
+// Plays a table of one core with this block, or with none. It has so many jobs.
+fn play_block(
+    rt: &(impl Threads + Wait + Sync),
+    alloc: Global,
+    block: &str,
+    jobs: usize,
+) -> Result<(), Difference> {
+    let table = format!(in alloc; "{CONFIG}\n{block}")?;
+    play_tables(rt, alloc, &[table.as_str()], jobs)
+}
+
+#[test]
+fn a_right_table_passes(rt: HostRuntime) -> Result<(), Fail> {
+    play_block(&rt, rt.alloc(), RIGHT, 1)?;
+    Ok(())
+}
+
+#[test]
+fn a_wrong_table_is_refused(rt: HostRuntime) -> Result<(), Fail> {
+    let alloc = rt.alloc();
+    let examples = [
+        // Another count of jobs.
+        (RIGHT, 2, "Jobs(1)"),
+        // Another line, of the same length.
+        (
+            "check\nok\ncore 1 separate\n",
+            1,
+            r#"Line("check : line 1 is `core 0 separate` in place of `core 1 separate`")"#,
+        ),
+        // One line too few, and one too many.
+        (
+            "check\nok\n",
+            1,
+            r#"Line("check : line 1 is `core 0 separate` in place of `and reports`")"#,
+        ),
+        (
+            "check\nok\ncore 0 separate\ncore 1 off\n",
+            1,
+            r#"Line("check : line 2 is `and reports` in place of `core 1 off`")"#,
+        ),
+        // Another status.
+        (
+            "check -> 3\nok\ncore 0 separate\n",
+            1,
+            r#"Line("check -> 3 : line 3 is `and exits with 0` in place of `and exits with 3`")"#,
+        ),
+        // A fault that is not reported.
+        (
+            "check\nok\ncore 0 separate\nfault 1 NotJson\n",
+            1,
+            r#"Line("check : line 3 is `and exits with 0` in place of `fault 1 NotJson`")"#,
+        ),
+        // A job that there is not, and none at all.
+        ("walk\nok\ncore 0 separate\n", 1, r#"Lacks("a job")"#),
+        ("", 1, "Jobs(0)"),
+    ];
+    for (block, jobs, why) in examples.as_slice() {
+        let Err(difference) = play_block(&rt, alloc, block, *jobs) else {
+            return Err(Fail::new("a wrong table passes"));
+        };
+        let text = format!(in alloc; "{difference:?}")?;
+        same(alloc, block, text.as_str(), why)?;
+    }
+    Ok(())
+}
