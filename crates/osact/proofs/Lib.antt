@@ -7,3 +7,6 @@ pub mod Kept
 pub mod SeenSame
 pub mod Carrying
 pub mod Called
+pub mod InTurn
+pub mod Numbered
+pub mod Going

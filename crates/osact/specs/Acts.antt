@@ -2,7 +2,8 @@
 --
 -- Whatever a service, an alarm or a table does is written so. What holds of all acts is proved once, of the data: that a
 -- core does the same wherever it reads the same, whose objects its lines name, and whom it asks.
-use Rattle.std.specs.Prelude.{Bool, if◌then◌else◌, List, [], ◌∷◌}
+use Rattle.std.specs.Prelude.{ℕ, Bool, if◌then◌else◌, List, [], ◌∷◌}
+use Rattle.std.specs.List.{enumerate_from}
 use Rattle.osbase.specs.declared.references.CoreId.{CoreId}
 use Rattle.osbase.specs.declared.messages.Message.{Message}
 use Rattle.osbase.specs.declared.marks.Mark.{Mark}
@@ -55,3 +56,7 @@ notes n = one_then (Notes n) nothing
 abbrev pub for_each : {A : Type 0} → (A → Acts) → List A → Acts
 for_each f [] = nothing
 for_each f (x ∷ xs) = both (f x) (for_each f xs)
+
+-- Acts for each of a core's objects of one kind, in index order.
+abbrev pub in_turn : {A : Type 0} → (ℕ → A → Acts) → List A → Acts
+in_turn f xs = for_each (λ p. f p.0 p.1) (enumerate_from 0 xs)

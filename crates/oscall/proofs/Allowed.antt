@@ -20,7 +20,7 @@ use Rattle.osact.proofs.Called.{IsAllowed, called-passes}
 use Rattle.osact.proofs.Kept.{AreAllowed, IsNamed, Leave, elsewhere, is_allowed, is_within, returns-ok, serves-ok}
 use Rattle.ostaskcall.proofs.Allowed.{ends-ok}
 use Rattle.oscall.specs.Border.{calls, core_of_call, service_of}
-use Rattle.oscall.specs.Chaining.{chain_acts, chains_here, chains_to}
+use Rattle.oschain.specs.Chaining.{chain_acts, chains_here, chains_to}
 use Rattle.oscall.specs.Shutdown.{core_acts, starting_checks}
 use Rattle.oscall.specs.Variables.{script_acts}
 

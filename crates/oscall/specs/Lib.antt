@@ -1,4 +1,3 @@
 pub mod Border
-pub mod Chaining
 pub mod Variables
 pub mod Shutdown

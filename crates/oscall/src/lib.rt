@@ -4,9 +4,7 @@
 #![tactic(auto)]
 
 pub mod border;
-pub mod chaining;
 pub mod shutdown;
 pub mod variables;
 
 pub use border::{call, serve, serve_action, serve_request};
-pub use chaining::resume;

@@ -1,27 +1,25 @@
--- The actions of a core's alarms and of its tables' points: what they pass, what they may act on, and how many of them join the outbox.
-use Rattle.std.proofs.Common.{◌≡◌, ◌<◌, ◌≤◌, ◌+◌, ◌&&◌, ◌==◌, ℕ, zero, suc, nat_le, nat_lt, Bool, true, false, not, cond, Option, Some, None, IfSome, IsTrue, List, [], ◌∷◌, flat_map, length, map, count_by, refl, ap, sym, ◌∙◌, arith}
+-- The actions of a core's alarms and of its tables' points: what they pass, and what they may act on.
+use Rattle.std.proofs.Common.{◌≡◌, ◌≤◌, ◌&&◌, ◌==◌, ℕ, zero, suc, nat_le, nat_lt, Bool, true, false, cond, Option, Some, None, IfSome, IsTrue, List, [], ◌∷◌, flat_map, length, map, refl, ap, sym, ◌∙◌, arith}
 use Rattle.std.specs.List.{list_all, slice_get}
-use Rattle.std.proofs.lemmas.Bool.{and_from, and_parts, leb-true, ltb-false, ltb-true}
-use Rattle.std.proofs.lemmas.List.Filters.{length-filter_both, sum_by-filter_both}
+use Rattle.std.proofs.lemmas.Bool.{and_from, and_parts, ltb-false, ltb-true}
 use Rattle.std.proofs.lemmas.List.Folds.{list_all-append, list_all-map}
 use Rattle.std.proofs.lemmas.Option.{cond_some, option_and_then_some}
 use Rattle.osbase.specs.declared.references.AlarmRef.{AlarmRef}
 use Rattle.osbase.specs.declared.references.TableRef.{TableRef}
 use Rattle.osbase.specs.declared.messages.RemoteCall.{RemoteCall}
 use Rattle.osbase.specs.History.{greater, same_core}
-use Rattle.oscript.specs.Calls.{is_action}
 use Rattle.osplan.specs.declared.plans.Alarm.{Alarm}
 use Rattle.osplan.specs.declared.plans.Core.{Core}
 use Rattle.osplan.specs.declared.plans.ExpiryPoint.{ExpiryPoint}
 use Rattle.osplan.specs.declared.plans.Table.{Table}
 use Rattle.osplan.specs.Clocked.{are_clocks_within}
-use Rattle.osplan.specs.Objects.{core_actions, greatest_of, is_posting, may_act, posted_at, table_actions}
+use Rattle.osplan.specs.Objects.{core_actions, greatest_of, may_act, posted_at, table_actions}
 use Rattle.osplan.specs.View.{own_alarm, own_table}
 use Rattle.osplan.proofs.Tests.{each-flat}
 use Rattle.osbase.proofs.Places.{passes-at}
 use Rattle.osplan.proofs.Timing.{own-table-timed, own-table-within, table-parts}
-use Rattle.oscall.specs.Border.{is_known_call}
-use Rattle.osdue.specs.Passing.{first_point, if_at_once, is_known_point, is_of_kind, of_kind, point_of}
+use Rattle.osaction.specs.Points.{is_known_point}
+use Rattle.osdue.specs.Passing.{first_point, if_at_once, point_of}
 
 -- ---- what all of a core's actions pass
 
@@ -51,38 +49,8 @@ module _ (p : RemoteCall → Bool) (core : Core) (all : list_all p (core_actions
       option_and_then_some (λ (table : Table). slice_get table.points n) (own_table core s) point is (λ table own there.
       point-in-table p table n point (passes-at (λ (x : Table). list_all p (table_actions x)) core.tables s.index table (each-flat p table_actions core.tables each.1) (if-found (same_core s.core core.id) (slice_get core.tables s.index) table own).1) there)
 
--- ---- how many join the outbox
+-- ---- a point of one of the core's tables
 
--- How many envelopes join the outbox by one.
-abbrev pub posted_by_action : Core → RemoteCall → ℕ
-posted_by_action core action = cond (is_posting core action) 1 0
-
-pub known-call : (core : Core) (call : RemoteCall) → may_act core call ≡ true → is_known_call core call ≡ true
-known-call core call may = (and_parts (is_action call) (is_known_call core call) may).1
-
--- There is a place for one that acts on another core.
-pub place-left : (here : Bool) (n most : ℕ) → n + cond (not here) 1 0 ≤ most → here ≡ false → n < most
-place-left true n most places other = cc
-place-left false n most places other = omega (arith, places)
-
--- Then it has joined the outbox, or none has.
-pub joined : (here : Bool) (n m : ℕ) → (here ≡ true → m ≡ n) → m ≤ suc n → m ≤ n + cond (not here) 1 0
-joined true n m same more = omega (arith, same refl)
-joined false n m same more = omega (arith, more)
-
--- Each action of a point is of one of the two kinds.
-pub kinds-long : (actions : List RemoteCall) → length (of_kind true actions) + length (of_kind false actions) ≡ length actions
-kinds-long = length-filter_both (is_of_kind true) (is_of_kind false) (λ x. refl)
-
-pub kinds-posted : (core : Core) (actions : List RemoteCall) → count_by (is_posting core) (of_kind true actions) + count_by (is_posting core) (of_kind false actions) ≡ count_by (is_posting core) actions
-kinds-posted core = sum_by-filter_both (is_of_kind true) (is_of_kind false) (λ x. refl) (posted_by_action core)
-
-pub point-parts : (core : Core) (point : ExpiryPoint) → is_known_point core point ≡ true → (list_all (may_act core) point.actions ≡ true) × (length point.actions ≤ 8)
-point-parts core point known =
-    let parts = and_parts (list_all (may_act core) point.actions) (nat_le (length point.actions) 8) known in
-    (parts.0, leb-true (length point.actions) 8 parts.1)
-
--- A point of one of the core's tables.
 module _ (core : Core) (s : TableRef) (table : Table) (within : are_clocks_within core ≡ true) (is : Some table ≡ own_table core s) (known : list_all (may_act core) (table_actions table) ≡ true) where
   pub known-point : (n : ℕ) (point : ExpiryPoint) → slice_get table.points n ≡ Some point → is_known_point core point ≡ true
   known-point n point there =

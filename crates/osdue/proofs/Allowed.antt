@@ -28,9 +28,11 @@ use Rattle.osact.proofs.Partners.{Partner}
 use Rattle.oscall.specs.Border.{core_of_call}
 use Rattle.oscall.proofs.Allowed.{service-ok}
 use Rattle.osdue.specs.Advancing.{counts}
-use Rattle.osdue.specs.Expiring.{acts, expires, expires_by}
+use Rattle.osaction.specs.Actions.{acts}
+use Rattle.osaction.specs.Points.{acts_each, does_point, is_of_kind, of_kind}
+use Rattle.osdue.specs.Expiring.{expires, expires_by}
 use Rattle.osdue.specs.Incrementing.{increment_acts}
-use Rattle.osdue.specs.Passing.{acts_each, begins_period, does_point, due_point, ends, first_point, is_of_kind, of_kind, passes, point_of, reaches}
+use Rattle.osdue.specs.Passing.{begins_period, due_point, ends, first_point, passes, point_of, reaches}
 use Rattle.osdue.proofs.Actions.{alarm-passes, first-there, if-found, point-passes}
 
 -- The core of what an action is for is the own core, or one that may be asked.

@@ -1,5 +1,4 @@
 pub mod Owned
-pub mod InTurn
 pub mod Allowed
 pub mod Actions
 pub mod Postings

@@ -1,31 +1,13 @@
 -- What an alarm does when it is due.
 use Rattle.std.specs.Prelude.{List}
 use Rattle.std.specs.Option.{option_map_or}
-use Rattle.osbase.specs.declared.statuses.Status.TheVariants.{EOsCore}
 use Rattle.osbase.specs.declared.references.AlarmRef.{AlarmRef}
-use Rattle.osbase.specs.declared.messages.Message.{Message}
 use Rattle.osbase.specs.declared.messages.RemoteCall.{RemoteCall}
 use Rattle.osbase.specs.declared.marks.Mark.TheVariants as Mark
 use Rattle.osplan.specs.declared.plans.Alarm.{Alarm}
 use Rattle.osplan.specs.View.{own_alarm}
-use Rattle.osact.specs.Acts.{Acts, Prints, Sends, both, for_each, if_started, look, nothing, one_then, prints, when}
-use Rattle.osact.specs.Returning.{reports}
-use Rattle.osact.specs.Seen.{is_own}
-use Rattle.osact.specs.Service.{effect_of, status_of}
-use Rattle.oscall.specs.Border.{core_of_call, service_of}
-
--- An action on a task of the core acts at once, and its error calls ErrorHook. [AUTOSAR SWS OS 4.x, SWS_Os_00632; the hook: own]
-abbrev pub acts_here : RemoteCall → Acts
-acts_here call = look (λ s. both (effect_of (service_of call s)) (reports (status_of (service_of call s))))
-
--- One on another core's task joins the outbox, and has no reply. [AUTOSAR SWS OS 4.x, SWS_Os_00632 and SWS_Os_00633; the outbox: own]
-abbrev pub posts : RemoteCall → Acts
-posts call = one_then (Prints (Mark.CallQueued (core_of_call call) call)) (one_then (Sends (core_of_call call) (Message.Action call)) nothing)
-
--- On a core that was never started nothing acts: ErrorHook is called here. [own]
-abbrev pub acts : RemoteCall → Acts
-acts call =
-    look (λ s. when (is_own s (core_of_call call)) (acts_here call) (if_started (core_of_call call) (posts call) (prints (Mark.ErrorHook EOsCore))))
+use Rattle.osact.specs.Acts.{Acts, Prints, for_each, look, nothing, one_then}
+use Rattle.osaction.specs.Actions.{acts}
 
 -- The alarm's line, and then its action. [OSEK/VDX OS 2.2.3, section 9.2]
 abbrev pub expires_by : AlarmRef → RemoteCall → Acts

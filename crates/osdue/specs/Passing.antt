@@ -1,6 +1,5 @@
 -- What a schedule table does at a count.
-use Rattle.std.specs.Prelude.{ℕ, ◌+◌, ◌==◌, ◌&&◌, nat_le, not, if◌then◌else◌, Bool, true, false, Option, Some, None, List, filter, length, slice_get}
-use Rattle.std.specs.List.{list_all}
+use Rattle.std.specs.Prelude.{ℕ, ◌+◌, ◌==◌, if◌then◌else◌, Option, Some, None, List, slice_get}
 use Rattle.std.specs.Option.{option_and_then, option_map_or}
 use Rattle.osbase.specs.declared.references.TableRef.{TableRef}
 use Rattle.osbase.specs.declared.marks.Mark.TheVariants as Mark
@@ -8,40 +7,14 @@ use Rattle.osbase.specs.History.{TableQuit, TableStarted}
 use Rattle.osplan.specs.declared.plans.Core.{Core}
 use Rattle.osplan.specs.declared.plans.ExpiryPoint.{ExpiryPoint}
 use Rattle.osplan.specs.declared.plans.Table.{Table}
-use Rattle.osbase.specs.declared.messages.RemoteCall.{RemoteCall}
-use Rattle.oscript.specs.Calls.{is_activation}
 use Rattle.osplan.specs.Objects.{posted_at}
 use Rattle.osplan.specs.View.{own_table}
 use Rattle.ostable.specs.declared.tables.DueTable.{DueTable}
 use Rattle.ostable.specs.Waiting.{repeats}
-use Rattle.osplan.specs.Objects.{may_act}
 use Rattle.osact.specs.Acts.{Acts, Notes, Prints, both, for_each, look, nothing, notes, one_then, when}
-use Rattle.osdue.specs.Expiring.{acts}
+use Rattle.osaction.specs.Points.{does_point}
 
--- ---- a point
-
--- An activation of a task, or, if that is not what is asked for, a setting of events.
-abbrev pub is_of_kind : Bool → RemoteCall → Bool
-is_of_kind true action = is_activation action
-is_of_kind false action = not (is_activation action)
-
--- Those of a point's actions that activate a task, and those that set events, in their order.
-abbrev pub of_kind : Bool → List RemoteCall → List RemoteCall
-of_kind activating actions = filter (is_of_kind activating) actions
-
-abbrev pub activations_of : List RemoteCall → List RemoteCall
-activations_of actions = of_kind true actions
-
-abbrev pub settings_of : List RemoteCall → List RemoteCall
-settings_of actions = of_kind false actions
-
-abbrev pub acts_each : List RemoteCall → Acts
-acts_each actions = for_each (λ (action : RemoteCall). acts action) actions
-
--- The point's line; then its tasks are activated, before its events are set. [AUTOSAR SWS OS 4.x, SWS_Os_00407 and SWS_Os_00412]
-abbrev pub does_point : TableRef → ExpiryPoint → Acts
-does_point s point =
-    one_then (Prints (Mark.ExpiryPoint s point.offset)) (both (acts_each (activations_of point.actions)) (acts_each (settings_of point.actions)))
+-- ---- a point, if there is one
 
 abbrev pub reaches : TableRef → Option ExpiryPoint → Acts
 reaches s point = option_map_or (does_point s) point nothing
@@ -62,10 +35,6 @@ if_at_once point = if point.offset == 0 then Some point else None
 
 abbrev pub first_point : Core → TableRef → Option ExpiryPoint
 first_point core s = option_and_then if_at_once (point_of core s 0)
-
--- What the core may act on, and at most so many actions of a point. [AUTOSAR SWS OS 4.x, SWS_Os_00407; the most is own]
-abbrev pub is_known_point : Core → ExpiryPoint → Bool
-is_known_point core point = list_all (may_act core) point.actions && nat_le (length point.actions) 8
 
 -- ---- the end of a period
 

@@ -1,18 +1,17 @@
 //! What a schedule table does at a count.
 
-ghost use Rattle.std.specs.Prelude.{◌≡◌, ◌≤◌, ◌+◌, ◌*◌, IfSome, IsTrue, count_by, length, option_copied, slice_get};
-ghost use Rattle.std.specs.List.{list_all};
+ghost use Rattle.std.specs.Prelude.{◌≡◌, ◌≤◌, ◌+◌, IfSome, IsTrue, length, option_copied, slice_get};
 ghost use Rattle.osbase.specs.Objects.{table_object};
-ghost use Rattle.osplan.specs.Objects.{is_own_object, is_posting, may_act, posted_at};
+ghost use Rattle.osplan.specs.Objects.{is_own_object};
 ghost use Rattle.ostable.specs.Waiting.{are_own, repeats};
 ghost use Rattle.osstate.specs.Does.{Effects, HasRoom};
 ghost use Rattle.osact.specs.Terms.{MayPost};
 ghost use Rattle.osact.specs.Acts.{does};
-ghost use Rattle.osdue.specs.Passing.{acts_each, begins, does_point, due_point, ends, first_point, is_known_point, is_of_kind, of_kind, passes, posted_by_end, posted_by_point, posted_by_table, reaches, stops};
+ghost use Rattle.osaction.specs.Points.{is_known_point};
+ghost use Rattle.osdue.specs.Passing.{begins, due_point, ends, first_point, passes, posted_by_end, posted_by_point, posted_by_table, reaches, stops};
 
-use crate::expiring::act;
-use osbase::{Mark, RemoteCall, TableRef};
-use oscript::is_activation;
+use osaction::do_point;
+use osbase::{Mark, TableRef};
 use osplan::{ExpiryPoint, Table};
 use osstate::CoreState;
 use ostable::DueTable;
@@ -151,49 +150,4 @@ fn reach<const P: usize, const J: usize, const OUT: usize>(
     if let Some(point) = point {
         do_point(state, table, point, marks);
     }
-}
-
-// The point's line, and then its actions: all activations come before all settings of events.
-fn do_point<const P: usize, const J: usize, const OUT: usize>(
-    state: &mut CoreState<'_, P, J, OUT>,
-    table: TableRef,
-    point: &ExpiryPoint,
-    marks: &mut Vec<Mark>,
-)
-    requires known { IsTrue (is_known_point state.old.view.own point.now) }
-    requires posts { MayPost (posted_at state.old.view.own point.now) OUT 17 17 state.old marks.old }
-    ensures effects { Effects 17 17 (does (does_point table point.now)) state.old state.new marks.old marks.new }
-    ensures outbox { length state.new.border.outbox ≤ length state.old.border.outbox + posted_at state.old.view.own point.now }
-{
-    let offset = point.offset;
-    let actions = point.actions.as_slice();
-    state.print(Mark::ExpiryPoint { table, offset }, marks);
-    act_each(state, actions, true, marks);
-    act_each(state, actions, false, marks);
-}
-
-// Those of the actions that activate a task, or those that set events.
-fn act_each<const P: usize, const J: usize, const OUT: usize>(
-    state: &mut CoreState<'_, P, J, OUT>,
-    actions: &[RemoteCall],
-    activating: bool,
-    marks: &mut Vec<Mark>,
-)
-    requires known { IsTrue (list_all (may_act state.old.view.own) actions.now) }
-    requires posts { MayPost (count_by (is_posting state.old.view.own) (of_kind activating actions.now)) OUT (2 * length (of_kind activating actions.now)) (2 * length (of_kind activating actions.now)) state.old marks.old }
-    ensures effects { Effects (2 * length (of_kind activating actions.now)) (2 * length (of_kind activating actions.now)) (does (acts_each (of_kind activating actions.now))) state.old state.new marks.old marks.new }
-    ensures outbox { length state.new.border.outbox ≤ length state.old.border.outbox + count_by (is_posting state.old.view.own) (of_kind activating actions.now) }
-{
-    for action in actions {
-        if is_of_kind(action, activating) {
-            act(state, *action, marks);
-        }
-    }
-}
-
-// An activation, or, if those are not wanted, a setting of events.
-fn is_of_kind(action: &RemoteCall, activating: bool) -> bool
-    ensures { result ≡ is_of_kind activating action.now }
-{
-    is_activation(*action) == activating
 }

@@ -1,11 +1,8 @@
 pub mod Phases
 pub mod Taken
-pub mod Numbered
 pub mod Autostart
-pub mod Ticking
 pub mod Operated
 pub mod Families
-pub mod Going
 pub mod Carried
 pub mod JobLists
 pub mod Holding

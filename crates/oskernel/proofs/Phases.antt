@@ -8,7 +8,7 @@ use Rattle.osbase.specs.Phases.{is_before_live, is_past_first_gate, is_schedulin
 use Rattle.osbase.proofs.Phasing.{in_phase}
 use Rattle.osstate.specs.State.{KernelState}
 use Rattle.osstate.specs.Sound.{is_first_gate}
-use Rattle.oskernel.specs.Admission.{admits}
+use Rattle.osadmit.specs.Admission.{admits}
 
 -- a core that schedules is past the second gate
 pub scheduling_past : (p : Phase) → is_scheduling p ≡ true → is_before_live p ≡ false

@@ -10,8 +10,8 @@ use Rattle.osbase.proofs.Phasing.{stands_in-is}
 use Rattle.osplan.specs.View.{View}
 use Rattle.osstate.specs.Readings.{next_start, phase_at}
 use Rattle.osstate.specs.State.{state_of}
-use Rattle.oskernel.specs.Admission.{admits, are_started_cores, awaits_get, awaits_try, is_agreement, is_next_release, is_start_answer, may_halt}
-use Rattle.oskernel.specs.Free.{is_settled, may_go_on}
+use Rattle.osadmit.specs.Admission.{admits, are_started_cores, awaits_get, awaits_try, is_agreement, is_next_release, is_start_answer, may_halt}
+use Rattle.osadmit.specs.Free.{is_settled, may_go_on}
 use Rattle.oskernel.specs.Step.{after, history_from, outbox_size, solo_from, takes}
 
 -- An envelope goes, or comes.

@@ -18,7 +18,7 @@ use Rattle.osalarmcall.specs.Counters.{counter_acts}
 use Rattle.ostablecall.specs.Tables.{table_acts}
 use Rattle.osspincall.specs.Spinlocks.{spin_acts}
 use Rattle.oscall.specs.Border.{calls}
-use Rattle.oscall.specs.Chaining.{chain_acts}
+use Rattle.oschain.specs.Chaining.{chain_acts}
 use Rattle.oscall.specs.Shutdown.{core_acts, is_ignored}
 use Rattle.oscall.specs.Variables.{is_done, script_acts}
 use Rattle.osdue.specs.Incrementing.{increment_acts}

@@ -1,6 +1,6 @@
 -- A core's step: which item may be taken, what follows from it, and a core by itself.
 use Rattle.std.specs.Prelude.{ℕ, ℤ, pos, ◌==◌, Bool, true, false, if◌then◌else◌, Option, Some, None, List, [], ◌∷◌}
-use Rattle.std.specs.List.{enumerate_from, list_any}
+use Rattle.std.specs.List.{list_any}
 use Rattle.std.specs.Option.{option_map_or}
 use Rattle.osbase.specs.declared.limits.TheConstants.{OUTBOX}
 use Rattle.osbase.specs.declared.statuses.Status.{Status}
@@ -29,24 +29,22 @@ use Rattle.osplan.specs.declared.plans.Alarm.{Alarm}
 use Rattle.osplan.specs.declared.plans.AlarmStart.{AlarmStart}
 use Rattle.osplan.specs.declared.plans.Table.{Table}
 use Rattle.osplan.specs.declared.plans.TableStart.{TableStart}
-use Rattle.osplan.specs.declared.plans.Counter.{Counter}
 use Rattle.osplan.specs.declared.plans.Task.{Task}
 use Rattle.osplan.specs.declared.plans.Core.{Core}
 use Rattle.osplan.specs.View.{View}
-use Rattle.osclock.specs.Clocks.{alarm_ref, counter_ref}
+use Rattle.osclock.specs.Clocks.{alarm_ref}
 use Rattle.ostable.specs.Tables.{table_ref}
 use Rattle.osstate.specs.Readings.{script_of, best_job, running, task_ref}
 use Rattle.osstate.specs.State.{state_of}
-use Rattle.osact.specs.Acts.{Acts, Sends, both, does, for_each, look, notes, nothing, one_then, prints, when}
+use Rattle.osact.specs.Acts.{Acts, Sends, both, does, in_turn, look, notes, nothing, one_then, prints, when}
 use Rattle.osalarmcall.specs.Alarms.{sets_alarm}
-use Rattle.osdue.specs.Advancing.{counts}
 use Rattle.ostaskcall.specs.Tasks.{activates, ends_unasked}
 use Rattle.oscall.specs.Border.{serves_request, serves_action}
-use Rattle.oscall.specs.Chaining.{resumes}
+use Rattle.oschain.specs.Chaining.{resumes}
 use Rattle.oskernel.specs.Operations.{operates}
-use Rattle.oskernel.specs.Admission.{serves_in, takes_in}
-use Rattle.oskernel.specs.Faults.{protects}
-use Rattle.oskernel.specs.Free.{may_dispatch}
+use Rattle.osadmit.specs.Admission.{serves_in, takes_in}
+use Rattle.osadmit.specs.Free.{may_dispatch}
+use Rattle.ostick.specs.Ticks.{ticks}
 
 -- An item may be taken where the state may take it to which the history leads. `places` is how many envelopes the outbox
 -- may hold. [own]
@@ -74,10 +72,6 @@ starts_in other modes = false
 abbrev pub starts_if : Option Agreement → List ModeId → Acts → Acts
 starts_if agreement modes x = when (starts_in agreement modes) x nothing
 
--- Acts for each of a core's objects of one kind, in index order.
-abbrev pub in_turn : {A : Type 0} → (ℕ → A → Acts) → List A → Acts
-in_turn f xs = for_each (λ p. f p.0 p.1) (enumerate_from 0 xs)
-
 -- What one object does: a task is activated, an alarm is set, and a schedule table is started.
 -- [AUTOSAR SWS OS 4.x, OsAlarmAutostart, OsScheduleTableAutostart]
 abbrev pub autostarts_task : Option Agreement → Core → ℕ → Task → Acts
@@ -102,23 +96,6 @@ performs r End = ends_unasked r
 
 abbrev pub goes_on : Option Runner → Acts
 goes_on running = option_map_or (λ (r : Runner). look (λ s. performs r (action_at (script_of s.core r) (s.row r).frame))) running nothing
-
--- A counter of the core goes on by one, if it is a hardware counter, and what is due by it acts.
--- [OSEK/VDX OS 2.2.3, section 9.1; AUTOSAR SWS OS 4.x, OsCounterType]
-abbrev pub counts_if_hardware : Core → ℕ → Counter → Acts
-counts_if_hardware core n counter = when counter.software nothing (counts (counter_ref core n))
-
--- Each does, in index order; none of a core that is down. [the order: own]
-abbrev pub counts_each : Acts
-counts_each = look (λ s. in_turn (counts_if_hardware s.core) s.core.counters)
-
-abbrev pub counts_unless_down : Acts
-counts_unless_down = look (λ s. when (is_going s.course) counts_each nothing)
-
--- The stimulus `tick`: its line, by which the running job has used one tick of its budget; what follows if that was the last one; and then
--- the counters. [the order: own]
-abbrev pub ticks : Acts
-ticks = both (prints Mark.Tick) (both (look (λ s. protects s s.running)) counts_unless_down)
 
 -- The stimulus `irq`: a job of the ISR is pending from here on; if one is pending already, the interrupt is lost.
 -- [AUTOSAR SWS OS 4.x, section 7.6; that one is pending at most: own]

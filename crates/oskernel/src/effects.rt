@@ -12,14 +12,13 @@ ghost use Rattle.osstate.specs.Sound.{is_first_gate, is_grant_known, is_posted, 
 ghost use Rattle.osact.specs.Terms.{MayBegin, MayPost, MayServe};
 ghost use Rattle.osact.specs.Acts.{does, look, prints};
 ghost use Rattle.oscall.specs.Border.{is_served};
-ghost use Rattle.oskernel.specs.Admission.{admits};
+ghost use Rattle.osadmit.specs.Admission.{admits};
 ghost use Rattle.oskernel.specs.Bounded.{step_entries};
 ghost use Rattle.oskernel.specs.Step.{calls_shutdown_hook, closes, effect, ends_core, gate_mark, goes_on, receives, service_awaiting, stimulates, success_value};
 ghost use Rattle.oskernel.specs.Taking.{TakesItem, is_acting, is_filling, is_for_core, is_going_on, is_known, is_request, is_second_gate};
 
 use crate::interrupts::raise;
 use crate::starting::start;
-use crate::ticks::tick;
 use osact::{Answer, Step};
 use osbase::{
     Agreement, Awaited, CoreId, Item, Mark, Message, RemoteCall, Runner, ServiceId, Status,
@@ -27,6 +26,7 @@ use osbase::{
 };
 use oscript::Action;
 use osstate::CoreState;
+use ostick::tick;
 
 /// Takes an item that may be taken, and does what follows from it.
 pub(crate) fn take<const P: usize, const J: usize, const OUT: usize>(
@@ -305,6 +305,6 @@ fn close<const P: usize, const J: usize, const OUT: usize>(
     };
     if let Some(service) = service_awaiting(call.awaits) {
         let answer = Answer { status, value };
-        oscall::resume(state, call.runner, service, answer, marks);
+        oschain::resume(state, call.runner, service, answer, marks);
     }
 }

@@ -13,12 +13,11 @@ ghost use Rattle.oskernel.specs.declared.kernel.TheConstants.{STEP_MARKS};
 ghost use Rattle.osplan.specs.Objects.{outbox_needed};
 ghost use Rattle.oskernel.specs.Step.{after, serves, takes};
 ghost use Rattle.oskernel.specs.Wants.{front_of, go_on_by as go_on_want, post_or as front_or, is_want_known, want_call as call_or_want, want_in, want_of, want_owed as owed_or_want, watch_halt, watch_in, watch_of};
-ghost use Rattle.oskernel.specs.Admission.{serves_in, takes_in};
+ghost use Rattle.osadmit.specs.Admission.{serves_in, takes_in};
 
-use crate::admission::is_admitted;
-use crate::free::may_look_halt;
 use crate::wants::{Want, Watch, go_on_by, start_or_enter, want_call, want_owed};
 use crate::{dispatching, effects};
+use osadmit::{is_admitted, may_look_halt};
 use osbase::{CoreId, Envelope, Item, Mark, Phase};
 use osplan::Config;
 use osstate::CoreState;

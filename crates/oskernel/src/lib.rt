@@ -1,16 +1,12 @@
 //! The kernel of one core: a machine that takes one item at a time and prints its marks.
 #![tactic(auto)]
 
-mod admission;
 mod dispatching;
 mod effects;
-mod faults;
-mod free;
 mod interrupts;
 pub mod kernel;
 mod operations;
 mod starting;
-mod ticks;
 pub mod wants;
 
 pub use kernel::{Kernel, STEP_MARKS};

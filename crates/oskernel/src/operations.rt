@@ -11,7 +11,7 @@ ghost use Rattle.oskernel.specs.Operations.{acts_alone, acts_on_shared, acts_sus
 
 use osact::{Step, refuse};
 use osbase::{Mark, ServiceId, Status};
-use oscall::{call, chaining, shutdown, variables};
+use oscall::{call, shutdown, variables};
 use oscript::call_of_op;
 use osstate::CoreState;
 
@@ -108,7 +108,7 @@ fn act_alone<const P: usize, const J: usize, const OUT: usize>(
     if ostaskcall::operate(state, step, marks) {
         return;
     }
-    if chaining::operate(state, step, marks) {
+    if oschain::operate(state, step, marks) {
         return;
     }
     if osalarmcall::operate(state, step, marks) {

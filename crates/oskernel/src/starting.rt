@@ -6,8 +6,8 @@ ghost use Rattle.osbase.specs.Phases.{is_before_live, is_past_first_gate};
 ghost use Rattle.osplan.specs.Clocked.{are_clocks_within};
 ghost use Rattle.osstate.specs.Does.{Effects, HasRoom, Remarks, item_entries, item_marks};
 ghost use Rattle.osstate.specs.Sound.{is_agreed};
-ghost use Rattle.osact.specs.Acts.{does, look};
-ghost use Rattle.oskernel.specs.Step.{autostarts_alarm, autostarts_table, autostarts_task, in_turn, starts, starts_in};
+ghost use Rattle.osact.specs.Acts.{does, in_turn, look};
+ghost use Rattle.oskernel.specs.Step.{autostarts_alarm, autostarts_table, autostarts_task, starts, starts_in};
 ghost use Rattle.oskernel.specs.Taking.{agreement_on, have_places};
 
 use osbase::{Agreement, AlarmRef, List, Mark, ModeId, TableRef, TaskRef};

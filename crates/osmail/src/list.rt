@@ -57,7 +57,7 @@ impl<const CAP: usize> ListMail<CAP> {
     }
 
     /// Whether fewer than the cap stand in the mailbox from `from` to `to`.
-    pub fn room(&self, from: CoreId, to: CoreId) -> bool
+    pub fn has_room(&self, from: CoreId, to: CoreId) -> bool
         requires sender { from.number < CORES }
         requires receiver { to.number < CORES }
         ensures answer { result ≡ has_room self.now from to }

@@ -19,7 +19,7 @@ use Rattle.osplan.proofs.Tests.{find-holds, find-passes}
 use Rattle.osplan.proofs.Within.{between, few-modes, limit-parts}
 use Rattle.osstate.proofs.Begun.{is_some-core_of}
 use Rattle.osstate.specs.State.{KernelState}
-use Rattle.oskernel.specs.Admission.{takes_in}
+use Rattle.osadmit.specs.Admission.{takes_in}
 use Rattle.oskernel.specs.declared.wants.Want.{Want}
 use Rattle.oskernel.specs.declared.wants.Watch.{Watch}
 use Rattle.oskernel.specs.Step.{outbox_size}

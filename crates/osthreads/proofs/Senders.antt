@@ -22,7 +22,7 @@ use Rattle.osbase.proofs.Places.{passes-at}
 use Rattle.osstate.specs.Readings.{phase_at}
 use Rattle.osstate.specs.State.{state_of}
 use Rattle.osstate.proofs.Begun.{is_some-core_of}
-use Rattle.oskernel.specs.Admission.{admits, is_awaited, are_started_cores}
+use Rattle.osadmit.specs.Admission.{admits, is_awaited, are_started_cores}
 use Rattle.oskernel.specs.Step.{after, history_from, outbox_size, solo_from}
 use Rattle.oskernel.proofs.Holding.{quiet_after}
 use Rattle.oskernel.proofs.Stages.{solo-parts}

@@ -17,7 +17,7 @@ use Rattle.osplan.specs.declared.plans.Plan.{Plan}
 use Rattle.osplan.specs.View.{View, is_configured, view_of}
 use Rattle.osstate.specs.State.{KernelState, state_of}
 use Rattle.oskernel.specs.declared.wants.Watch.{Watch}
-use Rattle.oskernel.specs.Admission.{serves_in, takes_in}
+use Rattle.osadmit.specs.Admission.{serves_in, takes_in}
 use Rattle.oskernel.specs.Step.{after, history_from, outbox_size, serves, takes}
 use Rattle.oskernel.specs.Wants.{front_of, want_in, want_of, watch_in, watch_of}
 use Rattle.oskernel.proofs.Stages.{is_mail}

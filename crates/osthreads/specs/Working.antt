@@ -13,7 +13,7 @@ use Rattle.osbase.specs.Runs.{stimuli_of}
 use Rattle.osplan.specs.declared.plans.Plan.{Plan}
 use Rattle.osplan.specs.View.{View, view_of}
 use Rattle.osstate.specs.State.{KernelState, state_of}
-use Rattle.oskernel.specs.Admission.{takes_in}
+use Rattle.osadmit.specs.Admission.{takes_in}
 use Rattle.oskernel.specs.Step.{after, history_from, outbox_size, serves, takes}
 use Rattle.oskernel.specs.Wants.{want_in, want_of, watch_in}
 use Rattle.osseat.specs.Histories.{Thinned, entry}

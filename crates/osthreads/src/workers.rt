@@ -2,7 +2,7 @@
 
 ghost use Rattle.std.specs.Prelude.{false, ◌≡◌, ◌+◌, ◌<◌, ◌≤◌, ◌⊎◌, vec_len, vec_capacity, OnOk};
 ghost use Rattle.oskernel.specs.declared.kernel.TheConstants.{STEP_MARKS};
-ghost use Rattle.oskernel.specs.Admission.{takes_in};
+ghost use Rattle.osadmit.specs.Admission.{takes_in};
 ghost use Rattle.oskernel.specs.Step.{outbox_size};
 ghost use Rattle.osseat.specs.Histories.{entry};
 ghost use Rattle.osseat.specs.Seats.{Extends};

@@ -24,7 +24,7 @@ use Rattle.osstate.specs.Readings.{knows_started, next_start, phase_at}
 use Rattle.osact.proofs.Kept.{nobody}
 use Rattle.osbase.specs.Phases.{is_going, stands_in}
 use Rattle.osstate.specs.State.{state_of}
-use Rattle.oskernel.specs.Admission.{admits, are_started_cores, awaits_get, awaits_try, is_agreement, is_for, is_get_of, is_next_release, is_release_of, is_start_answer, is_try_of}
+use Rattle.osadmit.specs.Admission.{admits, are_started_cores, awaits_get, awaits_try, is_agreement, is_for, is_get_of, is_next_release, is_release_of, is_start_answer, is_try_of}
 use Rattle.oskernel.specs.Step.{after, history_from, outbox_size, solo, solo_from, takes}
 use Rattle.oskernel.proofs.Among.{among, base_of, course-same, got-same, marks-same, open-same, phase-same}
 use Rattle.oskernel.proofs.Calm.{Calm, calm-after, settled}

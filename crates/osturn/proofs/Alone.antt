@@ -28,7 +28,7 @@ use Rattle.osplan.proofs.Starting.{configured-low}
 use Rattle.osplan.proofs.Tests.{all-weaker, find-holds}
 use Rattle.osstate.specs.Readings.{is_own}
 use Rattle.osact.proofs.Kept.{nobody}
-use Rattle.oskernel.specs.Admission.{are_started_cores}
+use Rattle.osadmit.specs.Admission.{are_started_cores}
 use Rattle.oskernel.specs.Step.{history_from, solo}
 use Rattle.oskernel.proofs.Carried.{NamesAllow}
 use Rattle.oskernel.proofs.Own.{inward-items}

@@ -6,7 +6,7 @@ use Rattle.osbase.specs.declared.turns.Choice.{Choice}
 use Rattle.osbase.specs.Phases.{is_going}
 use Rattle.osplan.specs.View.{View, is_configured}
 use Rattle.osstate.specs.State.{KernelState}
-use Rattle.oskernel.specs.Admission.{has_asked_halt}
+use Rattle.osadmit.specs.Admission.{has_asked_halt}
 use Rattle.oskernel.specs.declared.wants.Want.{Want}
 use Rattle.oskernel.specs.declared.wants.Watch.{Watch}
 use Rattle.oskernel.specs.Wants.{want_in, watch_in}

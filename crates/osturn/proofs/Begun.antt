@@ -18,7 +18,7 @@ use Rattle.osplan.specs.View.{View, is_configured}
 use Rattle.osstate.specs.Readings.{next_start, phase_at}
 use Rattle.osstate.specs.State.{state_of}
 use Rattle.oskernel.specs.declared.wants.Watch.{Watch}
-use Rattle.oskernel.specs.Admission.{admits, is_for, is_start_answer, is_started_now_or_before}
+use Rattle.osadmit.specs.Admission.{admits, is_for, is_start_answer, is_started_now_or_before}
 use Rattle.oskernel.specs.Step.{after, history_from, outbox_size, solo, solo_from}
 use Rattle.oskernel.specs.Wants.{watch_of}
 use Rattle.oskernel.proofs.Holding.{quiet_after}

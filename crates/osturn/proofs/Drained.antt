@@ -10,7 +10,7 @@ use Rattle.osbase.specs.Phases.{place_of}
 use Rattle.osplan.specs.View.{View}
 use Rattle.osstate.specs.Readings.{phase_at}
 use Rattle.osstate.specs.State.{state_of}
-use Rattle.oskernel.specs.Admission.{admits}
+use Rattle.osadmit.specs.Admission.{admits}
 use Rattle.oskernel.specs.Step.{after, history_from, outbox_size, solo, solo_from}
 use Rattle.oskernel.proofs.Stages.{solo-parts, stage}
 use Rattle.osturn.specs.Fits.{has_drained, is_drain}

@@ -10,7 +10,7 @@ use Rattle.osbase.specs.Phases.{is_scheduling}
 use Rattle.osplan.specs.View.{View}
 use Rattle.osstate.specs.Readings.{phase_at}
 use Rattle.osstate.specs.State.{state_of}
-use Rattle.oskernel.specs.Admission.{admits}
+use Rattle.osadmit.specs.Admission.{admits}
 use Rattle.oskernel.specs.Step.{after, history_from, outbox_size, solo, solo_from}
 use Rattle.oskernel.proofs.Holding.{quiet_after}
 use Rattle.oskernel.proofs.Stages.{mail-schedules, solo-parts, stage}

@@ -32,7 +32,7 @@ use Rattle.osact.proofs.Partners.{partner_of}
 use Rattle.osstate.specs.Readings.{next_start, phase_at}
 use Rattle.osstate.proofs.Begun.{is_some-core_of}
 use Rattle.osstate.specs.State.{state_of}
-use Rattle.oskernel.specs.Admission.{admits, asks_halt, has_asked_halt, is_for, is_start_answer}
+use Rattle.osadmit.specs.Admission.{admits, asks_halt, has_asked_halt, is_for, is_start_answer}
 use Rattle.oskernel.specs.Step.{after, history_from, outbox_size, solo_from}
 use Rattle.oskernel.specs.declared.wants.Watch.{Watch}
 use Rattle.oskernel.specs.Wants.{watch_from, watch_of}

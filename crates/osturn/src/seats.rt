@@ -6,7 +6,7 @@ ghost use Rattle.osplan.specs.View.{core_of, view_of};
 ghost use Rattle.osplan.specs.Limits.{is_within_limits};
 ghost use Rattle.osstate.specs.Does.{Does};
 ghost use Rattle.osstate.specs.State.{state_of};
-ghost use Rattle.oskernel.specs.Admission.{takes_in};
+ghost use Rattle.osadmit.specs.Admission.{takes_in};
 ghost use Rattle.oskernel.specs.Step.{after, outbox_size};
 ghost use Rattle.osbase.specs.Runs.{stimuli_of};
 ghost use Rattle.oskernel.specs.Wants.{want_in, watch_in};

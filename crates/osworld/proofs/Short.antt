@@ -14,7 +14,7 @@ use Rattle.osplan.specs.View.{View, core_of, view_of}
 use Rattle.osplan.proofs.Tests.{length-filter-le}
 use Rattle.osbase.specs.Sets.{core_ids}
 use Rattle.osstate.specs.State.{state_of}
-use Rattle.oskernel.specs.Admission.{admits}
+use Rattle.osadmit.specs.Admission.{admits}
 use Rattle.oskernel.specs.Step.{after, history_from, outbox_size}
 use Rattle.osturn.specs.Fits.{ids_of}
 use Rattle.osturn.specs.declared.asks.Ask.{Ask}

@@ -151,7 +151,7 @@ fn has_room(mail: &Mailboxes, id: CoreId, to: CoreId) -> bool
     ensures { result ≡ (nat_lt to.number CORES && has_room mail.now id to) }
 {
     if usize::from(to.number) < CORES {
-        mail.room(id, to)
+        mail.has_room(id, to)
     } else {
         false
     }

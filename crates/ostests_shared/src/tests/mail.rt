@@ -20,13 +20,13 @@ fn reply(number: u64) -> Envelope {
 fn envelopes_leave_in_the_order_in_which_they_came(rt: HostRuntime) -> Result<(), Fail> {
     let mut mail: ListMail<4> = ListMail::new(rt.alloc(), 2)?;
     let (first, second) = (CoreId { number: 0 }, CoreId { number: 15 });
-    assert!(rt; mail.room(first, second));
+    assert!(rt; mail.has_room(first, second));
     assert!(rt; !mail.has_mail(second));
     assert_eq!(rt; mail.send(first, second, value(0)), Ok(()));
     assert!(rt; mail.has_mail(second));
     assert_eq!(rt; mail.send(second, first, value(7)), Ok(()));
     assert_eq!(rt; mail.send(first, second, value(1)), Ok(()));
-    assert!(rt; !mail.room(first, second));
+    assert!(rt; !mail.has_room(first, second));
     assert_eq!(rt; mail.send(first, second, value(2)), Err(value(2)));
     assert_eq!(rt; mail.take(second, first), Some(value(0)));
     assert_eq!(rt; mail.take(second, first), Some(value(1)));

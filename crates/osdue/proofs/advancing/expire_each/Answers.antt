@@ -4,7 +4,7 @@ use Rattle.osbase.specs.declared.references.AlarmRef.{AlarmRef}
 use Rattle.osbase.specs.Objects.{alarm_object}
 use Rattle.osplan.specs.declared.plans.Core.{Core}
 use Rattle.osplan.specs.Objects.{is_own_object}
-use Rattle.osdue.proofs.InTurn.{next-at, none-acted, one-acted, places-left, room-left, still-passes}
+use Rattle.osact.proofs.InTurn.{next-at, none-acted, one-acted, places-left, room-left, still-passes}
 use Rattle.osdue.proofs.advancing.expire_each.Goals as goal
 
 -- what stands past the last one

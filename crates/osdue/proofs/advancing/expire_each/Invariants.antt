@@ -1,7 +1,7 @@
 use Rattle.std.proofs.Common.{take}
 use Rattle.osdue.specs.Advancing.{posted_for}
 use Rattle.osdue.specs.Expiring.{expires}
-use Rattle.osdue.proofs.InTurn.{InTurn}
+use Rattle.osact.proofs.InTurn.{InTurn}
 use Rattle.osdue.proofs.advancing.expire_each.Given as goal
 
 abbrev pub invariant-loop-alarm : goal.invariant-loop-alarm

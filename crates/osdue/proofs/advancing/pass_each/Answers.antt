@@ -2,7 +2,7 @@ use Rattle.std.proofs.Common.{None, false, rules}
 use Rattle.std.proofs.lemmas.List.{take_all}
 use Rattle.ostable.specs.declared.tables.DueTable.{DueTable}
 use Rattle.ostable.specs.Waiting.{are_own}
-use Rattle.osdue.proofs.InTurn.{next-at, none-acted, one-acted, places-left, room-left, still-passes}
+use Rattle.osact.proofs.InTurn.{next-at, none-acted, one-acted, places-left, room-left, still-passes}
 use Rattle.osdue.proofs.advancing.pass_each.Goals as goal
 
 -- what stands past the last one

@@ -1,6 +1,6 @@
 use Rattle.std.proofs.Common.{take}
 use Rattle.osdue.specs.Passing.{passes, posted_by_table}
-use Rattle.osdue.proofs.InTurn.{InTurn}
+use Rattle.osact.proofs.InTurn.{InTurn}
 use Rattle.osdue.proofs.advancing.pass_each.Given as goal
 
 abbrev pub invariant-loop-table : goal.invariant-loop-table

@@ -9,7 +9,7 @@ use Rattle.osstate.proofs.Effecting.{as_effect, then}
 use Rattle.osact.specs.Acts.{Acts, does, nothing}
 use Rattle.oscall.specs.Border.{core_of_call, is_known_call}
 use Rattle.osdue.specs.Expiring.{expires_by}
-use Rattle.osdue.proofs.Actions.{known-call, place-left}
+use Rattle.osaction.proofs.Joining.{known-call, place-left}
 use Rattle.osdue.proofs.Owned.{by-action}
 use Rattle.osdue.proofs.expiring.expire.Goals as goal
 

@@ -4,7 +4,7 @@ use Rattle.osbase.specs.Phases.{is_down}
 use Rattle.osstate.proofs.Effecting.{as_effect, unprinted}
 use Rattle.osact.specs.Acts.{nothing, prints}
 use Rattle.osact.proofs.Remarking.{unmoved}
-use Rattle.oskernel.proofs.Going.{course-fails, course-holds}
+use Rattle.osact.proofs.Going.{course-fails, course-holds}
 use Rattle.oskernel.proofs.effects.call_shutdown_hook.Goals as goal
 
 pub returns-then-not-is_down : goal.returns-then-not-is_down

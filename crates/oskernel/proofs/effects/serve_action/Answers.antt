@@ -4,7 +4,7 @@ use Rattle.osstate.proofs.Effecting.{as_effect, unprinted}
 use Rattle.osact.specs.Acts.{nothing}
 use Rattle.osact.proofs.Remarking.{unmoved}
 use Rattle.oscall.specs.Border.{serves_action}
-use Rattle.oskernel.proofs.Going.{course-fails, course-holds}
+use Rattle.osact.proofs.Going.{course-fails, course-holds}
 use Rattle.oskernel.proofs.effects.serve_action.Goals as goal
 
 pub returns-then-is_going : goal.returns-then-is_going

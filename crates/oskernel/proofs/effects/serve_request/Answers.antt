@@ -5,7 +5,7 @@ use Rattle.osbase.specs.Phases.{is_going}
 use Rattle.osstate.proofs.Effecting.{as_effect, unprinted}
 use Rattle.osact.specs.Acts.{Sends, nothing, one_then}
 use Rattle.oscall.specs.Border.{serves_request}
-use Rattle.oskernel.proofs.Going.{course-fails, course-holds}
+use Rattle.osact.proofs.Going.{course-fails, course-holds}
 use Rattle.oskernel.proofs.effects.serve_request.Goals as goal
 
 pub returns-then-is_going : goal.returns-then-is_going

@@ -8,7 +8,7 @@ use Rattle.osact.specs.Terms.{MayOperate}
 use Rattle.ostaskcall.specs.Tasks.{task_acts}
 use Rattle.osalarmcall.specs.Counters.{counter_acts}
 use Rattle.ostablecall.specs.Tables.{table_acts}
-use Rattle.oscall.specs.Chaining.{chain_acts}
+use Rattle.oschain.specs.Chaining.{chain_acts}
 use Rattle.oscall.specs.Variables.{script_acts}
 use Rattle.osdue.specs.Incrementing.{increment_acts}
 use Rattle.oskernel.proofs.Families.{next, same-still}

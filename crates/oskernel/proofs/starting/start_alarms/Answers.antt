@@ -7,7 +7,7 @@ use Rattle.osact.specs.Acts.{does}
 use Rattle.oskernel.specs.Step.{autostarts_alarm}
 use Rattle.oskernel.specs.Taking.{agreement_on}
 use Rattle.oskernel.proofs.Autostart.{quiet-alarm}
-use Rattle.oskernel.proofs.Numbered.{all-noted, object-at, one-noted}
+use Rattle.osact.proofs.Numbered.{all-noted, object-at, one-noted}
 use Rattle.oskernel.proofs.starting.start_alarms.Goals as goal
 
 pub autostart_alarm-requires : goal.autostart_alarm-requires

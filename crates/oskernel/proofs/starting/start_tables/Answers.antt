@@ -7,7 +7,7 @@ use Rattle.osact.specs.Acts.{does}
 use Rattle.oskernel.specs.Step.{autostarts_table}
 use Rattle.oskernel.specs.Taking.{agreement_on}
 use Rattle.oskernel.proofs.Autostart.{quiet-table}
-use Rattle.oskernel.proofs.Numbered.{all-noted, object-at, one-noted}
+use Rattle.osact.proofs.Numbered.{all-noted, object-at, one-noted}
 use Rattle.oskernel.proofs.starting.start_tables.Goals as goal
 
 pub autostart_table-requires : goal.autostart_table-requires

@@ -7,7 +7,7 @@ use Rattle.osact.proofs.Remarking.{unmoved}
 use Rattle.oskernel.specs.Step.{autostarts_task}
 use Rattle.oskernel.specs.Taking.{agreement_on, have_places}
 use Rattle.oskernel.proofs.Autostart.{first-places}
-use Rattle.oskernel.proofs.Numbered.{all-acted, object-at, one-more}
+use Rattle.osact.proofs.Numbered.{all-acted, object-at, one-more}
 use Rattle.oskernel.proofs.starting.start_tasks.Goals as goal
 
 pub loop-task-init : goal.loop-task-init

@@ -1,6 +1,6 @@
 use Rattle.std.proofs.Common.{rules}
 use Rattle.osstate.proofs.ReadLemmas.{read}
-use Rattle.oskernel.specs.Admission.{takes_in}
+use Rattle.osadmit.specs.Admission.{takes_in}
 use Rattle.oskernel.proofs.kernel.Kernel.may_take.Goals as goal
 
 pub returns-then-items-lt-MOST_ITEMS-clause-reads : goal.returns-then-items-lt-MOST_ITEMS-clause-reads

@@ -5,7 +5,7 @@ use Rattle.osseat.specs.Seats.{Extends}
 use Rattle.osspin.specs.declared.calls.SpinCall.{SpinCall}
 use Rattle.osspin.specs.declared.calls.SpinReply.TheVariants.{Answered}
 use Rattle.osspin.specs.Spins.{SpinEntry, spin_reply, spinlocks}
-use Rattle.oskernel.specs.Admission.{takes_in}
+use Rattle.osadmit.specs.Admission.{takes_in}
 use Rattle.oskernel.specs.Wants.{watch_in}
 use Rattle.osturn.specs.declared.asks.Ask.TheVariants.{OfSpins}
 use Rattle.osturn.specs.declared.asks.Answer.TheVariants.{Spun}

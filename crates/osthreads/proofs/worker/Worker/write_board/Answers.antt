@@ -5,7 +5,7 @@ use Rattle.osbase.specs.declared.items.Item.{Item}
 use Rattle.osseat.specs.Histories.{entry}
 use Rattle.osboard.specs.declared.calls.BoardReply.{BoardReply}
 use Rattle.osboard.specs.Boards.{board_reply, one_board}
-use Rattle.oskernel.specs.Admission.{takes_in}
+use Rattle.osadmit.specs.Admission.{takes_in}
 use Rattle.oskernel.specs.Wants.{watch_in}
 use Rattle.osturn.specs.declared.asks.Ask.TheVariants.{OfBoard}
 use Rattle.osturn.specs.declared.asks.Answer.TheVariants.{Replied}

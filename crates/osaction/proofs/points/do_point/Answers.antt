@@ -1,0 +1,58 @@
+use Rattle.std.proofs.Common.{◌≤◌, ◌+◌, ◌*◌, IsTrue, true, false, count_by, length, rules, refl, ap, arith}
+use Rattle.std.specs.List.{list_all}
+use Rattle.osplan.specs.Objects.{is_posting, may_act}
+use Rattle.osstate.specs.Does.{HasRoom}
+use Rattle.osstate.specs.State.{KernelState}
+use Rattle.osstate.proofs.Effecting.{as_effect, then}
+use Rattle.osaction.specs.Points.{of_kind}
+use Rattle.osaction.proofs.Joining.{kinds-long, kinds-posted, point-parts}
+use Rattle.osaction.proofs.points.do_point.Goals as goal
+
+pub act_each-requires : goal.act_each-requires
+act_each-requires g c =
+    let items = c.as_slice-actions.result.now in
+    let parts = point-parts c.args.state.now.view.own c.args.point.now c.requires.known in
+    let long = kinds-long c.args.point.now.actions in
+    let same = ap (λ (s : KernelState). length s.border.outbox) c.print.ensures.state in
+    let known : IsTrue (list_all (may_act c.print.new.self.view.own) items) = rw (c.print.ensures.effects.stays.view, c.as_slice-actions.ensures) parts.0 in
+    let outbox : length c.print.new.self.border.outbox + count_by (is_posting c.print.new.self.view.own) (of_kind true items) ≤ g.row.OUT =
+    rw (c.print.ensures.effects.stays.view, c.as_slice-actions.ensures) (omega (arith, same, kinds-posted c.args.state.now.view.own c.args.point.now.actions, c.requires.posts.outbox)) in
+    let room : HasRoom (2 * length (of_kind true items)) (2 * length (of_kind true items)) c.print.new.self c.print.new.marks =
+    rw (c.as_slice-actions.ensures) (record {
+      count = omega (arith, long, parts.1, c.requires.posts.room.count, c.print.ensures.effects.stays.entries);
+      place = omega (arith, long, parts.1, c.requires.posts.room.place, c.print.ensures.effects.len, c.print.ensures.effects.capacity);
+    }) in
+    search (rules, known, outbox, room)
+
+pub act_each-requires-2 : goal.act_each-requires-2
+act_each-requires-2 g c =
+    let items = c.as_slice-actions.result.now in
+    let parts = point-parts c.args.state.now.view.own c.args.point.now c.requires.known in
+    let long = kinds-long c.args.point.now.actions in
+    let same = ap (λ (s : KernelState). length s.border.outbox) c.print.ensures.state in
+    let joined = rw (c.print.ensures.effects.stays.view, c.as_slice-actions.ensures) at c.act_each.ensures.outbox in
+    let first = rw (c.as_slice-actions.ensures) at c.act_each.ensures.effects in
+    let known : IsTrue (list_all (may_act c.act_each.new.state.view.own) items) = rw (c.act_each.ensures.effects.stays.view, c.print.ensures.effects.stays.view, c.as_slice-actions.ensures) parts.0 in
+    let outbox : length c.act_each.new.state.border.outbox + count_by (is_posting c.act_each.new.state.view.own) (of_kind false items) ≤ g.row.OUT =
+    rw (c.act_each.ensures.effects.stays.view, c.print.ensures.effects.stays.view, c.as_slice-actions.ensures) (omega (arith, joined, same, kinds-posted c.args.state.now.view.own c.args.point.now.actions, c.requires.posts.outbox)) in
+    let room : HasRoom (2 * length (of_kind false items)) (2 * length (of_kind false items)) c.act_each.new.state c.act_each.new.marks =
+    rw (c.as_slice-actions.ensures) (record {
+      count = omega (arith, long, parts.1, c.requires.posts.room.count, c.print.ensures.effects.stays.entries, first.stays.entries);
+      place = omega (arith, long, parts.1, c.requires.posts.room.place, c.print.ensures.effects.len, c.print.ensures.effects.capacity, first.len, first.capacity);
+    }) in
+    search (rules, known, outbox, room)
+
+pub returns-clause-effects : goal.returns-clause-effects
+returns-clause-effects g c =
+    let few = (point-parts c.args.state.now.view.own c.args.point.now c.requires.known).1 in
+    let long = kinds-long c.args.point.now.actions in
+    let first = rw (c.as_slice-actions.ensures) at c.act_each.ensures.effects in
+    let second = rw (c.as_slice-actions.ensures) at c.act_each-2.ensures.effects in
+    as_effect (λ v h stands. refl) (omega (arith, few, long)) (omega (arith, few, long)) (then (then c.print.ensures.effects first) second)
+
+pub returns-clause-outbox : goal.returns-clause-outbox
+returns-clause-outbox g c =
+    let same = ap (λ (s : KernelState). length s.border.outbox) c.print.ensures.state in
+    let joined = rw (c.print.ensures.effects.stays.view, c.as_slice-actions.ensures) at c.act_each.ensures.outbox in
+    let more = rw (c.act_each.ensures.effects.stays.view, c.print.ensures.effects.stays.view, c.as_slice-actions.ensures) at c.act_each-2.ensures.outbox in
+    omega (arith, joined, more, same, kinds-posted c.args.state.now.view.own c.args.point.now.actions)

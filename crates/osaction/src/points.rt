@@ -1,0 +1,61 @@
+//! What an expiry point of a schedule table does.
+
+ghost use Rattle.std.specs.Prelude.{◌≡◌, ◌≤◌, ◌+◌, ◌*◌, IsTrue, count_by, length};
+ghost use Rattle.std.specs.List.{list_all};
+ghost use Rattle.osplan.specs.Objects.{is_posting, may_act, posted_at};
+ghost use Rattle.osstate.specs.Does.{Effects};
+ghost use Rattle.osact.specs.Terms.{MayPost};
+ghost use Rattle.osact.specs.Acts.{does};
+ghost use Rattle.osaction.specs.Points.{acts_each, does_point, is_known_point, is_of_kind, of_kind};
+
+use crate::actions::act;
+use osbase::{Mark, RemoteCall, TableRef};
+use oscript::is_activation;
+use osplan::ExpiryPoint;
+use osstate::CoreState;
+
+/// The point's line, and then its actions: all activations come before all settings of events (AUTOSAR SWS OS 4.x, SWS_Os_00407 and
+/// SWS_Os_00412).
+pub fn do_point<const P: usize, const J: usize, const OUT: usize>(
+    state: &mut CoreState<'_, P, J, OUT>,
+    table: TableRef,
+    point: &ExpiryPoint,
+    marks: &mut Vec<Mark>,
+)
+    requires known { IsTrue (is_known_point state.old.view.own point.now) }
+    requires posts { MayPost (posted_at state.old.view.own point.now) OUT 17 17 state.old marks.old }
+    ensures effects { Effects 17 17 (does (does_point table point.now)) state.old state.new marks.old marks.new }
+    ensures outbox { length state.new.border.outbox ≤ length state.old.border.outbox + posted_at state.old.view.own point.now }
+{
+    let offset = point.offset;
+    let actions = point.actions.as_slice();
+    state.print(Mark::ExpiryPoint { table, offset }, marks);
+    act_each(state, actions, true, marks);
+    act_each(state, actions, false, marks);
+}
+
+// Those of the actions that activate a task, or those that set events.
+fn act_each<const P: usize, const J: usize, const OUT: usize>(
+    state: &mut CoreState<'_, P, J, OUT>,
+    actions: &[RemoteCall],
+    activating: bool,
+    marks: &mut Vec<Mark>,
+)
+    requires known { IsTrue (list_all (may_act state.old.view.own) actions.now) }
+    requires posts { MayPost (count_by (is_posting state.old.view.own) (of_kind activating actions.now)) OUT (2 * length (of_kind activating actions.now)) (2 * length (of_kind activating actions.now)) state.old marks.old }
+    ensures effects { Effects (2 * length (of_kind activating actions.now)) (2 * length (of_kind activating actions.now)) (does (acts_each (of_kind activating actions.now))) state.old state.new marks.old marks.new }
+    ensures outbox { length state.new.border.outbox ≤ length state.old.border.outbox + count_by (is_posting state.old.view.own) (of_kind activating actions.now) }
+{
+    for action in actions {
+        if is_of_kind(action, activating) {
+            act(state, *action, marks);
+        }
+    }
+}
+
+// An activation, or, if those are not wanted, a setting of events.
+fn is_of_kind(action: &RemoteCall, activating: bool) -> bool
+    ensures { result ≡ is_of_kind activating action.now }
+{
+    is_activation(*action) == activating
+}

@@ -1,0 +1,161 @@
+-- Which item may be taken, asked of a core's state.
+use Rattle.std.specs.Prelude.{ℕ, ◌^◌, ◌==◌, ◌&&◌, ◌||◌, nat_lt, Bool, true, false, not, if◌then◌else◌, is_none, Option, List, [], ◌∷◌, length, slice_index}
+use Rattle.std.specs.List.{list_all}
+use Rattle.std.specs.Option.{option_map_or}
+use Rattle.osbase.specs.declared.statuses.Status.{Status}
+use Rattle.osbase.specs.declared.statuses.Status.TheVariants.{EOk, EOsId, EOsState}
+use Rattle.osbase.specs.declared.statuses.ServiceId.{ServiceId}
+use Rattle.osbase.specs.declared.statuses.ServiceId.TheVariants as Service
+use Rattle.osbase.specs.declared.references.CoreId.{CoreId}
+use Rattle.osbase.specs.declared.references.SpinlockId.{SpinlockId}
+use Rattle.osbase.specs.declared.messages.Message.{Message}
+use Rattle.osbase.specs.declared.items.CoreSet.{CoreSet}
+use Rattle.osbase.specs.declared.items.Agreement.{Agreement}
+use Rattle.osbase.specs.declared.items.Item.{Item}
+use Rattle.osbase.specs.declared.histories.Awaited.{Awaited}
+use Rattle.osbase.specs.declared.histories.OpenCall.{OpenCall}
+use Rattle.osbase.specs.declared.histories.Sent.{Sent}
+use Rattle.osbase.specs.declared.histories.Phase.TheVariants as Phase
+use Rattle.osbase.specs.History.{same_core}
+use Rattle.osbase.specs.Phases.{is_scheduling, stands_in}
+use Rattle.osbase.specs.Sets.{has_core, core_ids}
+use Rattle.osbase.specs.Spins.{newest_owed, same_spinlock}
+use Rattle.osbase.specs.declared.items.CoreMode.{CoreMode}
+use Rattle.osbase.specs.declared.items.CoreMode.TheVariants.{Named, DontCare}
+use Rattle.osplan.specs.Stimuli.{knows_stimulus}
+use Rattle.osplan.specs.View.{View, is_configured}
+use Rattle.osstate.specs.Readings.{is_own, next_start}
+use Rattle.osstate.specs.State.{KernelState}
+use Rattle.osact.specs.Checks.{is_ok_status}
+use Rattle.oscript.specs.Calls.{is_action}
+use Rattle.oscall.specs.Border.{is_served}
+use Rattle.osadmit.specs.Free.{is_settled, may_go_on, may_look_halt}
+
+-- `StartCore` answers E_OS_ID exactly for a core that is not configured, and else E_OK, or E_OS_STATE for one
+-- that was started already. [AUTOSAR SWS OS 4.x, StartCore; E_OS_STATE before StartOS]
+abbrev pub is_started_now_or_before : Status → Bool
+is_started_now_or_before EOk = true
+is_started_now_or_before EOsState = true
+is_started_now_or_before s = false
+
+abbrev pub is_unknown_core : Status → Bool
+is_unknown_core EOsId = true
+is_unknown_core s = false
+
+abbrev pub is_start_answer : View → CoreId → Status → Bool
+is_start_answer v core status = if is_configured v core then is_started_now_or_before status else is_unknown_core status
+
+abbrev pub is_for : CoreId → Option CoreId → Bool
+is_for core other = option_map_or (same_core core) other false
+
+-- What the first gate may come to for a core: a conflict, its own mode, or, for a core that says DONOTCARE,
+-- any mode or none. [AUTOSAR SWS OS 4.x, SWS_Os_00608 to SWS_Os_00610; that all may say DONOTCARE is this project's own]
+abbrev pub is_agreement : View → CoreMode → Agreement → Bool
+is_agreement v mode Agreement.Conflict = true
+is_agreement v (Named own) (Agreement.Mode m) = own.index == m.index
+is_agreement v DontCare (Agreement.Mode m) = nat_lt m.index (length v.modes)
+is_agreement v (Named own) Agreement.NoMode = false
+is_agreement v DontCare Agreement.NoMode = true
+
+-- The set has configured cores only, and the own one. [own]
+abbrev pub are_started_cores : View → CoreSet → Bool
+are_started_cores v cores = has_core cores v.core && list_all (λ id. not (has_core cores id) || is_configured v id) core_ids
+
+-- The front of the outbox is for this core.
+abbrev pub is_front_for : CoreId → List Sent → Bool
+is_front_for core [] = false
+is_front_for core (s ∷ ss) = same_core s.to core
+
+-- The service whose E_OK comes with a value. [OSEK/VDX OS 2.2.3, section 13.6.3.2]
+abbrev pub answers_value : ServiceId → Bool
+answers_value Service.GetAlarm = true
+answers_value s = false
+
+-- The reply of this core is awaited, with a value exactly for GetAlarm and E_OK. [own]
+abbrev pub is_reply_for : CoreId → Status → Bool → Awaited → Bool
+is_reply_for from status has_value (Awaited.Reply service core) =
+    same_core core from && (if answers_value service && is_ok_status status then has_value else not has_value)
+is_reply_for from status has_value awaited = false
+
+abbrev pub is_reply_to : CoreId → Status → Bool → OpenCall → Bool
+is_reply_to from status has_value call = is_reply_for from status has_value call.awaits
+
+-- A message is expected: a request where the reply to it has a place, an action that an alarm may have, or the reply of the open
+-- call. [own]
+abbrev pub is_awaited : ℕ → KernelState → CoreId → Message → Bool
+is_awaited places s from (Message.Request call) = is_served s.view call && nat_lt (length s.border.outbox) places
+is_awaited places s from (Message.Action call) = is_action call && is_served s.view call
+is_awaited places s from (Message.Reply status) = option_map_or (is_reply_to from status false) s.border.open_call false
+is_awaited places s from (Message.Value status n) = option_map_or (is_reply_to from status true) s.border.open_call false
+
+-- An envelope may be taken: its sender was started and is another core, its number is the next from there.
+-- [own]
+abbrev pub is_next_from : ℕ → KernelState → CoreId → ℕ → Message → Bool
+is_next_from places s from number message =
+    has_core s.progress.started from && not (is_own s.view from) && (number == slice_index s.border.received from.number)
+    && is_awaited places s from message
+
+-- The open call asks for a shutdown of all cores. [AUTOSAR SWS OS 4.x, ShutdownAllCores]
+abbrev pub asks_halt : Awaited → Bool
+asks_halt (Awaited.Halt status) = true
+asks_halt awaited = false
+
+abbrev pub has_asked_halt : KernelState → Bool
+has_asked_halt s = option_map_or (λ (call : OpenCall). asks_halt call.awaits) s.border.open_call false
+
+-- A core is halted where it asked for the shutdown of all cores itself, or may look for one. [own]
+abbrev pub may_halt : KernelState → Bool
+may_halt s = has_asked_halt s || may_look_halt s
+
+-- The open call awaits the answer of this spinlock. [AUTOSAR SWS OS 4.x, GetSpinlock, TryToGetSpinlock and ReleaseSpinlock]
+abbrev pub is_get_of : SpinlockId → Awaited → Bool
+is_get_of l (Awaited.Get k) = same_spinlock k l
+is_get_of l awaited = false
+
+abbrev pub is_try_of : SpinlockId → Awaited → Bool
+is_try_of l (Awaited.Try k) = same_spinlock k l
+is_try_of l awaited = false
+
+abbrev pub is_release_of : SpinlockId → Awaited → Bool
+is_release_of l (Awaited.Release k) = same_spinlock k l
+is_release_of l awaited = false
+
+abbrev pub awaits_get : KernelState → SpinlockId → Bool
+awaits_get s l = option_map_or (λ (call : OpenCall). is_get_of l call.awaits) s.border.open_call false
+
+abbrev pub awaits_try : KernelState → SpinlockId → Bool
+awaits_try s l = option_map_or (λ (call : OpenCall). is_try_of l call.awaits) s.border.open_call false
+
+-- The spinlock is given back next: the open call releases it, or no call is open, and of the owed releases it is the newest. [own]
+abbrev pub is_next_release : KernelState → SpinlockId → Bool
+is_next_release s l =
+    option_map_or (λ (call : OpenCall). is_release_of l call.awaits) s.border.open_call
+    (option_map_or (same_spinlock l) (newest_owed s.border.spins) false)
+
+-- An item may be taken: one line for each kind. `places` is how many envelopes the outbox may hold. [own]
+abbrev pub admits : ℕ → KernelState → Item → Bool
+admits places s Item.On = stands_in Phase.Off s.progress.phase
+admits places s (Item.Began core status) =
+    stands_in Phase.Boot s.progress.phase && is_for core (next_start s.view s.progress.began) && is_start_answer s.view core status
+admits places s Item.Entered = stands_in Phase.Boot s.progress.phase && is_none (next_start s.view s.progress.began)
+admits places s (Item.Pass1 agreement) = stands_in Phase.FirstGate s.progress.phase && is_agreement s.view s.view.own.mode agreement
+admits places s Item.Readied = stands_in Phase.BetweenGates s.progress.phase
+admits places s (Item.Pass2 cores) = stands_in Phase.SecondGate s.progress.phase && are_started_cores s.view cores
+admits places s (Item.Stim stimulus) = stands_in Phase.Live s.progress.phase && knows_stimulus s.view.own stimulus && may_go_on s
+admits places s (Item.Posted core) = is_scheduling s.progress.phase && is_front_for core s.border.outbox
+admits places s (Item.Received from number message) = is_scheduling s.progress.phase && is_next_from places s from number message
+admits places s (Item.Granted l) = stands_in Phase.Live s.progress.phase && awaits_get s l
+admits places s (Item.Tried l taken) = stands_in Phase.Live s.progress.phase && awaits_try s l
+admits places s (Item.Freed l) = stands_in Phase.Live s.progress.phase && is_next_release s l
+admits places s (Item.Halt core status) = stands_in Phase.Live s.progress.phase && may_halt s
+admits places s Item.Drained = stands_in Phase.Live s.progress.phase && is_settled s
+admits places s Item.PassEnd = stands_in Phase.Drained s.progress.phase
+admits places s (Item.Last shutdown) = stands_in Phase.Closing s.progress.phase
+
+-- An item may be taken while fewer than 2 ^ 48 were. [own]
+abbrev pub takes_in : ℕ → KernelState → Item → Bool
+takes_in places s item = nat_lt s.progress.items (2 ^ 48) && admits places s item
+
+-- A core may serve, whatever it is sent: it may take one item more, schedules, and has a place for the reply to a request. [own]
+abbrev pub serves_in : ℕ → KernelState → Bool
+serves_in places s = nat_lt s.progress.items (2 ^ 48) && (is_scheduling s.progress.phase && nat_lt (length s.border.outbox) places)

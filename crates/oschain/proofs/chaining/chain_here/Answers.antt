@@ -1,0 +1,43 @@
+use Rattle.std.proofs.Common.{◌≡◌, ◌<◌, ◌&&◌, Bool, true, false, not, None, refl, sym, subst, ◌∙◌, rules, arith, lit≤}
+use Rattle.std.proofs.lemmas.Bool.{leb-false}
+use Rattle.osbase.specs.declared.statuses.ServiceId.TheVariants as Service
+use Rattle.osbase.specs.declared.statuses.Status.TheVariants.{EOsLimit}
+use Rattle.osbase.specs.declared.references.Runner.{Runner}
+use Rattle.osbase.specs.declared.references.TaskRef.{TaskRef}
+use Rattle.osbase.specs.History.{job_count, same_runner, without_oldest}
+use Rattle.osbase.proofs.Same.{same_runner-true}
+use Rattle.osstate.specs.Queries.{is_at_limit_in}
+use Rattle.osstate.specs.Sound.{activation_limit}
+use Rattle.osstate.specs.State.{KernelState}
+use Rattle.osstate.proofs.Effecting.{as_effect, then}
+use Rattle.osstate.proofs.JobLists.{job_count-without_oldest}
+use Rattle.osact.specs.Acts.{both, does}
+use Rattle.osact.specs.Returning.{returns as returning}
+use Rattle.ostaskcall.specs.Tasks.{activates, ends}
+use Rattle.oschain.proofs.chaining.chain_here.Goals as goal
+
+-- once the caller has ended, the task has fewer jobs than it may have
+below : (old new : KernelState) (caller t : TaskRef) → new.view ≡ old.view → new.tasks.jobs ≡ without_oldest (Runner.Task caller) old.tasks.jobs → job_count (Runner.Task caller) new.tasks.jobs < activation_limit new.view.own (Runner.Task caller) → (not (same_runner (Runner.Task caller) (Runner.Task t)) && is_at_limit_in t old) ≡ false → job_count (Runner.Task t) new.tasks.jobs < activation_limit new.view.own (Runner.Task t)
+below old new caller t view jobs own allowed = by (same_runner (Runner.Task caller) (Runner.Task t)) refl allowed
+  where
+    by : (b : Bool) → same_runner (Runner.Task caller) (Runner.Task t) ≡ b → (not b && is_at_limit_in t old) ≡ false → job_count (Runner.Task t) new.tasks.jobs < activation_limit new.view.own (Runner.Task t)
+    by true same a = subst (λ (q : Runner). job_count q new.tasks.jobs < activation_limit new.view.own q) (same_runner-true (Runner.Task caller) (Runner.Task t) same) own
+    by false same a =
+        rw (view, jobs) (let less = leb-false (activation_limit old.view.own (Runner.Task t)) (job_count (Runner.Task t) old.tasks.jobs) a in
+        omega (arith, less, job_count-without_oldest (Runner.Task t) (Runner.Task caller) old.tasks.jobs))
+
+pub activate-requires : goal.activate-requires
+activate-requires g c =
+    let limit : job_count (Runner.Task c.args.task) c.end_task.new.state.tasks.jobs < activation_limit c.end_task.new.state.view.own (Runner.Task c.args.task) =
+    below c.args.state.now c.end_task.new.state c.args.caller c.args.task c.end_task.ensures.effects.stays.view c.end_task.ensures.jobs c.end_task.ensures.below (sym c.exceeds_limit.ensures.value ∙ c.if-exceeds_limit.false) in
+    search (rules, limit)
+
+pub returns : goal.returns
+returns g c =
+    as_effect {f = does (both (ends (Runner.Task c.args.caller)) (activates c.args.task))} (λ v h stands. rw (sym (c.exceeds_limit.ensures.reads v h stands) ∙ c.if-exceeds_limit.false) refl)
+    (lit≤ tt) (lit≤ tt) (then c.end_task.ensures.effects c.activate.ensures.effects)
+
+pub returns-then-exceeds_limit : goal.returns-then-exceeds_limit
+returns-then-exceeds_limit g c =
+    as_effect {f = does (returning (Runner.Task c.args.caller) Service.ChainTask EOsLimit None)} (λ v h stands. rw (sym (c.exceeds_limit.ensures.reads v h stands) ∙ c.if-exceeds_limit.true) refl)
+    (lit≤ tt) (lit≤ tt) c.refuse.ensures

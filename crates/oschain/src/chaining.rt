@@ -1,0 +1,185 @@
+//! ChainTask.
+
+ghost use Rattle.std.specs.Prelude.{◌≡◌, ◌<◌, ◌&&◌, IsTrue, false, not};
+ghost use Rattle.osbase.specs.declared.limits.TheConstants.{CORES};
+ghost use Rattle.osbase.specs.History.{same_runner};
+ghost use Rattle.osbase.specs.Objects.{task_object};
+ghost use Rattle.osbase.specs.Phases.{is_before_live};
+ghost use Rattle.osplan.specs.Objects.{may_name};
+ghost use Rattle.osjobs.specs.Priorities.{is_own_runner};
+ghost use Rattle.osstate.specs.Does.{Effects, Reads, service_entries, service_marks};
+ghost use Rattle.osstate.specs.Queries.{is_at_limit_in};
+ghost use Rattle.osact.specs.Terms.{MayAct, MayOperate, MayServe, Offered};
+ghost use Rattle.osact.specs.Acts.{does};
+ghost use Rattle.osact.specs.Seen.{seen_of};
+ghost use Rattle.oschain.specs.Chaining.{chain_acts, chains, chains_across, chains_here, chains_if, chains_to, ends_caller, exceeds_limit, resumes};
+
+use osact::{Answer, Step, ask, finish, is_ok, refuse};
+use osbase::{Mark, RemoteCall, Runner, ServiceId, Status, TaskRef};
+use oscript::Op;
+use osstate::CoreState;
+use ostaskcall::{end, end_task, status_of_holding};
+
+// A running job of one of the core's tasks ends itself, and a job of the task begins (OSEK/VDX OS 2.2.3, section
+// 13.2.3.3). The invalid identifier answers E_OS_ID, a task of a core that was never started E_OS_CORE, a caller
+// that holds a resource E_OS_RESOURCE, one that holds a spinlock E_OS_SPINLOCK, and a task with as many jobs as it may
+// have, if it is not the caller's own, E_OS_LIMIT; then nothing is activated, and the caller goes on. Another core is
+// asked to activate its task, and the caller ends once it answers.
+fn chain<const P: usize, const J: usize, const OUT: usize>(
+    state: &mut CoreState<'_, P, J, OUT>,
+    runner: Runner,
+    target: Option<TaskRef>,
+    marks: &mut Vec<Mark>,
+)
+    requires { MayOperate 1 OUT state.old runner (Op.ChainTask target) marks.old }
+    ensures { Effects service_entries service_marks (does (chains runner target)) state.old state.new marks.old marks.new }
+{
+    match runner {
+        Runner::Task(caller) => chain_if(state, caller, target, marks),
+        Runner::Isr(_) => refuse(
+            state,
+            runner,
+            ServiceId::ChainTask,
+            Status::EOsCallevel,
+            marks,
+        ),
+    }
+}
+
+/// An operation of a running job of one of the core's tasks, if it is ChainTask: it is done, and the answer
+/// is yes. Else nothing changes.
+pub fn operate<const P: usize, const J: usize, const OUT: usize>(
+    state: &mut CoreState<'_, P, J, OUT>,
+    step: Step,
+    marks: &mut Vec<Mark>,
+) -> bool
+    requires { MayOperate 1 OUT state.old step.runner step.op marks.old }
+    ensures { Offered (chain_acts step.runner step.op) result state.old state.new marks.old marks.new }
+{
+    let runner = step.runner;
+    match step.op {
+        Op::ChainTask(target) => {
+            chain(state, runner, target, marks);
+            true
+        }
+        _ => false,
+    }
+}
+
+// Where the task is named.
+fn chain_if<const P: usize, const J: usize, const OUT: usize>(
+    state: &mut CoreState<'_, P, J, OUT>,
+    caller: TaskRef,
+    target: Option<TaskRef>,
+    marks: &mut Vec<Mark>,
+)
+    requires { MayOperate 1 OUT state.old (Runner.Task caller) (Op.ChainTask target) marks.old }
+    ensures { Effects service_entries service_marks (does (chains_if (Runner.Task caller) target)) state.old state.new marks.old marks.new }
+{
+    let runner = Runner::Task(caller);
+    match target {
+        Some(task) => chain_across(state, caller, task, marks),
+        None => refuse(state, runner, ServiceId::ChainTask, Status::EOsId, marks),
+    }
+}
+
+// Where its core was started, and the caller holds nothing.
+fn chain_across<const P: usize, const J: usize, const OUT: usize>(
+    state: &mut CoreState<'_, P, J, OUT>,
+    caller: TaskRef,
+    task: TaskRef,
+    marks: &mut Vec<Mark>,
+)
+    requires known { IsTrue (may_name state.old.view.own (task_object task)) }
+    requires serves { MayServe 1 OUT state.old (Runner.Task caller) marks.old }
+    ensures { Effects service_entries service_marks (does (chains_across (Runner.Task caller) task)) state.old state.new marks.old marks.new }
+{
+    let runner = Runner::Task(caller);
+    if !state.knows_started(task.core) {
+        return refuse(state, runner, ServiceId::ChainTask, Status::EOsCore, marks);
+    }
+    let status = status_of_holding(state, runner);
+    if is_ok(status) {
+        chain_to(state, caller, task, marks);
+    } else {
+        refuse(state, runner, ServiceId::ChainTask, status, marks);
+    }
+}
+
+// An own task is activated here, and another core is asked to activate its task.
+fn chain_to<const P: usize, const J: usize, const OUT: usize>(
+    state: &mut CoreState<'_, P, J, OUT>,
+    caller: TaskRef,
+    task: TaskRef,
+    marks: &mut Vec<Mark>,
+)
+    requires known { IsTrue (may_name state.old.view.own (task_object task)) }
+    requires receiver { task.core.number < CORES }
+    requires serves { MayServe 1 OUT state.old (Runner.Task caller) marks.old }
+    ensures { Effects service_entries service_marks (does (chains_to (Runner.Task caller) task)) state.old state.new marks.old marks.new }
+{
+    if state.is_own(task.core) {
+        return chain_here(state, caller, task, marks);
+    }
+    let runner = Runner::Task(caller);
+    let call = RemoteCall::ActivateTask(task);
+    ask(state, runner, ServiceId::ChainTask, task.core, call, marks);
+}
+
+// An own task is activated once the caller has ended.
+fn chain_here<const P: usize, const J: usize, const OUT: usize>(
+    state: &mut CoreState<'_, P, J, OUT>,
+    caller: TaskRef,
+    task: TaskRef,
+    marks: &mut Vec<Mark>,
+)
+    requires target { IsTrue (is_own_runner state.old.view.own (Runner.Task task)) }
+    requires live { is_before_live state.old.progress.phase ≡ false }
+    requires acts { MayAct service_entries service_marks state.old (Runner.Task caller) marks.old }
+    ensures { Effects service_entries service_marks (does (chains_here (Runner.Task caller) task)) state.old state.new marks.old marks.new }
+{
+    if exceeds_limit(state, caller, task) {
+        let runner = Runner::Task(caller);
+        return refuse(state, runner, ServiceId::ChainTask, Status::EOsLimit, marks);
+    }
+    end_task(state, caller, marks);
+    state.activate(task, marks);
+}
+
+// As many jobs of the task are live as it may have. The caller's own task has one less once the caller has ended.
+fn exceeds_limit<const P: usize, const J: usize, const OUT: usize>(
+    state: &CoreState<'_, P, J, OUT>,
+    caller: TaskRef,
+    task: TaskRef,
+) -> bool
+    requires own { IsTrue (is_own_runner state.now.view.own (Runner.Task task)) }
+    ensures value { result ≡ (not (same_runner (Runner.Task caller) (Runner.Task task)) && is_at_limit_in task state.now) }
+    ensures reads { Reads (λ v h. exceeds_limit (seen_of v h) (Runner.Task caller) task) state.now result }
+{
+    !Runner::Task(caller).is(Runner::Task(task)) && state.is_at_limit(task)
+}
+
+// ChainTask that was granted does not return: its caller ends.
+fn ends_caller(service: ServiceId, status: Status) -> bool
+    ensures { result ≡ ends_caller service status }
+{
+    matches!((service, status), (ServiceId::ChainTask, Status::EOk))
+}
+
+/// A service of a job of one of the core's tasks goes on with the answer of another core: it returns, but for a
+/// ChainTask that was granted, whose caller ends (OSEK/VDX OS 2.2.3, section 13.2.3.3).
+pub fn resume<const P: usize, const J: usize, const OUT: usize>(
+    state: &mut CoreState<'_, P, J, OUT>,
+    runner: Runner,
+    service: ServiceId,
+    answer: Answer,
+    marks: &mut Vec<Mark>,
+)
+    requires { MayAct 3 2 state.old runner marks.old }
+    ensures { Effects 3 2 (does (resumes runner service answer.status answer.value)) state.old state.new marks.old marks.new }
+{
+    if ends_caller(service, answer.status) {
+        return end(state, runner, marks);
+    }
+    finish(state, runner, service, answer, marks);
+}

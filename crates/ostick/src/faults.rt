@@ -1,0 +1,94 @@
+//! The time fault: a job that has used up its execution budget.
+
+ghost use Rattle.std.specs.Prelude.{◌≡◌, IsTrue};
+ghost use Rattle.osjobs.specs.Priorities.{is_own_runner};
+ghost use Rattle.osstate.specs.Does.{Effects, HasRoom, Reads};
+ghost use Rattle.osact.specs.Acts.{does, look};
+ghost use Rattle.osact.specs.Seen.{seen_of};
+ghost use Rattle.ostick.specs.Faults.{answers_fault, ends_by_force, faults_with, fault_of, protects};
+
+use osbase::{Mark, Runner, Status};
+use oscall::shutdown::go_down;
+use osplan::Protection;
+use osstate::CoreState;
+
+/// The running job is looked at, if there is one: where it has used up its budget, ProtectionHook is called, and then it ends, or the
+/// core goes down (AUTOSAR SWS OS 4.x, section 8.6.1 and ProtectionReturnType). No envelope joins the outbox.
+pub(crate) fn protect<const P: usize, const J: usize, const OUT: usize>(
+    state: &mut CoreState<'_, P, J, OUT>,
+    marks: &mut Vec<Mark>,
+)
+    requires { HasRoom 3 2 state.old marks.old }
+    ensures effects { Effects 3 2 (does (look (λ s. protects s s.running))) state.old state.new marks.old marks.new }
+    ensures outbox { state.new.border.outbox ≡ state.old.border.outbox }
+{
+    if let Some(job) = state.running_job() {
+        protect_from(state, job.runner, marks);
+    }
+}
+
+fn protect_from<const P: usize, const J: usize, const OUT: usize>(
+    state: &mut CoreState<'_, P, J, OUT>,
+    runner: Runner,
+    marks: &mut Vec<Mark>,
+)
+    requires own { IsTrue (is_own_runner state.old.view.own runner) }
+    requires room { HasRoom 3 2 state.old marks.old }
+    ensures effects { Effects 3 2 (does (look (λ s. faults_with s.core.protection runner (fault_of s runner)))) state.old state.new marks.old marks.new }
+    ensures outbox { state.new.border.outbox ≡ state.old.border.outbox }
+{
+    if let Some(status) = fault_of(state, runner) {
+        state.print(Mark::ProtectionHook(status), marks);
+        answer(state, runner, status, marks);
+    }
+}
+
+// The status of the budget that the oldest job of one of the core's tasks or ISRs has reached.
+fn fault_of<const P: usize, const J: usize, const OUT: usize>(
+    state: &CoreState<'_, P, J, OUT>,
+    runner: Runner,
+) -> Option<Status>
+    requires own { IsTrue (is_own_runner state.now.view.own runner) }
+    ensures { Reads (λ v h. fault_of (seen_of v h) runner) state.now result }
+{
+    if state.is_spent(runner) {
+        Some(Status::EOsProtectionTime)
+    } else {
+        None
+    }
+}
+
+// The core's answer to a time fault of this job: it ends, or the core goes down.
+fn answer<const P: usize, const J: usize, const OUT: usize>(
+    state: &mut CoreState<'_, P, J, OUT>,
+    runner: Runner,
+    status: Status,
+    marks: &mut Vec<Mark>,
+)
+    requires own { IsTrue (is_own_runner state.old.view.own runner) }
+    requires room { HasRoom 2 1 state.old marks.old }
+    ensures effects { Effects 2 1 (does (look (λ s. answers_fault s.core.protection runner status))) state.old state.new marks.old marks.new }
+    ensures outbox { state.new.border.outbox ≡ state.old.border.outbox }
+{
+    match state.protection() {
+        Protection::TerminateTaskIsr => end_by_force(state, runner, marks),
+        _ => go_down(state, status, marks),
+    }
+}
+
+// The oldest job of one of the core's tasks or ISRs ends; PostTaskHook is not called.
+fn end_by_force<const P: usize, const J: usize, const OUT: usize>(
+    state: &mut CoreState<'_, P, J, OUT>,
+    runner: Runner,
+    marks: &mut Vec<Mark>,
+)
+    requires own { IsTrue (is_own_runner state.old.view.own runner) }
+    requires room { HasRoom 1 1 state.old marks.old }
+    ensures effects { Effects 1 1 (does (ends_by_force runner)) state.old state.new marks.old marks.new }
+    ensures outbox { state.new.border.outbox ≡ state.old.border.outbox }
+{
+    match runner {
+        Runner::Task(task) => state.terminate(task, marks),
+        Runner::Isr(isr) => state.leave_isr(isr, marks),
+    }
+}

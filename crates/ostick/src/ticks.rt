@@ -1,0 +1,67 @@
+//! A tick: the budget of the running job, and the core's hardware counters.
+
+ghost use Rattle.std.specs.Prelude.{◌+◌, ◌≤◌, IsTrue, length};
+ghost use Rattle.osbase.specs.Objects.{counter_object};
+ghost use Rattle.osplan.specs.Objects.{is_own_object, posted_at_once};
+ghost use Rattle.osstate.specs.Does.{Effects, service_entries, service_marks};
+ghost use Rattle.osact.specs.Terms.{MayPost};
+ghost use Rattle.osact.specs.Acts.{does, nothing, when};
+ghost use Rattle.osdue.specs.Advancing.{count_entries, count_marks, counts, posted_by};
+ghost use Rattle.ostick.specs.Ticks.{counted_entries, counted_marks, counts_each, ticks};
+
+use crate::faults::protect;
+use osbase::{CounterRef, Mark};
+use osplan::Counter;
+use osstate::CoreState;
+
+/// A tick: its line, by which the running job has used one tick of its budget; what follows if that was the last one; and, unless the
+/// core is down by it, each hardware counter of the core goes on by one, in index order, and what is due by it acts (OSEK/VDX OS
+/// 2.2.3, section 9.1).
+pub fn tick<const P: usize, const J: usize, const OUT: usize>(
+    state: &mut CoreState<'_, P, J, OUT>,
+    marks: &mut Vec<Mark>,
+)
+    requires { MayPost (posted_at_once state.old.view.own) OUT service_entries service_marks state.old marks.old }
+    ensures { Effects service_entries service_marks (does ticks) state.old state.new marks.old marks.new }
+{
+    state.tick(marks);
+    protect(state, marks);
+    if state.course().is_going() {
+        count_each(state, marks);
+    }
+}
+
+// Each hardware counter goes on by one.
+fn count_each<const P: usize, const J: usize, const OUT: usize>(
+    state: &mut CoreState<'_, P, J, OUT>,
+    marks: &mut Vec<Mark>,
+)
+    requires { MayPost (posted_at_once state.old.view.own) OUT counted_entries counted_marks state.old marks.old }
+    ensures { Effects counted_entries counted_marks (does counts_each) state.old state.new marks.old marks.new }
+{
+    let core = state.id();
+    let counters = state.counters();
+    let mut index: u8 = 0;
+    for counter in counters {
+        let reference = CounterRef { core, index };
+        count_by_tick(state, counter, reference, marks);
+        index += 1;
+    }
+}
+
+// A software counter is left as it is.
+fn count_by_tick<const P: usize, const J: usize, const OUT: usize>(
+    state: &mut CoreState<'_, P, J, OUT>,
+    counter: &Counter,
+    reference: CounterRef,
+    marks: &mut Vec<Mark>,
+)
+    requires own { IsTrue (is_own_object state.old.view.own (counter_object reference)) }
+    requires posts { MayPost (posted_by state.old.view.own reference) OUT (count_entries state.old.view.own reference) (count_marks state.old.view.own reference) state.old marks.old }
+    ensures effects { Effects (count_entries state.old.view.own reference) (count_marks state.old.view.own reference) (does (when counter.now.software nothing (counts reference))) state.old state.new marks.old marks.new }
+    ensures outbox { length state.new.border.outbox ≤ length state.old.border.outbox + posted_by state.old.view.own reference }
+{
+    if !counter.software {
+        osdue::advance(state, reference, marks);
+    }
+}
