@@ -169,6 +169,11 @@ module _ (l : Leave) where
   pub elsewhere : (s : Seen) → IsSeen l s → (core : CoreId) → is_own s core ≡ false → is_within l.view l.may core ≡ true → l.may (Partner.Core core) ≡ true
   elsewhere s seen core other within = rw (← seen.id, other) at within
 
+  -- On an object of the own core this is done, and another core is asked.
+  pub crosses-ok : (r : Runner) (service : ServiceId) (core : CoreId) (call : RemoteCall) (here : Seen → Acts) → names_only l.names (Mark.CallQueued core call) ≡ true → is_within l.view l.may core ≡ true → ((s : Seen) → AreAllowed (here s))
+      → AreAllowed (look (λ s. when (is_own s core) (here s) (asks r service core call)))
+  crosses-ok r service core call here named within ok s seen = (λ own. ok s, λ other. asks-ok r service core call named (elsewhere s seen core other within))
+
   -- What follows from what is found, if anything is.
   pub found-ok : {A : Type 0} (f : A → Acts) (o : Option A) → ((x : A) → o ≡ Some x → AreAllowed (f x)) → AreAllowed (option_map_or f o nothing)
   found-ok f None each = tt

@@ -12,7 +12,8 @@ use Rattle.ostaskcall.proofs.Allowed.{task_acts-ok}
 use Rattle.osalarmcall.proofs.Allowed.{counter_acts-ok}
 use Rattle.ostablecall.proofs.Allowed.{table_acts-ok}
 use Rattle.osspincall.proofs.Allowed.{spin_acts-ok}
-use Rattle.oscall.proofs.Allowed.{called-ok, chain_acts-ok, core_acts-ok, script_acts-ok}
+use Rattle.oschain.proofs.Allowed.{chain_acts-ok}
+use Rattle.oscall.proofs.Allowed.{called-ok, core_acts-ok, script_acts-ok}
 use Rattle.osdue.proofs.Allowed.{ActionsAllow, increment_acts-ok}
 use Rattle.oskernel.specs.Operations.{operates, operates_by, operates_unless, refused_now}
 

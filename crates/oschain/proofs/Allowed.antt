@@ -1,0 +1,21 @@
+-- Which acts ChainTask does: it names only objects of cores that marks may name, and asks only cores that may be asked. The check
+-- makes the cases of a table itself: the first clause is only there to begin them.
+use Rattle.std.proofs.Common.{◌≡◌, true, Some, IfSome}
+use Rattle.std.proofs.lemmas.Bool.{and_parts}
+use Rattle.osbase.specs.declared.statuses.ServiceId.{ServiceId}
+use Rattle.osbase.specs.declared.references.Runner.{Runner}
+use Rattle.osbase.specs.declared.messages.RemoteCall.{RemoteCall}
+use Rattle.oscript.specs.declared.Op.{Op}
+use Rattle.osact.proofs.Called.{IsAllowed}
+use Rattle.osact.proofs.Kept.{AreAllowed, IsNamed, Leave, crosses-ok, is_within}
+use Rattle.ostaskcall.proofs.Allowed.{ends-ok}
+use Rattle.oschain.specs.Chaining.{chain_acts, chains_here, chains_to}
+
+module _ (l : Leave) where
+  pub chain_acts-ok : (r : Runner) (op : Op) → IsNamed l r → IsAllowed l.view l.may op → IfSome (chain_acts r op) (AreAllowed l)
+  chain_acts-ok r (Op.ChainTask (Some t)) n allowed =
+      let within = (and_parts (is_within l.view l.may t.core) true allowed.objects).0 in
+      let named = l.named t.core within in
+      let chained : AreAllowed l (chains_to r t) = crosses-ok l r ServiceId.ChainTask t.core (RemoteCall.ActivateTask t) (λ s. chains_here r t) named within (λ s q seen. assumption (ends-ok l r n, named)) in
+      assumption
+  chain_acts-ok r op n allowed = assumption
