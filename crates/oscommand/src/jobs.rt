@@ -14,7 +14,7 @@ use std::alloc::{AllocError, Global};
 use std::convert::AsStr;
 
 /// What `mcos --version` prints behind the name.
-const VERSION: &str = "0.1.0";
+const VERSION: &str = "0.2.0";
 
 /// How many turns in a row may change nothing in a run by threads, where the words do not say it.
 pub const DEFAULT_TURNS: u64 = 1_000_000;

@@ -28,11 +28,11 @@ fn a_text_is_sent_off_and_then_its_fault_is_told(rt: HostRuntime) -> Result<(), 
 fn words_come_to_a_text_or_a_line_and_a_status(rt: HostRuntime) -> Result<(), Fail> {
     let alloc = rt.alloc();
     let examples = [
-        (["mcos", "--version"].as_slice(), 99, "mcos 0.1.0\n", "", 0),
+        (["mcos", "--version"].as_slice(), 99, "mcos 0.2.0\n", "", 0),
         (
             ["mcos", "--version"].as_slice(),
             11,
-            "mcos 0.1.0\n",
+            "mcos 0.2.0\n",
             "fault 19 WriteFailed\n",
             1,
         ),
