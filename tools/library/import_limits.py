@@ -1,0 +1,67 @@
+"""Notes on what an import has more of than a configuration may have: it is printed, and `mcos` refuses it."""
+
+from typing import Any, Dict, Iterable, List, Sequence, Tuple
+
+from library.ecuc import Node, Spot
+from library.findings import counted
+from library.formats import CONFIGURATION, CORE, MOST_ACTIVATIONS, NAMED_LISTS, NO_MODES, POINT, TABLE, is_name
+from library.import_notes import Notes
+
+_ARE_ALLOWED = "%s: at most %d are allowed"
+
+
+def note_limits(notes: Notes, modes: Sequence[Node], spinlocks: Sequence[Any], lists: Dict[int, Dict[str, List[Any]]]) -> None:
+    """Notes too many objects of a kind, and names that are none or stand twice."""
+    for owner, nodes in (("modes", modes), ("spinlocks", [each.node for each in spinlocks])):
+        most = CONFIGURATION.member(owner).value.greatest
+        if len(nodes) > most:
+            notes.of(nodes[most], _ARE_ALLOWED % (counted(len(nodes), owner[:-1]), most))
+    for core, named in lists.items():
+        _note_core(notes, core, named)
+    placed = [each.node for named in lists.values() for name in NAMED_LISTS for each in named[name]]
+    _note_names(notes, list(modes) + [each.node for each in spinlocks] + placed)
+    for node in modes:
+        if node.name in NO_MODES:
+            notes.of(node, "no mode may be called so")
+
+
+def _note_core(notes: Notes, core: int, named: Dict[str, List[Any]]) -> None:
+    """Notes too many objects of one core, and too many parts of its tables."""
+    if core > CORE.member("id").value.greatest:
+        first = next((each for placed in named.values() for each in placed), None)
+        spot = first.node.spot if first is not None else Spot("", 1, 1)
+        notes.note(spot, "core %d: at most %d is allowed" % (core, CORE.member("id").value.greatest))
+    for name, placed in named.items():
+        most = CORE.member(name).value.greatest
+        if len(placed) > most:
+            text = "core %d has %s" % (core, _ARE_ALLOWED % (counted(len(placed), NAMED_LISTS[name]), most))
+            notes.note(placed[most].node.spot, text)
+    total = sum(each.members.get("activations", 1) for each in named["tasks"])
+    if total > MOST_ACTIVATIONS:
+        text = "the activations of the tasks of core %d sum to %d: at most %d are allowed"
+        notes.note(named["tasks"][0].node.spot, text % (core, total, MOST_ACTIVATIONS))
+    for table in named["tables"]:
+        _note_table(notes, table)
+
+
+def _note_table(notes: Notes, table: Any) -> None:
+    """Notes too many points of a table, and too many actions of one."""
+    most_points, most_actions = TABLE.member("points").value.greatest, POINT.member("actions").value.greatest
+    points = table.members["points"]
+    if len(points) > most_points:
+        notes.of(table.node, _ARE_ALLOWED % (counted(len(points), "expiry point"), most_points))
+    for point in points:
+        if len(point["actions"]) > most_actions:
+            what = counted(len(point["actions"]), "action")
+            notes.of(table.node, "offset %d has %s" % (point["offset"], _ARE_ALLOWED % (what, most_actions)))
+
+
+def _note_names(notes: Notes, nodes: Iterable[Node]) -> None:
+    """Notes names that are none here, and those that stand twice."""
+    known: Dict[str, Node] = {}
+    for node in nodes:
+        if not is_name(node.name):
+            notes.of(node, "a name is a letter, and up to 127 letters, digits and underscores")
+        earlier = known.setdefault(node.name, node)
+        if earlier is not node:
+            notes.of(node, "%s in line %d has this name too, and each name stands once" % (earlier.title, earlier.spot.line))

@@ -1,0 +1,694 @@
+"""What `tools/import` makes of the Os files of a project, what it notes, and what it refuses."""
+
+import json
+import os
+import runpy
+import subprocess
+import sys
+import tempfile
+import unittest
+from unittest import mock
+
+sys.path.insert(0, os.path.dirname(os.path.abspath(__file__)))
+import os_files  # noqa: E402
+from os_files import CannotBeSaid, arxml, container, reference  # noqa: E402
+from sample_runs import EXAMPLES, PROGRAM, TOOLS, called, needs_program, sources  # noqa: E402
+from library import expanding, importing  # noqa: E402
+from library.places import read_document  # noqa: E402
+
+MAIN = runpy.run_path(os.path.join(TOOLS, "import"))["main"]
+# What no Os file can say of the examples.
+NOT_SAID = {
+    "listed/config.json": "`cap` has another value",
+    "resources/refusals.json": "a ceiling is not the priority of a task",
+}
+
+
+class InAFolder(unittest.TestCase):
+    """Tests with files in a folder that is the current one."""
+
+    def setUp(self):
+        folder = tempfile.TemporaryDirectory()
+        self.addCleanup(folder.cleanup)
+        self.addCleanup(os.chdir, os.getcwd())
+        os.chdir(folder.name)
+
+    def write(self, name, text):
+        with open(name, "wb") as file:
+            file.write(text if isinstance(text, bytes) else text.encode("utf-8"))
+
+    def source(self, *words):
+        """The source that an import prints, and its notes without the places."""
+        status, output, messages = called(MAIN, *words)
+        self.assertEqual(status, 0, messages)
+        return json.loads(output), [line.split(": ", 1)[1] for line in messages.splitlines()]
+
+    def of_os(self, *containers, words=()):
+        """The source and the notes of an Os module with these containers."""
+        self.write("Os.arxml", arxml(("Os", os_files.OS, containers)))
+        return self.source(*words, "Os.arxml")
+
+    def notes(self, *containers, words=()):
+        return self.of_os(*containers, words=words)[1]
+
+    def refused(self, text, message, name="Os.arxml"):
+        """Holds that a file is refused with a message and nothing else."""
+        self.write(name, text)
+        self.assertEqual(called(MAIN, name), (1, "", message + "\n"))
+
+
+def expanded(text):
+    """The configuration that `tools/expand` makes of a source."""
+    found = expanding.expand(read_document(text.encode("utf-8")), expanding.CONFIGURATION)
+    return found.text if not found.refusals else found.refusals
+
+
+@needs_program
+class Examples(InAFolder):
+    """Each example as an Os file, and back: the program prints the same."""
+
+    def printed(self, *words):
+        done = subprocess.run([PROGRAM, *words], capture_output=True, encoding="utf-8", timeout=60)
+        return done.returncode, done.stdout, done.stderr
+
+    def imported(self, configuration, files, leave=""):
+        """The path of the configuration that an import of some files gives."""
+        for name, text in files.items():
+            self.write(name, text.replace(leave, "") if leave else text)
+        self.write("scripts.json", os_files.scripts_text(configuration))
+        words = ["--scripts", "scripts.json", "--master", str(configuration.get("master", 0)), *files]
+        status, output, messages = called(MAIN, *words)
+        self.assertEqual((status, messages), (0, ""))
+        self.write("config.json", expanded(output))
+        return "config.json"
+
+    def compare(self, files_of):
+        """Compares the runs of all examples that such files can say. Gives how many, and why not of the others."""
+        compared, not_said = 0, {}
+        for source in sources():
+            with open(source.configuration, encoding="utf-8") as file:
+                configuration = json.load(file)
+            name = os.path.relpath(source.configuration, EXAMPLES)
+            try:
+                files = files_of(configuration)
+            except CannotBeSaid as reason:
+                not_said[name] = str(reason)
+                continue
+            with self.subTest(name=name):
+                path = self.imported(configuration, files)
+                schedule = ["--schedule", source.schedule] if source.schedule else []
+                expected = self.printed("run", source.configuration, source.stimuli, *schedule)
+                self.assertEqual(self.printed("run", path, source.stimuli, *schedule), expected)
+                self.assertEqual(self.printed("check", path), self.printed("check", source.configuration))
+            compared += 1
+        return compared, not_said
+
+    def test_arxml(self):
+        compared, not_said = self.compare(lambda each: dict(zip(("Os.arxml", "EcuC.arxml"), os_files.os_arxml(each))))
+        self.assertEqual(not_said, NOT_SAID)
+        self.assertGreater(compared, 25)
+
+    def test_a_task_left_out_is_told(self):
+        path = os.path.join(EXAMPLES, "first", "config.json")
+        with open(path, encoding="utf-8") as file:
+            configuration = json.load(file)
+        names = [task["name"] for core in configuration["cores"] for task in core["tasks"]]
+        texts = os_files.os_arxml(configuration)
+        self.write("scripts.json", os_files.scripts_text(configuration))
+        self.write("EcuC.arxml", texts[1])
+        for name in names:
+            wrong = texts[0].replace("<SHORT-NAME>%s</SHORT-NAME>" % name, "<SHORT-NAME>Gone</SHORT-NAME>")
+            self.assertNotEqual(wrong, texts[0])
+            self.write("Os.arxml", wrong)
+            _, output, messages = called(MAIN, "--scripts", "scripts.json", "Os.arxml", "EcuC.arxml")
+            self.assertIn("no task and no ISR of the import is called `%s`" % name, messages)
+            self.write("config.json", expanded(output))
+            stimuli = os.path.join(EXAMPLES, "first", "stim.json")
+            self.assertNotEqual(self.printed("run", "config.json", stimuli), self.printed("run", path, stimuli))
+
+
+def os_task(name, *references, parts=(), **parameters):
+    """A task of an Os module, with the usual priority."""
+    given = {"OsTaskPriority": 1, **parameters}
+    return container("OsTask", name, list(given.items()), [(key, reference(path)) for key, path in references], parts)
+
+
+def os_counter(name="C", **parameters):
+    given = {"OsCounterMaxAllowedValue": 100, "OsCounterType": "HARDWARE", **parameters}
+    return container("OsCounter", name, list(given.items()))
+
+
+def os_alarm(name, act, *references, parts=(), counter="C"):
+    """An alarm with an action of a kind, which has these references."""
+    way = "OsAlarm/OsAlarmAction"
+    paths = [(key, reference(path)) for key, path in references]
+    action = container(way, "Action", parts=[container("%s/%s" % (way, act), "Act", references=paths)])
+    return container("OsAlarm", name, (), [("OsAlarmCounterRef", reference(counter))], [action, *parts])
+
+
+def os_isr(name, *references, parts=(), **parameters):
+    given = {"OsIsrCategory": "CATEGORY_2", **parameters}
+    return container("OsIsr", name, list(given.items()), [(key, reference(path)) for key, path in references], parts)
+
+
+def budget(kind, seconds):
+    """The time protection of a task or an ISR."""
+    parameters = [("%sExecutionBudget" % kind, seconds)]
+    return [container("%s/%sTimingProtection" % (kind, kind), "TimingProtection", parameters)]
+
+
+def alarm_start(**parameters):
+    way = "OsAlarm/OsAlarmAutostart"
+    return [container(way, "Auto", list(parameters.items()), [("OsAlarmAppModeRef", reference("M"))])]
+
+
+def application(name, core, **references):
+    """An OsApplication on a core, by the older parameter; each reference has a list of names."""
+    paths = [(key, reference(path)) for key, names in references.items() for path in names]
+    return container("OsApplication", name, [("OsApplicationCoreAssignment", core)], paths)
+
+
+MODE = container("OsAppMode", "M")
+ACTIVATES_T = ("OsAlarmActivateTask", ("OsAlarmActivateTaskRef", "T"))
+SKELETON = "note: no file has scripts: those of %s are skeletons; --scripts gives others"
+# Containers of an Os module, and the notes on them beside the one on skeletons.
+NOTES = {
+    "a parameter without a place": (
+        [os_task("T", OsTaskStackSize=400)],
+        ["note: OsTask T: OsTaskStackSize 400: no place in the configuration"],
+    ),
+    "the same of several tasks": (
+        [os_task("T", OsTaskStackSize=400), os_task("U", OsTaskStackSize=300), os_task("V", OsTaskStackSize=200)],
+        ["note: OsTask T: OsTaskStackSize 400: no place in the configuration; so for 2 more OsTask"],
+    ),
+    "a container without a place": (
+        [os_task("T"), container("OsIoc", "Ioc", parts=[container("OsIoc/OsIocCommunication", "Com")])],
+        ["note: OsIoc Ioc: left out: there is no IOC"],
+    ),
+    "a part without a place": (
+        [os_task("T", parts=[container("OsTask/OsTaskX", "X")])],
+        ["note: OsTask T: OsTaskX X: no place in the configuration"],
+    ),
+    "the checks of the OS": (
+        [os_task("T"), container("OsOS", "OS", [("OsStatus", "STANDARD"), ("OsNumberOfCores", 1)])],
+        ["note: OsOS OS: OsStatus STANDARD: the checks of a service are those of EXTENDED"],
+    ),
+    "a hook that is not called": (
+        [
+            os_task("T"),
+            container("OsOS", "OS", parts=[container("OsOS/OsHooks", "H", [("OsErrorHook", False), ("OsStartupHook", True)])]),
+        ],
+        ["note: OsOS OS, OsHooks H: OsErrorHook false: this hook is always called"],
+    ),
+    "an ISR of category 1": (
+        [os_isr("I", OsIsrCategory="CATEGORY_1"), os_task("T")],
+        ["note: OsIsr I: left out: an ISR of category 1 is none of the OS"],
+    ),
+    "an ISR without a level": ([os_isr("I")], ["note: OsIsr I: no priority or level: `level` is 1 here"]),
+    "an ISR with a resource": (
+        [
+            os_isr("I", ("OsIsrResourceRef", "R"), OsIsrPriority=2),
+            container("OsResource", "R"),
+            os_task("T", ("OsTaskResourceRef", "R")),
+        ],
+        ["note: OsIsr I: it takes R, and here an ISR takes no resource"],
+    ),
+    "an alarm with a callback": (
+        [os_counter(), os_alarm("A", "OsAlarmCallback"), os_task("T")],
+        ["note: OsAlarm A: left out: an alarm has no callback"],
+    ),
+    "an alarm that increments a counter": (
+        [os_counter(), os_alarm("A", "OsAlarmIncrementCounter"), os_task("T")],
+        ["note: OsAlarm A: left out: an alarm increments no counter"],
+    ),
+    "an alarm whose task is nowhere": (
+        [os_counter(), os_alarm("A", *ACTIVATES_T), os_task("T2")],
+        [
+            "note: OsAlarm A, OsAlarmAction Action, OsAlarmActivateTask Act: OsAlarmActivateTaskRef "
+            "/Project/Config/Os/T leads nowhere: no such OsTask is in the files; did you mean `T2`?",
+            "note: OsAlarm A: left out: it has no action",
+        ],
+    ),
+    "an alarm whose counter is no counter": (
+        [os_alarm("A", *ACTIVATES_T, counter="T"), os_task("T")],
+        [
+            "note: OsAlarm A: OsAlarmCounterRef /Project/Config/Os/T leads to the OsTask `T`: it is left out, since "
+            "OsCounter is wanted",
+            "note: OsAlarm A: left out: it has no counter",
+        ],
+    ),
+    "an event that a task does not have": (
+        [
+            os_counter(),
+            os_alarm("A", "OsAlarmSetEvent", ("OsAlarmSetEventTaskRef", "T"), ("OsAlarmSetEventRef", "E")),
+            container("OsEvent", "E"),
+            os_task("T"),
+        ],
+        [
+            "note: OsTask T: it has no reference to OsEvent E, which OsAlarm A, OsAlarmAction Action, "
+            "OsAlarmSetEvent Act sets for it"
+        ],
+    ),
+    "an event of no task": ([container("OsEvent", "E"), os_task("T")], ["note: OsEvent E: left out: no task has it"]),
+    "masks": (
+        [
+            container("OsEvent", "E", [("OsEventMask", 3)]),
+            container("OsEvent", "F", [("OsEventMask", 2)]),
+            container("OsEvent", "G", [("OsEventMask", "0x2")]),
+            os_task("T", *(("OsTaskEventRef", name) for name in "EFG")),
+        ],
+        [
+            "note: OsEvent E: OsEventMask 3 is not one of the bits 1 to 2147483648: it gets a free one",
+            "note: OsTask T: OsEvent G has the mask of another event of it: it gets a free bit",
+        ],
+    ),
+    "activations of a task with events": (
+        [container("OsEvent", "E"), os_task("T", ("OsTaskEventRef", "E"), OsTaskActivation=3)],
+        ["note: OsTask T: OsTaskActivation 3: 1 here, since it has events"],
+    ),
+    "an internal resource": (
+        [container("OsResource", "R", [("OsResourceProperty", "INTERNAL")])]
+        + [os_task(name, ("OsTaskResourceRef", "R")) for name in "TU"],
+        ["note: OsResource R: left out: there are no internal resources; T and U preempt one another here"],
+    ),
+    "a linked resource": (
+        [
+            container("OsResource", "R"),
+            container(
+                "OsResource", "S", [("OsResourceProperty", "LINKED")], [("OsResourceLinkedResourceRef", reference("R"))]
+            ),
+            os_task("T", ("OsTaskResourceRef", "R"), ("OsTaskResourceRef", "S")),
+        ],
+        ["note: OsResource S: it is linked to R: a resource of its own here, with the ceiling of both"],
+    ),
+    "a resource of no task": (
+        [container("OsResource", "R"), os_task("T")],
+        ["note: OsResource R: left out: no task takes it"],
+    ),
+    "a counter with ticks of its own": (
+        [os_counter(OsCounterTicksPerBase=10), os_task("T")],
+        ["note: OsCounter C: OsCounterTicksPerBase 10: each `tick` increments a counter by one"],
+    ),
+    "a counter that is too great": (
+        [os_counter(OsCounterMaxAllowedValue="0xFFFFFFFF"), os_task("T")],
+        [
+            "note: OsCounter C: OsCounterMaxAllowedValue 0xFFFFFFFF: 1 to 1000000000 are allowed, "
+            "so it is 1000000000 here"
+        ],
+    ),
+    "a counter without its greatest value": (
+        [container("OsCounter", "C"), os_task("T")],
+        ["note: OsCounter C: OsCounterMaxAllowedValue is missing: 65535 here"],
+    ),
+    "counters of two ticks": (
+        [os_counter("C", OsSecondsPerTick="0.001"), os_counter("D", OsSecondsPerTick="1E-4"), os_task("T")],
+        ["note: OsCounter C: its tick is 0.001 s, and that of another one of core 0 0.0001 s: each `tick` increments both"],
+    ),
+    "a tick that is no length of time": (
+        [os_counter(OsSecondsPerTick="INF"), os_task("T")],
+        ["note: OsCounter C: OsSecondsPerTick INF is no length of time"],
+    ),
+    "a budget of a part of a tick": (
+        [os_task("T", parts=budget("OsTask", "0.0015")), os_task("U", parts=budget("OsTask", "0.002"))],
+        ["note: OsTask T: OsTaskExecutionBudget 0.0015 s: `budget` is 2 ticks of 0.001 s here"],
+    ),
+    "a budget that is no number": (
+        [os_task("T", parts=budget("OsTask", "long"))],
+        ["note: OsTask T: OsTaskExecutionBudget long is no length of time: no `budget` here"],
+    ),
+    "a start of 0": (
+        [MODE, os_counter(), os_alarm("A", *ACTIVATES_T, parts=alarm_start(OsAlarmAlarmTime=0)), os_task("T")],
+        ["note: OsAlarm A: OsAlarmAlarmTime 0: 1 here, since the counter is 0 at the start"],
+    ),
+    "an autostart in no mode": (
+        [MODE, os_task("T", parts=[container("OsTask/OsTaskAutostart", "Auto")])],
+        ["note: OsTask T, OsTaskAutostart Auto: no OsTaskAppModeRef: it is M here"],
+    ),
+    "priorities": (
+        [os_task("T", OsTaskPriority=200), os_task("U", OsTaskPriority=7)],
+        ["note: core 0 has priorities from 7 to 200, and `prio` is 0 to 31: each is its rank here, 0 to 1"],
+    ),
+    "levels": (
+        [os_isr("I", OsIsrPriority=200), os_isr("J", OsIsrInterruptPriority=3)],
+        ["note: core 0 has priorities from 3 to 200, and `level` is 1 to 16: each is its rank here, 1 to 2"],
+    ),
+    "no priority": (
+        [container("OsTask", "T"), container("OsTask", "U")],
+        ["note: OsTask T: OsTaskPriority is missing: 0 here; so for 1 more OsTask"],
+    ),
+    "no number": (
+        [os_task("T", OsTaskPriority="high", OsTaskActivation="2.5")],
+        [
+            "note: OsTask T: OsTaskActivation 2.5 is no whole number: 1 here",
+            "note: OsTask T: OsTaskPriority high is no whole number: 0 here",
+        ],
+    ),
+    "no word": (
+        [os_task("T", OsTaskSchedule="SOMETIMES")],
+        ["note: OsTask T: OsTaskSchedule SOMETIMES is neither FULL nor NON: FULL here"],
+    ),
+    "a parameter twice": (
+        [container("OsTask", "T", [("OsTaskPriority", 3), ("OsTaskPriority", 4)])],
+        ["note: OsTask T: OsTaskPriority stands 2 times: the first one counts, 3"],
+    ),
+    "a spinlock that locks interrupts": (
+        [container("OsSpinlock", "L", [("OsSpinlockLockMethod", "LOCK_ALL_INTERRUPTS")]), os_task("T")],
+        [
+            "note: OsSpinlock L: OsSpinlockLockMethod LOCK_ALL_INTERRUPTS: GetSpinlock locks nothing else: "
+            "call SuspendAllInterrupts before it"
+        ],
+    ),
+    "an application that is not trusted": (
+        [container("OsApplication", "App", [("OsTrusted", False), ("OsApplicationCoreAssignment", 0)])],
+        ["note: OsApplication App: OsTrusted false: there is no memory protection"],
+    ),
+    "a task of no application": (
+        [application("App", 1), os_task("T")],
+        ["note: OsTask T: it is in no OsApplication: it stands on core 1"],
+    ),
+    "an application without a core": (
+        [container("OsApplication", "App", (), [("OsAppTaskRef", reference("T"))]), os_task("T")],
+        ["note: OsApplication App: no core is said: it stands on core 0"],
+    ),
+    "an application whose core is nowhere": (
+        [container("OsApplication", "App", (), [("OsApplicationCoreRef", "/X/EcuC/Hw/Core3")])],
+        [
+            "note: OsApplication App: OsApplicationCoreRef /X/EcuC/Hw/Core3 leads nowhere: is the file of the module EcuC "
+            "missing? It stands on core 3"
+        ],
+    ),
+    "an application of what is nowhere": (
+        [application("App", 0, OsAppTaskRef=["U"], OsAppIsrRef=["T"]), os_task("T")],
+        [
+            "note: OsApplication App: OsAppTaskRef /Project/Config/Os/U leads to no OsTask",
+            "note: OsApplication App: OsAppIsrRef /Project/Config/Os/T leads to no OsIsr",
+            "note: OsTask T: it is in no OsApplication: it stands on core 0",
+        ],
+    ),
+    "a task of two applications": (
+        [application("A", 0, OsAppTaskRef="T"), application("B", 1, OsAppTaskRef="T"), os_task("T"), MODE],
+        [
+            "note: OsApplication B: OsTask T stands on core 0 by another one, and stays there",
+            "note: no file says which core starts which: core 0 starts 1 here",
+        ],
+    ),
+    "a counter of another core": (
+        [
+            application("First", 0, OsAppTaskRef="T", OsAppAlarmRef="A"),
+            application("Second", 1, OsAppCounterRef="C"),
+            os_counter(),
+            os_task("T"),
+            os_alarm("A", *ACTIVATES_T),
+            MODE,
+        ],
+        [
+            "note: OsAlarm A: it stands on core 0, and its counter on core 1: it stands there too",
+            "note: no file says which core starts which: core 0 starts 1 here",
+        ],
+    ),
+    "a resource of two cores": (
+        [
+            application("A", 0, OsAppTaskRef="T"),
+            application("B", 1, OsAppTaskRef="U"),
+            *(os_task(name, ("OsTaskResourceRef", "R")) for name in "TU"),
+            container("OsResource", "R"),
+            MODE,
+        ],
+        [
+            "note: OsResource R: tasks of the cores 0 and 1 take it: it stands on core 0, and each core has resources "
+            "of its own",
+            "note: no file says which core starts which: core 0 starts 1 here",
+        ],
+    ),
+    "cores of great numbers": (
+        [application("A", 2, OsAppTaskRef="T"), application("B", 16, OsAppTaskRef="U"), os_task("T"), os_task("U"), MODE],
+        [
+            "note: the cores have numbers up to 16, and here up to 7: 2 is 0, 16 is 1",
+            "note: no file says which core starts which: core 0 starts 1 here",
+        ],
+    ),
+    "several modes": (
+        [MODE, container("OsAppMode", "N"), os_task("T")],
+        ["note: no file says in which mode a core starts: in M here"],
+    ),
+    "a table without a point": (
+        [container("OsScheduleTable", "S", (), [("OsScheduleTableCounterRef", reference("C"))]), os_counter(), os_task("T")],
+        [
+            "note: OsScheduleTable S: OsScheduleTableDuration is missing: 1 here",
+            "note: OsScheduleTable S: left out: it has no expiry point",
+        ],
+    ),
+    "too many": (
+        [os_task("T%d" % number) for number in range(33)],
+        ["note: core 0 has 33 tasks: at most 32 are allowed"],
+    ),
+    "too many activations": (
+        [os_task("T", OsTaskActivation=60), os_task("U", OsTaskActivation=5)],
+        ["note: the activations of the tasks of core 0 sum to 65: at most 64 are allowed"],
+    ),
+    "no name": (
+        [os_task("_T")],
+        ["note: OsTask _T: a name is a letter, and up to 127 letters, digits and underscores"],
+    ),
+    "a mode of a name that none may have": (
+        [container("OsAppMode", "conflict"), os_task("T")],
+        ["note: OsAppMode conflict: no mode may be called so"],
+    ),
+}
+
+
+class Noted(InAFolder):
+    def test_each_kind(self):
+        for what, (containers, expected) in NOTES.items():
+            with self.subTest(what=what):
+                notes = [note for note in self.notes(*containers) if "skeletons" not in note]
+                self.assertEqual(sorted(notes), sorted(expected))
+
+    def test_places(self):
+        self.write("Os.arxml", arxml(("Os", os_files.OS, [os_task("T", OsTaskStackSize=400)])))
+        _, _, messages = called(MAIN, "Os.arxml")
+        lines = arxml(("Os", os_files.OS, [os_task("T", OsTaskStackSize=400)])).splitlines()
+        places = [line.split(": ")[0] for line in messages.splitlines()]
+        task = lines.index("<SHORT-NAME>T</SHORT-NAME>")
+        stack = next(number for number, line in enumerate(lines) if line.endswith("OsTaskStackSize</DEFINITION-REF>"))
+        self.assertEqual(places, ["Os.arxml:%d:1" % task, "Os.arxml:%d:1" % stack])
+
+    def test_a_part_that_holds_in_some_variants(self):
+        text = arxml(("Os", os_files.OS, [os_task("T")]))
+        text = text.replace("<PARAMETER-VALUES>", "<VARIATION-POINT/>\n<PARAMETER-VALUES>")
+        self.write("Os.arxml", text)
+        notes = self.source("Os.arxml")[1]
+        self.assertIn("note: holds in some variants only, and is read as if it held in all", notes)
+
+    def test_two_modules(self):
+        self.write("Os.arxml", arxml(("Os", os_files.OS, [os_task("T")]), ("Os2", os_files.OS, [os_task("U")])))
+        source, notes = self.source("Os.arxml")
+        text = "note: a second Os module, /Project/Config/Os2: it is read together with /Project/Config/Os"
+        self.assertIn(text, notes)
+        self.assertEqual([task["name"] for task in source["cores"][0]["tasks"]], ["T", "U"])
+
+
+LAUGHS = """<?xml version="1.0"?>
+<!DOCTYPE AUTOSAR [
+ <!ENTITY a "ha">
+ <!ENTITY b "&a;&a;&a;&a;&a;&a;&a;&a;&a;&a;">
+]>
+<AUTOSAR>&b;</AUTOSAR>
+"""
+DOCTYPE = "a DOCTYPE or an entity is declared here: ARXML has none, and it is not read"
+
+
+class Refused(InAFolder):
+    def test_entities(self):
+        for text, line in ((LAUGHS, 2), ('<!DOCTYPE AUTOSAR SYSTEM "x.dtd">\n<AUTOSAR/>', 1)):
+            self.write("Os.arxml", text)
+            status, output, message = called(MAIN, "Os.arxml")
+            self.assertEqual((status, output), (1, ""))
+            self.assertRegex(message, r"\AOs\.arxml:%d:\d+: %s\n\Z" % (line, DOCTYPE))
+        self.refused("<AUTOSAR>\n &who;</AUTOSAR>", "Os.arxml:2:2: no XML: undefined entity")
+
+    def test_no_xml(self):
+        for text, message in (
+            ("<AUTOSAR>\n <A>\n</AUTOSAR>", "3:3: no XML: mismatched tag"),
+            ("<AUTOSAR>\n <A b=c/></AUTOSAR>", "2:7: no XML: not well-formed (invalid token)"),
+            ("<AUTOSAR><A>", "1:13: no XML: no element found"),
+            ("<AUTOSAR/>\n<AUTOSAR/>", "2:1: no XML: junk after document element"),
+            (b"<AUTOSAR>\xff</AUTOSAR>", "1:10: no XML: not well-formed (invalid token)"),
+            ("<?xml version='1.0' encoding='no-such'?><AUTOSAR/>", "1:31: no XML: unknown encoding: no-such"),
+        ):
+            with self.subTest(text=text):
+                self.refused(text, "Os.arxml:" + message)
+
+    def test_too_deep(self):
+        self.refused(
+            "<AUTOSAR>" + "<A>" * 127 + "</A>" * 127 + "</AUTOSAR>",
+            "Os.arxml:1:388: elements stand in one another more than 127 levels deep",
+        )
+        self.refused("<AUTOSAR>" + "<A>" * 126 + "</A>" * 126 + "</AUTOSAR>", "Os.arxml: no Os module is in it")
+
+    def test_too_long(self):
+        self.write("Os.arxml", b" " * ((1 << 20) + 1))
+        message = "Os.arxml: longer than 1 MiB: give the file of the Os module alone\n"
+        with mock.patch.object(importing, "MOST_BYTES", 1 << 20):
+            self.assertEqual(called(MAIN, "Os.arxml"), (1, "", message))
+
+    def test_other_files(self):
+        self.refused("", "Os.arxml: the file is empty")
+        self.refused("<html/>", "Os.arxml:1:1: no ARXML: the first element is `html`, not `AUTOSAR`")
+        text = '<?xml version="1.0"?>\n<datamodel version="7.0"/>'
+        self.refused(text, "Os.arxml:2:1: this is an XDM of EB tresos: export it as ARXML")
+        text = arxml(("Com", "/AUTOSAR/EcucDefs/Com", []), ("Can", "/AUTOSAR/EcucDefs/Can", []))
+        self.refused(text, "Os.arxml: no Os module is in it; there is Com and Can")
+        status, output, messages = called(MAIN, "none.arxml")
+        self.assertEqual((status, output), (1, ""))
+        self.assertEqual(messages, "none.arxml: cannot be read: No such file or directory\n")
+        self.assertEqual(called(MAIN, ".")[2], ".: cannot be read: Is a directory\n")
+
+    def test_scripts(self):
+        self.write("Os.arxml", arxml(("Os", os_files.OS, [os_task("T")])))
+        for text, message in (
+            ("{", "1:2: no JSON: the file ends here, and `}` or a member is wanted: `{` of line 1 is open"),
+            ("[]", "1:1: scripts are an object, with the names of tasks and ISRs"),
+            ('{"T": 5}', "1:7: the script of `T` is no text, and no list of texts"),
+            ('{"T": ["work", 5]}', "1:7: the script of `T` is no text, and no list of texts"),
+            ('{"T": "",\n "T": ""}', "2:2: `T` stands twice in this object"),
+            ('{"0": ""}', "1:7: of core 0 an object is wanted, with `mode`, `start` and `protection`"),
+            ('{"0": {"mod": ""}}', "1:8: a core has `mode`, `start` and `protection`, not `mod`; did you mean `mode`?"),
+            ('{"0": {"mode": 1}}', "1:16: `mode` is a text"),
+            ('{"0": {"start": 1}}', "1:17: `start` is a list of numbers"),
+            ('{"0": {"start": ["1"]}}', "1:17: `start` is a list of numbers"),
+            ('{"1000": {}}', "1:2: `1000` is no number of a core"),
+        ):
+            with self.subTest(text=text):
+                self.write("s.json", text)
+                self.assertEqual(called(MAIN, "--scripts", "s.json", "Os.arxml"), (1, "", "s.json:%s\n" % message))
+        message = "none.json: cannot be read: No such file or directory\n"
+        self.assertEqual(called(MAIN, "--scripts", "none.json", "Os.arxml"), (1, "", message))
+
+    def test_wrong_usage(self):
+        for words in ((), ("--master", "8", "a"), ("--tick", "0", "a"), ("--tick", "x", "a"), ("--frob", "a"), ("-", "-")):
+            with self.subTest(words=words):
+                status, output, _ = called(MAIN, *words)
+                self.assertEqual((status, output), (2, ""))
+
+
+class Imported(InAFolder):
+    """What the source has."""
+
+    def tasks(self, *containers, words=()):
+        return {task["name"]: task for core in self.of_os(*containers, words=words)[0]["cores"] for task in core["tasks"]}
+
+    def test_skeletons(self):
+        tasks = self.tasks(
+            container("OsResource", "R"),
+            container("OsResource", "S"),
+            container("OsEvent", "E"),
+            container("OsEvent", "F"),
+            os_task("Basic", ("OsTaskResourceRef", "R"), ("OsTaskResourceRef", "S")),
+            os_task("Extended", ("OsTaskEventRef", "E"), ("OsTaskEventRef", "F"), ("OsTaskResourceRef", "R")),
+        )
+        script = "GetResource R; GetResource S; work; ReleaseResource S; ReleaseResource R; TerminateTask"
+        self.assertEqual(tasks["Basic"]["script"], script)
+        script = ["loop: WaitEvent E|F; ClearEvent E|F", "GetResource R; work; ReleaseResource R", "jump loop"]
+        self.assertEqual(tasks["Extended"]["script"], script)
+
+    def test_given_scripts(self):
+        text = '{"T": ["a: work", "jump a"], "0": {"protection": "PRO_IGNORE", "mode": "DONOTCARE"}, "U": "", "3": {}}'
+        self.write("s.json", text)
+        source, notes = self.of_os(MODE, os_task("T"), words=["--scripts", "s.json"])
+        self.assertEqual(source["cores"][0]["tasks"][0]["script"], ["a: work", "jump a"])
+        said = {name: source["cores"][0][name] for name in ("protection", "mode")}
+        self.assertEqual(said, {"protection": "PRO_IGNORE", "mode": "DONOTCARE"})
+        expected = ["note: no task and no ISR of the import is called `U`", "note: the import has no core 3"]
+        self.assertEqual(notes, expected)
+
+    def test_masks(self):
+        names = "ABCD"
+        masks = {"A": "0x8", "B": "AUTO", "C": "0b1", "D": None}
+        events = [container("OsEvent", name, [("OsEventMask", mask)] if mask else []) for name, mask in masks.items()]
+        tasks = self.tasks(*events, os_task("T", *(("OsTaskEventRef", name) for name in names)))
+        self.assertEqual(tasks["T"]["events"], ["C", "B", "D", "A"])
+        tasks = self.tasks(events[0], os_task("T", ("OsTaskEventRef", "A")))
+        self.assertEqual(tasks["T"]["events"], ["unused_0", "unused_1", "unused_2", "A"])
+        self.assertEqual(tasks["T"]["script"][0], "loop: WaitEvent A; ClearEvent A")
+
+    def test_numbers(self):
+        for text, priority in (("0x1F", 31), ("0b11", 3), ("017", 15), ("10.0", 10), ("1E1", 10), ("+5", 5), (" 7 ", 7)):
+            with self.subTest(text=text):
+                self.assertEqual(self.tasks(os_task("T", OsTaskPriority=text))["T"]["prio"], priority)
+        for text in ("09", "1e9999", "1e-999", "9" * 41, "NaN", "1_0", "\u0661"):
+            with self.subTest(text=text):
+                notes = self.notes(os_task("T", OsTaskPriority=text))
+                self.assertIn("OsTaskPriority %s is no whole number: 0 here" % text, " ".join(notes))
+
+    def test_ceilings_by_rank(self):
+        containers = [container("OsResource", "R"), container("OsResource", "S", [("OsResourceProperty", "LINKED")])]
+        containers[1] = container(
+            "OsResource", "S", [("OsResourceProperty", "LINKED")], [("OsResourceLinkedResourceRef", reference("R"))]
+        )
+        containers += [os_task("T", ("OsTaskResourceRef", "R"), OsTaskPriority=500)]
+        containers += [os_task("U", ("OsTaskResourceRef", "S"), OsTaskPriority=20), os_task("V", OsTaskPriority=900)]
+        core = self.of_os(*containers)[0]["cores"][0]
+        self.assertEqual({task["name"]: task["prio"] for task in core["tasks"]}, {"T": 1, "U": 0, "V": 2})
+        self.assertEqual(core["resources"], [{"name": "R", "ceiling": 1}, {"name": "S", "ceiling": 1}])
+
+    def test_budgets(self):
+        parts = budget("OsTask", "0.01")
+        counters = [os_counter("C", OsSecondsPerTick="1.0E-3"), os_counter("D", OsSecondsPerTick="0.002", OsCounterType="SOFTWARE")]
+        self.assertEqual(self.tasks(*counters, os_task("T", parts=parts))["T"]["budget"], 10)
+        self.assertEqual(self.tasks(os_task("T", parts=parts))["T"]["budget"], 10)
+        self.assertEqual(self.tasks(*counters, os_task("T", parts=parts), words=["--tick", "0.005"])["T"]["budget"], 2)
+        self.assertNotIn("budget", self.tasks(os_task("T", parts=budget("OsTask", "0")))["T"])
+        self.assertEqual(self.tasks(os_task("T", parts=budget("OsTask", "1E-9")))["T"]["budget"], 1)
+
+    def test_several_files(self):
+        first = arxml(("Os", os_files.OS, [os_task("T"), os_alarm("A", *ACTIVATES_T)]))
+        second = arxml(("Os", os_files.OS, [os_counter(), os_task("U")]))
+        self.write("a.arxml", first)
+        self.write("b.arxml", second)
+        source, _ = self.source("a.arxml", "b.arxml")
+        core = source["cores"][0]
+        self.assertEqual([task["name"] for task in core["tasks"]], ["T", "U"])
+        self.assertEqual(core["alarms"], [{"name": "A", "counter": "C", "action": "ActivateTask T"}])
+
+    def test_one_container_in_two_files(self):
+        self.write("a.arxml", arxml(("Os", os_files.OS, [os_task("T", OsTaskPriority=5)])))
+        parts = [container("OsTask/OsTaskAutostart", "Auto", (), [("OsTaskAppModeRef", reference("M"))])]
+        self.write("b.arxml", arxml(("Os", os_files.OS, [MODE, container("OsTask", "T", parts=parts)])))
+        source, _ = self.source("a.arxml", "b.arxml")
+        task = source["cores"][0]["tasks"][0]
+        self.assertEqual((task["name"], task["prio"], task["auto"]), ("T", 5, ["M"]))
+
+    def test_encodings(self):
+        text = arxml(("Os", os_files.OS, [os_task("T")]))
+        for encoding, name in (("utf-8-sig", "UTF-8"), ("utf-16", "UTF-16"), ("iso-8859-1", "ISO-8859-1")):
+            with self.subTest(encoding=encoding):
+                self.write("Os.arxml", text.replace("UTF-8", name).encode(encoding))
+                self.assertEqual(self.source("Os.arxml")[0]["cores"][0]["tasks"][0]["name"], "T")
+
+    def test_a_master_of_its_own(self):
+        containers = [application("A", 0, OsAppTaskRef="T"), application("B", 1), os_task("T")]
+        source = self.of_os(*containers, words=["--master", "7"])[0]
+        self.assertEqual((source["master"], source["cores"][-1]), (7, {"id": 7, "start": [0, 1]}))
+
+    def test_the_standard_input(self):
+        text = arxml(("Os", os_files.OS, [os_task("T")]))
+        words = [os.path.join(TOOLS, "import"), "-"]
+        done = subprocess.run(words, input=text, capture_output=True, encoding="utf-8", timeout=60)
+        self.assertEqual((done.returncode, len(json.loads(done.stdout)["cores"])), (0, 1))
+        self.assertTrue(done.stderr.startswith("-:"), done.stderr)
+        done = subprocess.run(["sh", "-c", '"$@" - <&-', "sh", words[0]], capture_output=True, text=True, timeout=60)
+        self.assertEqual((done.returncode, done.stdout), (1, ""))
+        self.assertEqual(done.stderr, "-: cannot be read: the standard input is closed\n")
+
+    def test_a_full_disk(self):
+        self.write("Os.arxml", arxml(("Os", os_files.OS, [os_task("T")])))
+        with open("/dev/full", "wb") as full:
+            words = [os.path.join(TOOLS, "import"), "Os.arxml"]
+            done = subprocess.run(words, stdout=full, stderr=subprocess.PIPE, encoding="utf-8", timeout=60)
+        self.assertEqual(done.returncode, 1)
+        self.assertEqual(done.stderr, "the standard output took no more: No space left on device\n")
+
+
+if __name__ == "__main__":
+    unittest.main()
