@@ -137,11 +137,10 @@ def arxml(*modules):
         head += "<DEFINITION-REF DEST='ECUC-MODULE-DEF'>%s</DEFINITION-REF>\n<CONTAINERS>\n" % definition
         texts.append(head + "\n".join(containers) + "\n</CONTAINERS>\n</ECUC-MODULE-CONFIGURATION-VALUES>")
     head = "<?xml version='1.0' encoding='UTF-8'?>\n<AUTOSAR xmlns='http://autosar.org/schema/r4.0'>\n<AR-PACKAGES>\n"
-    for step in PACKAGE.split("/")[1:]:
-        head += "<AR-PACKAGE>\n<SHORT-NAME>%s</SHORT-NAME>\n" % step
-        head += "<AR-PACKAGES>\n" if step != PACKAGE.split("/")[-1] else "<ELEMENTS>\n"
-    tail = "</ELEMENTS>\n</AR-PACKAGE>\n</AR-PACKAGES>\n</AR-PACKAGE>\n</AR-PACKAGES>\n</AUTOSAR>\n"
-    return head + "\n".join(texts) + "\n" + tail
+    steps = PACKAGE.split("/")[1:]
+    head += "<AR-PACKAGES>\n".join("<AR-PACKAGE>\n<SHORT-NAME>%s</SHORT-NAME>\n" % step for step in steps)
+    tail = "</ELEMENTS>\n" + "</AR-PACKAGE>\n</AR-PACKAGES>\n" * len(steps) + "</AUTOSAR>\n"
+    return head + "<ELEMENTS>\n" + "\n".join(texts) + "\n" + tail
 
 
 def os_arxml(configuration):
