@@ -1,13 +1,14 @@
-"""Reads the files of an import: one or more of ARXML."""
+"""Reads the files of an import: one or more of ARXML, or one of OIL. Their beginnings say what they are."""
 
 from typing import List, Sequence, Tuple
 
 from library import ending
 from library.arxml import read_arxml
-from library.ecuc import OS, Ecuc, Spot
+from library.ecuc import OS, Ecuc
 from library.ending import Failed
 from library.findings import listed
 from library.import_notes import Notes
+from library.oil import read_oil
 
 MOST_BYTES = 1 << 28  # of a file
 
@@ -15,7 +16,18 @@ MOST_BYTES = 1 << 28  # of a file
 def read_files(paths: Sequence[str], notes: Notes) -> Ecuc:
     """The containers of all files."""
     texts = [(path, _bytes_of(path)) for path in paths]
-    return _from_arxml(texts, notes)
+    oil = [path for path, data in texts if not _is_xml(data)]
+    if not oil:
+        return _from_arxml(texts, notes)
+    if len(texts) > 1:
+        others = "OIL files are one with `#include`" if len(oil) == len(texts) else "the others are XML"
+        raise Failed("%s: this is no XML, so it is read as OIL, and alone: %s" % (oil[0], others))
+    return read_oil(*texts[0], notes)
+
+
+def _is_xml(data: bytes) -> bool:
+    """Whether a file is XML, in whatever encoding."""
+    return data[:100].lstrip(b"\xef\xbb\xbf\xff\xfe\x00 \t\r\n").startswith(b"<")
 
 
 def _bytes_of(path: str) -> bytes:

@@ -85,8 +85,9 @@ def scripts_text(configuration):
     """The file of scripts: those of tasks and ISRs, and what the code of each core says."""
     said = {}
     for core in configuration["cores"]:
-        words = {word: core[word] for word in ("mode", "protection") if word in core}
-        said[str(core["id"])] = {"start": core.get("start", []), **words}
+        words = {"mode": core.get("mode", configuration.get("modes", ["M"])[0]), "start": core.get("start", [])}
+        words.update({"protection": core["protection"]} if "protection" in core else {})
+        said[str(core["id"])] = words
         said.update({each["name"]: each["script"] for name in ("tasks", "isrs") for each in core.get(name, [])})
     return json.dumps(said)
 
@@ -261,3 +262,90 @@ def point(file, number, each):
             references.append(("OsScheduleTableSetEventRef", reference(words[2])))
         parts.append(container("%s/%s" % (way, kind), "Act_%d" % index, references=references))
     return container(way, "Point_%d" % number, [("OsScheduleTblExpPointOffset", each["offset"])], parts=parts)
+
+
+# ---------------------------------------------------------------------------------------------------------------------
+# OIL
+# ---------------------------------------------------------------------------------------------------------------------
+
+
+def os_oil(configuration):
+    """The OIL file, with AUTOSAR's additions."""
+    file = os_file(configuration)
+    if any(each.get("budget") for name in ("tasks", "isrs") for _, each in file.objects(name)):
+        raise CannotBeSaid("OIL has no budgets")
+    head = 'OIL_VERSION = "2.5" : "written by a test";\nIMPLEMENTATION none { TASK { UINT32 [0..9] X = 1; } t; };\n'
+    return head + "CPU example {\n" + "".join("  %s;\n" % text for text in oil_objects(file)) + "};\n"
+
+
+def oil_object(word, name, *attributes):
+    """An object; an attribute is a word with its value, and perhaps with attributes in braces."""
+    return "%s %s %s" % (word, name, oil_braces(attributes))
+
+
+def oil_braces(attributes):
+    texts = ["%s = %s%s;" % (word, value, oil_braces(inner[0]) if inner else "") for word, value, *inner in attributes]
+    return "{ %s }" % " ".join(texts)
+
+
+def oil_word(value):
+    return str(value).upper()
+
+
+def oil_objects(file):
+    hooks = [(hook + "HOOK", "TRUE") for hook in ("STARTUP", "ERROR", "SHUTDOWN", "PRETASK", "POSTTASK")]
+    yield oil_object("OS", "os", ("STATUS", "EXTENDED"), *hooks)
+    yield from (oil_object("APPMODE", mode) for mode in file.modes)
+    for spinlock in file.configuration.get("spinlocks", []):
+        yield oil_object("SPINLOCK", spinlock["name"], *([("SUCCESSOR", spinlock["next"])] if spinlock.get("next") else []))
+    for core in file.configuration["cores"]:
+        words = {"tasks": "TASK", "isrs": "ISR", "alarms": "ALARM", "counters": "COUNTER", "tables": "SCHEDULETABLE"}
+        objects = [(words[name], each["name"]) for name in words for each in core.get(name, [])]
+        yield oil_object("APPLICATION", "application_%d" % core["id"], ("CORE", core["id"]), *objects)
+    for masks in file.events.values():
+        yield from (oil_object("EVENT", name, ("MASK", hex(mask))) for name, mask in masks.items())
+    yield from (oil_object("RESOURCE", name, ("RESOURCEPROPERTY", "STANDARD")) for name in file.users)
+    yield from (oil_counter(each) for _, each in file.objects("counters"))
+    yield from (oil_task(file, each) for _, each in file.objects("tasks"))
+    yield from (oil_object("ISR", each["name"], ("CATEGORY", 2), ("PRIORITY", each["level"])) for _, each in file.objects("isrs"))
+    yield from (oil_alarm(file, each) for _, each in file.objects("alarms"))
+    yield from (oil_table(file, each) for _, each in file.objects("tables"))
+
+
+def oil_counter(each):
+    attributes = [("MAXALLOWEDVALUE", each["max"]), ("TICKSPERBASE", 1), ("MINCYCLE", each.get("min", 1))]
+    return oil_object("COUNTER", each["name"], *attributes, ("TYPE", "SOFTWARE" if each.get("software") else "HARDWARE"))
+
+
+def oil_autostart(modes, *attributes):
+    return ("AUTOSTART", "TRUE", [*attributes, *(("APPMODE", mode) for mode in modes)]) if modes else ("AUTOSTART", "FALSE")
+
+
+def oil_action(file, text, *attributes):
+    words = file.action(text)
+    event = [("EVENT", words[2])] if words[0] == "SetEvent" else []
+    return ("ACTION", words[0].upper(), [("TASK", words[1]), *event, *attributes])
+
+
+def oil_task(file, each):
+    attributes = [("PRIORITY", each["prio"]), ("ACTIVATION", each.get("activations", 1))]
+    attributes.append(("SCHEDULE", "FULL" if each.get("preemptable", True) else "NON"))
+    attributes += [("EVENT", name) for name in file.events[each["name"]]]
+    attributes += [("RESOURCE", name) for name, users in file.users.items() if each["name"] in users]
+    return oil_object("TASK", each["name"], *attributes, oil_autostart(each.get("auto", [])))
+
+
+def oil_alarm(file, each):
+    auto = each.get("auto") or {"modes": [], "start": 0, "cycle": 0}
+    start = oil_autostart(auto["modes"], ("ALARMTIME", auto["start"]), ("CYCLETIME", auto["cycle"]))
+    return oil_object("ALARM", each["name"], ("COUNTER", each["counter"]), oil_action(file, each["action"]), start)
+
+
+def oil_table(file, each):
+    auto = each.get("auto") or {"modes": [], "offset": 0}
+    attributes = [("COUNTER", each["counter"]), ("DURATION", each["duration"])]
+    attributes.append(("REPEATING", oil_word(each.get("repeating", False))))
+    attributes.append(oil_autostart(auto["modes"], ("TYPE", "RELATIVE", [("OFFSET", auto["offset"])])))
+    for point in each["points"]:
+        attributes += [oil_action(file, text, ("OFFSET", point["offset"])) for text in point["actions"]]
+    return oil_object("SCHEDULETABLE", each["name"], *attributes)

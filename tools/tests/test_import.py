@@ -78,7 +78,8 @@ class Examples(InAFolder):
         self.write("scripts.json", os_files.scripts_text(configuration))
         words = ["--scripts", "scripts.json", "--master", str(configuration.get("master", 0)), *files]
         status, output, messages = called(MAIN, *words)
-        self.assertEqual((status, messages), (0, ""))
+        notes = [line for line in messages.splitlines() if "IMPLEMENTATION none: not read" not in line]
+        self.assertEqual((status, notes), (0, []))
         self.write("config.json", expanded(output))
         return "config.json"
 
@@ -106,6 +107,12 @@ class Examples(InAFolder):
     def test_arxml(self):
         compared, not_said = self.compare(lambda each: dict(zip(("Os.arxml", "EcuC.arxml"), os_files.os_arxml(each))))
         self.assertEqual(not_said, NOT_SAID)
+        self.assertGreater(compared, 25)
+
+    def test_oil(self):
+        compared, not_said = self.compare(lambda each: {"project.oil": os_files.os_oil(each)})
+        budgets = {"%s/config.json" % name: "OIL has no budgets" for name in ("budgets", "import")}
+        self.assertEqual(not_said, {**NOT_SAID, **budgets})
         self.assertGreater(compared, 25)
 
     def test_a_task_left_out_is_told(self):
