@@ -23,7 +23,7 @@ AS_HERE = {
     "OsTrusted": (True,),
     "OsUseGetServiceId": (False,),
     "OsUseParameterAccess": (False,),
-    "OsUseResScheduler": (False,),
+    "OsUseResScheduler": (True, False),
 }
 _NO_ACCESS = "each object may be used by each task and ISR"
 _NO_LOCK_BUDGET = "there are no time limits on locks and resources"

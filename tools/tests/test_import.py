@@ -2,6 +2,7 @@
 
 import json
 import os
+import re
 import runpy
 import subprocess
 import sys
@@ -10,9 +11,10 @@ import unittest
 from unittest import mock
 
 sys.path.insert(0, os.path.dirname(os.path.abspath(__file__)))
+import documents  # noqa: E402
 import os_files  # noqa: E402
 from os_files import CannotBeSaid, arxml, container, reference  # noqa: E402
-from sample_runs import EXAMPLES, PROGRAM, TOOLS, called, needs_program, sources  # noqa: E402
+from sample_runs import EXAMPLES, PROGRAM, ROOT, TOOLS, called, needs_program, read, sessions, sources  # noqa: E402
 from library import expanding, importing  # noqa: E402
 from library.places import read_document  # noqa: E402
 
@@ -695,6 +697,67 @@ class Imported(InAFolder):
             done = subprocess.run(words, stdout=full, stderr=subprocess.PIPE, encoding="utf-8", timeout=60)
         self.assertEqual(done.returncode, 1)
         self.assertEqual(done.stderr, "the standard output took no more: No space left on device\n")
+
+
+class Document(InAFolder):
+    """docs/TOOLS.md, and the example that it runs."""
+
+    def setUp(self):
+        super().setUp()
+        for name in ("tools", "examples"):
+            os.symlink(os.path.join(ROOT, name), name)
+
+    def shell(self, command):
+        with tempfile.TemporaryDirectory() as scratch:
+            os.symlink(PROGRAM, os.path.join(scratch, "mcos"))
+            environment = {**os.environ, "PATH": scratch + os.pathsep + os.environ["PATH"]}
+            words = ["sh", "-c", command]
+            done = subprocess.run(words, env=environment, capture_output=True, encoding="utf-8", timeout=60)
+        return done.returncode, done.stdout, done.stderr
+
+    def test_the_example(self):
+        command = documents.example("These two commands run them:").splitlines()[0]
+        notes = documents.example("So the first command prints")
+        self.assertEqual(self.shell(command), (0, "", notes))
+        self.assertEqual(read("examples", "import", "config.json"), sample_text("config.json"))
+
+    @needs_program
+    def test_the_run(self):
+        first, second = documents.example("These two commands run them:").splitlines()
+        self.shell(first)
+        printed = self.shell(second)
+        words, lines = next(each for each in sessions("import") if each[0][0] == "run")
+        self.assertEqual((printed[0], printed[1].splitlines(), printed[2]), (0, lines[:-1], ""))
+
+    def test_the_work_list(self):
+        command = documents.example("says what the scripts have still to do:").strip()
+        command = command.replace("import Os.arxml EcuC.arxml", "import examples/import/Os.arxml examples/import/EcuC.arxml")
+        status, lines, _ = self.shell(command)
+        self.assertEqual(status, 0)
+        self.assertIn("nothing increments the `software` counter `Tooth`", lines)
+
+    def test_scripts(self):
+        self.write("s.json", documents.example("each of which may be left out:"))
+        text = os_task("Load"), os_task("Com", ("OsTaskEventRef", "Rx"), ("OsTaskEventRef", "Tick"))
+        events = [container("OsEvent", name) for name in ("Rx", "Tick")]
+        _, notes = self.of_os(*text, *events, words=["--scripts", "s.json"])
+        self.assertEqual(notes, [])
+
+    def test_options(self):
+        """Each option of the help stands in the document, and no other; so does each exit status."""
+        help_text = called(MAIN, "--help")[1]
+        usage = documents.example("## import").splitlines()[0]
+        options = set(re.findall(r"(--[a-z]+) [A-Z]+", help_text)) - {"--help"}
+        self.assertEqual(set(re.findall(r"\[(--[a-z]+) [A-Z]+\]", usage)), options)
+        section = read("docs", "TOOLS.md").split("\n## import\n")[1].split("\n## ")[0]
+        self.assertEqual(set(re.findall(r"(?<!-)--[a-z]+", section)), options)
+        self.assertEqual(re.findall(r"^\| ([0-9]) \|", section, re.MULTILINE), ["0", "1", "2"])
+        self.assertEqual(re.findall(r"([0-9]) (?:printed|a file|wrong)", help_text), ["0", "1", "2"])
+
+
+def sample_text(name):
+    with open(name, encoding="utf-8") as file:
+        return file.read()
 
 
 if __name__ == "__main__":
