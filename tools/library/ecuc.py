@@ -102,11 +102,6 @@ class Node:
         self.read.add(kind)
         return [part for part in self.parts if part.kind == kind]
 
-    def part(self, kind: str) -> Optional["Node"]:
-        """The first container of a kind in this one."""
-        found = self.parts_of(kind)
-        return found[0] if found else None
-
     def all_read(self) -> None:
         """Says that nothing of the container has to be named, since what holds it is left out as a whole."""
         self.read |= {value.key for value in self.values} | {part.kind for part in self.parts}

@@ -56,6 +56,9 @@ class Cores:
 
     def core_of_application(self, node: Node) -> int:
         """The core of an OsApplication."""
+        for key in ("OsApplicationCoreRef", "OsApplicationCoreAssignment"):
+            if len({value.text for value in node.all(key)}) > 1:
+                self.notes.of(node, "it stands on several cores: the first one counts", node.all(key)[1].spot)
         reference, number = node.first("OsApplicationCoreRef"), node.first("OsApplicationCoreAssignment")
         target = self.ecuc.target(reference) if reference is not None else None
         if target is not None:

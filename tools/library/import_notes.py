@@ -16,6 +16,7 @@ AS_HERE = {
     "OsPostTaskHook": (True,),
     "OsPreTaskHook": (True,),
     "OsProtectionHook": (True,),
+    "OsScheduleTableSync": (False,),
     "OsShutdownHook": (True,),
     "OsSpinlockLockMethod": ("LOCK_NOTHING",),
     "OsStartupHook": (True,),

@@ -15,6 +15,7 @@ from library.import_notes import Notes, reason_of
 
 # No standard says what the priority of an interrupt is called.
 _LEVEL = re.compile(r"OsIsr\w*(?:Priority|Level)")
+_TIMES = "%s stands %d times: the first one counts, %s"
 _MOST_HINTS = 20
 _MAX = 65535  # of a counter that says none
 _ACTIVATION = ("OsAlarmActivateTask", "OsScheduleTableTaskActivation")
@@ -129,8 +130,7 @@ class ObjectReader:
         """The value of a parameter, whichever of some names it has."""
         found = [value for key in keys for value in node.all(key)]
         if len({value.text for value in found}) > 1:
-            text = "%s stands %d times: the first one counts, %s"
-            self.notes.of(node, text % (found[0].word, len(found), found[0].shown), found[1].spot)
+            self.notes.of(node, _TIMES % (found[0].word, len(found), found[0].shown), found[1].spot)
         return found[0] if found else None
 
     def number(self, node: Node, key: str, default: int, bounds: Optional[Number] = None, is_wanted: bool = True) -> int:
@@ -199,6 +199,17 @@ class ObjectReader:
     def target(self, node: Node, key: str, kind: str) -> Optional[Node]:
         """What a container's one reference leads to."""
         found = self.targets(node, key, kind)
+        if len(found) > 1:
+            self.notes.of(node, _TIMES % (self.ecuc.word(key), len(found), found[0].title))
+        return found[0] if found else None
+
+    def part(self, node: Node, kind: str) -> Optional[Node]:
+        """The one container of a kind in another one."""
+        found = node.parts_of(kind)
+        if len(found) > 1:
+            self.notes.of(node, _TIMES % (found[0].word, len(found), found[0].name or "in line %d" % found[0].spot.line))
+            for part in found[1:]:
+                part.all_read()
         return found[0] if found else None
 
     def modes(self, node: Node, key: str) -> List[str]:
@@ -226,13 +237,13 @@ class ObjectReader:
         """A task."""
         events = self.targets(node, "OsTaskEventRef", "OsEvent")
         self.events_of[node] = events
-        auto = node.part("OsTaskAutostart")
+        auto = self.part(node, "OsTaskAutostart")
         activations = self.number(node, "OsTaskActivation", 1, TASK.member("activations").value, is_wanted=False)
         if events and activations > 1:
             value = node.first("OsTaskActivation")
             self.notes.of(node, "%s %s: 1 here, since it has events" % (value.word, value.shown), value.spot)
             activations = 1
-        protection = node.part("OsTaskTimingProtection")
+        protection = self.part(node, "OsTaskTimingProtection")
         return Task(
             node,
             self.number(node, "OsTaskPriority", 0),
@@ -255,7 +266,7 @@ class ObjectReader:
         names = [resource.name for resource in self.targets(node, "OsIsrResourceRef", "OsResource")]
         if names:
             self.notes.of(node, "it takes %s, and here an ISR takes no resource" % listed(names))
-        protection = node.part("OsIsrTimingProtection")
+        protection = self.part(node, "OsIsrTimingProtection")
         budget = self.one(protection, "OsIsrExecutionTime", "OsIsrExecutionBudget") if protection is not None else None
         return [Isr(node, level, budget)]
 
@@ -279,7 +290,7 @@ class ObjectReader:
     def alarm(self, node: Node) -> List[Driven]:
         """An alarm, if it has a counter, and an action that is one here."""
         counter = self.target(node, "OsAlarmCounterRef", "OsCounter")
-        choice = node.part("OsAlarmAction")
+        choice = self.part(node, "OsAlarmAction")
         if counter is None:
             return self.left_out(node, "it has no counter")
         acts = choice.parts if choice is not None else []
@@ -289,7 +300,7 @@ class ObjectReader:
         if action is None:
             return self.left_out(node, "it has no action")
         members = {"name": node.name, "counter": counter.name, "action": action}
-        auto = node.part("OsAlarmAutostart")
+        auto = self.part(node, "OsAlarmAutostart")
         if auto is not None:
             modes = self.modes(auto, "OsAlarmAppModeRef")
             start = self.start(node, auto, "OsAlarmAlarmTime", "OsAlarmAutostartType")
@@ -335,7 +346,7 @@ class ObjectReader:
         }
         if self.flag(node, "OsScheduleTableRepeating", False):
             members["repeating"] = True
-        auto = node.part("OsScheduleTableAutostart")
+        auto = self.part(node, "OsScheduleTableAutostart")
         if auto is not None:
             modes = self.modes(auto, "OsScheduleTableAppModeRef")
             offset = self.start(node, auto, "OsScheduleTableStartValue", "OsScheduleTableAutostartType")

@@ -99,6 +99,7 @@ _OBJECTS: Dict[str, Tuple[str, Dict[str, _To]]] = {
             "LENGTH": _To("OsScheduleTableDuration"),
             "REPEATING": _To("OsScheduleTableRepeating"),
             "PERIODIC": _To("OsScheduleTableRepeating"),
+            "LOCAL_TO_GLOBAL_TIME_SYNCHRONIZATION": _To("OsScheduleTableSync"),
             **_CORE_WORDS,
         },
     ),
@@ -230,13 +231,9 @@ class _Translator:
         elif entry.word in _POINTS + ("ACTION",) and node.kind == "OsScheduleTable":
             self.point(node, entry)
         elif entry.word == "RESOURCEPROPERTY":
-            node.values.append(_value(entry, _To("OsResourceProperty")))
-            linked = [each for each in entry.entries if each.word == "LINKEDRESOURCE"]
-            node.values += [_value(each, _To("OsResourceLinkedResourceRef", "OsResource")) for each in linked]
-        elif entry.word == "LOCAL_TO_GLOBAL_TIME_SYNCHRONIZATION" and truth(entry.text) is False:
-            return
+            node.values += _values(entry, attributes, {"LINKEDRESOURCE": _To("OsResourceLinkedResourceRef", "OsResource")})
         else:
-            node.values.append(_value(entry, attributes.get(entry.word, _To(entry.word))))
+            node.values += _values(entry, attributes)
 
     def autostart(self, node: Node, entry: Entry) -> None:
         """Adds how an object autostarts, if it does."""
@@ -244,20 +241,18 @@ class _Translator:
         if truth(entry.text) is False:
             return
         if truth(entry.text) is None:
-            node.values.append(_value(entry, _To(entry.word)))
+            node.values += _values(entry, {})
             return
         auto = Node(kind, entry.word, "", entry.spot, node.path + "/AUTOSTART")
-        for each in entry.entries:
-            auto.values.append(_value(each, attributes.get(each.word, _To(each.word))))
-            # In the braces of TYPE = ABSOLUTE or RELATIVE there stands its number.
-            auto.values += [_value(inner, attributes.get(inner.word, _To(inner.word))) for inner in each.entries]
+        # In the braces of TYPE = ABSOLUTE or RELATIVE there stands its number.
+        auto.values += [value for each in entry.entries for value in _values(each, attributes, attributes)]
         node.parts.append(auto)
 
     def action(self, entry: Entry, actions: Dict[str, Tuple[str, Dict[str, _To]]], path: str) -> Node:
         """The container of an action."""
         kind, attributes = actions.get(entry.text, (entry.text, {}))
         node = Node(kind, entry.text, "", entry.spot, path + "/" + entry.text)
-        node.values += [_value(each, attributes.get(each.word, _To(each.word))) for each in entry.entries]
+        node.values += [value for each in entry.entries for value in _values(each, attributes)]
         return node
 
     def point(self, table: Node, entry: Entry) -> None:
@@ -269,7 +264,7 @@ class _Translator:
         known = self.points.get(path) if offset else None
         if known is None or entry.word != "ACTION":
             known = Node("OsScheduleTableExpiryPoint", entry.word, "of offset " + offset, entry.spot, path)
-            known.values += [_value(each, _To(_OFFSET)) for each in offsets]
+            known.values += [value for each in offsets for value in _values(each, {"OFFSET": _To(_OFFSET)})]
             table.parts.append(known)
             self.points[path] = known
         for each in inner:
@@ -278,7 +273,7 @@ class _Translator:
             known.parts.append(act)
         if entry.word != "ACTION":
             rest = [each for each in entry.entries if each.word not in ("ACTION", "OFFSET")]
-            known.values += [_value(each, _To(each.word)) for each in rest]
+            known.values += [value for each in rest for value in _values(each, {})]
 
     def add_scheduler(self, module: Node) -> None:
         """Adds the resource that OSEK has without an object, if a task refers to it."""
@@ -288,10 +283,12 @@ class _Translator:
             module.parts.append(Node("OsResource", "RESOURCE", SCHEDULER, asks[0].spot, path))
 
 
-def _value(entry: Entry, to: _To) -> Value:
-    """What an attribute is."""
+def _values(entry: Entry, attributes: Dict[str, _To], inner: Optional[Dict[str, _To]] = None) -> List[Value]:
+    """What an attribute is, and what the attributes in its braces are; those that are not known keep their words."""
+    to = attributes.get(entry.word, _To(entry.word))
     text = _CATEGORIES.get(entry.text, entry.text) if to.key == "OsIsrCategory" else entry.text
-    return Value(to.key, entry.word, text, entry.spot, "/%s/%s" % (to.kind, entry.text) if to.kind else None)
+    own = Value(to.key, entry.word, text, entry.spot, "/%s/%s" % (to.kind, entry.text) if to.kind else None)
+    return [own] + [value for each in entry.entries for value in _values(each, inner or {})]
 
 
 def _words() -> Dict[str, str]:

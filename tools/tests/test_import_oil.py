@@ -225,6 +225,30 @@ class Words(InOil):
         notes = self.core("TASK T { PRIORITY = 1; };\nTASK T { PRIORITY = 2; };")[1]
         self.assertEqual(notes, ["note: TASK T: PRIORITY stands 2 times: the first one counts, 1"])
 
+    def test_what_stands_in_braces_is_noted(self):
+        _, notes = self.core(
+            "APPMODE m; COUNTER C { MAXALLOWEDVALUE = 9; TYPE = HARDWARE { DEVICE = GPT { CHANNEL = 3; }; }; };\n"
+            "TASK T { PRIORITY = 1; STACK = PRIVATE { SIZE = 64; }; SCHEDULE = NON { X = 1; }; };\n"
+            "ALARM A { COUNTER = C; ACTION = ACTIVATETASK { TASK = T; X = 1 { Y = 2; }; }; };\n"
+            "APPLICATION a { CORE = 0; TRUSTED = TRUE { FUNCTION = f; }; TASK = T; ALARM = A; COUNTER = C; };"
+        )
+        found = [note.split(": ")[-2].split(" ")[0] for note in notes]
+        self.assertEqual(found, ["DEVICE", "CHANNEL", "STACK", "SIZE", "X", "X", "Y", "FUNCTION"])
+
+    def test_what_stands_twice_is_noted(self):
+        text = "APPMODE m; COUNTER C { MAXALLOWEDVALUE = 9; }; COUNTER D { MAXALLOWEDVALUE = 9; };\n"
+        text += "TASK T { PRIORITY = 1; AUTOSTART = TRUE { APPMODE = m; };\nAUTOSTART = TRUE { APPMODE = m; }; };\n"
+        act = "ACTION = ACTIVATETASK { TASK = T; };"
+        text += "ALARM A { COUNTER = C; COUNTER = D; %s %s };\n" % (act, act)
+        text += "APPLICATION a { CORE = 0; CORE = 1; TASK = T; ALARM = A; COUNTER = C; COUNTER = D; };"
+        expected = [
+            "note: TASK T: AUTOSTART stands 2 times: the first one counts, in line 3",
+            "note: ALARM A: COUNTER stands 2 times: the first one counts, COUNTER C",
+            "note: ALARM A: ACTION stands 2 times: the first one counts, in line 5",
+            "note: APPLICATION a: it stands on several cores: the first one counts",
+        ]
+        self.assertEqual(self.core(text)[1], expected)
+
 
 if __name__ == "__main__":
     unittest.main()
