@@ -159,7 +159,7 @@ class Ecuc:
 
 
 def whole(text: str) -> Optional[int]:
-    """A whole number as these files write it: decimal, hexadecimal, binary or octal; one with a fraction of zero too."""
+    """A whole number as these files write it: decimal, hexadecimal, binary or octal, or with a fraction of zero."""
     text = text.strip()
     found = _WHOLE.fullmatch(text) if len(text) <= _MOST_DIGITS else None
     if found is None:

@@ -1,6 +1,6 @@
 """Notes on what an import has more of than a configuration may have: it is printed, and `mcos` refuses it."""
 
-from typing import Any, Dict, Iterable, List, Sequence, Tuple
+from typing import Any, Dict, Iterable, List, Sequence
 
 from library.ecuc import Node, Spot
 from library.findings import counted
@@ -10,7 +10,9 @@ from library.import_notes import Notes
 _ARE_ALLOWED = "%s: at most %d are allowed"
 
 
-def note_limits(notes: Notes, modes: Sequence[Node], spinlocks: Sequence[Any], lists: Dict[int, Dict[str, List[Any]]]) -> None:
+def note_limits(
+    notes: Notes, modes: Sequence[Node], spinlocks: Sequence[Any], lists: Dict[int, Dict[str, List[Any]]]
+) -> None:
     """Notes too many objects of a kind, and names that are none or stand twice."""
     for owner, nodes in (("modes", modes), ("spinlocks", [each.node for each in spinlocks])):
         most = CONFIGURATION.member(owner).value.greatest
@@ -64,4 +66,5 @@ def _note_names(notes: Notes, nodes: Iterable[Node]) -> None:
             notes.of(node, "a name is a letter, and up to 127 letters, digits and underscores")
         earlier = known.setdefault(node.name, node)
         if earlier is not node:
-            notes.of(node, "%s in line %d has this name too, and each name stands once" % (earlier.title, earlier.spot.line))
+            text = "%s in line %d has this name too, and each name stands once"
+            notes.of(node, text % (earlier.title, earlier.spot.line))

@@ -133,7 +133,9 @@ class ObjectReader:
             self.notes.of(node, _TIMES % (found[0].word, len(found), found[0].shown), found[1].spot)
         return found[0] if found else None
 
-    def number(self, node: Node, key: str, default: int, bounds: Optional[Number] = None, is_wanted: bool = True) -> int:
+    def number(
+        self, node: Node, key: str, default: int, bounds: Optional[Number] = None, is_wanted: bool = True
+    ) -> int:
         """A whole number within bounds."""
         value = self.one(node, key)
         if value is None:
@@ -174,7 +176,7 @@ class ObjectReader:
 
     def targets(self, node: Node, key: str, kind: str) -> List[Node]:
         """What a container's references of a name lead to, each once."""
-        found: List[Node] = []
+        found: Dict[Node, None] = {}
         for value in node.all(key):
             target = self.ecuc.target(value)
             if target is None:
@@ -183,15 +185,14 @@ class ObjectReader:
                 self.notes.of(node, text, value.spot)
             elif target.kind != kind:
                 text = "%s %s leads to the %s `%s`: it is left out, since %s is wanted"
-                self.notes.of(
-                    node, text % (value.word, value.shown, target.word, target.name, self.ecuc.word(kind)), value.spot
-                )
-            elif target not in found:
-                found.append(target)
-        return found
+                text %= (value.word, value.shown, target.word, target.name, self.ecuc.word(kind))
+                self.notes.of(node, text, value.spot)
+            else:
+                found.setdefault(target)
+        return list(found)
 
     def hint(self, value: Value, kind: str) -> str:
-        """The nearest name to that of a reference that leads nowhere. Looking for it takes long, so it is done rarely."""
+        """The nearest name to that of a reference that leads nowhere. Looking for it takes long: for the first ones."""
         name = value.text.rpartition("/")[2]
         self.hints += 1
         return did_you_mean(name, [each.name for each in self.of_kind(kind)]) if self.hints <= _MOST_HINTS else ""
@@ -207,7 +208,8 @@ class ObjectReader:
         """The one container of a kind in another one."""
         found = node.parts_of(kind)
         if len(found) > 1:
-            self.notes.of(node, _TIMES % (found[0].word, len(found), found[0].name or "in line %d" % found[0].spot.line))
+            first = found[0].name or "in line %d" % found[0].spot.line
+            self.notes.of(node, _TIMES % (found[0].word, len(found), first))
             for part in found[1:]:
                 part.all_read()
         return found[0] if found else None
@@ -302,9 +304,11 @@ class ObjectReader:
         members = {"name": node.name, "counter": counter.name, "action": action}
         auto = self.part(node, "OsAlarmAutostart")
         if auto is not None:
-            modes = self.modes(auto, "OsAlarmAppModeRef")
-            start = self.start(node, auto, "OsAlarmAlarmTime", "OsAlarmAutostartType")
-            members["auto"] = {"modes": modes, "start": start, "cycle": self.number(auto, "OsAlarmCycleTime", 0, is_wanted=False)}
+            members["auto"] = {
+                "modes": self.modes(auto, "OsAlarmAppModeRef"),
+                "start": self.start(node, auto, "OsAlarmAlarmTime", "OsAlarmAutostartType"),
+                "cycle": self.number(auto, "OsAlarmCycleTime", 0, is_wanted=False),
+            }
         return [Driven(node, counter, members)]
 
     def start(self, node: Node, auto: Node, key: str, type_key: str) -> int:

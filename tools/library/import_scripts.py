@@ -14,6 +14,7 @@ from library.findings import did_you_mean, listed
 from library.import_notes import Notes
 from library.places import Document, Json, JsonList, JsonNumber, JsonObject, JsonText, NotJson, read_document
 
+_MOST_HINTS = 20
 OF_A_CORE = {"mode": "a text", "start": "a list of numbers", "protection": "a text"}
 
 
@@ -28,11 +29,12 @@ class Scripts:
 
     def note_unused(self, notes: Notes, owners: List[Node], cores: List[int]) -> None:
         """Notes what is for no task or ISR, and for no core."""
-        names = [node.name for node in owners]
-        for name in self.by_name:
-            if name not in names:
-                text = "no task and no ISR of the import is called `%s`%s" % (name, did_you_mean(name, names))
-                notes.note(self.spots[name], text)
+        names = {node.name for node in owners}
+        unused = [name for name in self.by_name if name not in names]
+        for number, name in enumerate(unused):
+            # Looking for the nearest name takes long.
+            near = did_you_mean(name, names) if number < _MOST_HINTS else ""
+            notes.note(self.spots[name], "no task and no ISR of the import is called `%s`%s" % (name, near))
         for core in self.of_cores:
             if core not in cores:
                 notes.note(self.spots[str(core)], "the import has no core %d" % core)
@@ -71,7 +73,8 @@ class _Reader:
             elif _is_script(member.value):
                 self.found.by_name[name] = plain(member.value)
             else:
-                raise refused(self.spot(member.value.start), "the script of `%s` is no text, and no list of texts" % name)
+                text = "the script of `%s` is no text, and no list of texts" % name
+                raise refused(self.spot(member.value.start), text)
         return self.found
 
     def core(self, name: str, value: Json) -> None:

@@ -1,7 +1,7 @@
 """From the objects of an Os configuration to the source of a configuration, with the shorthand of `tools/expand`.
 
-Objects stand on their cores, ceilings are computed, seconds are ticks, priorities that are too great are ranks, and each
-task and ISR has the given script, or a skeleton.
+Objects stand on their cores, ceilings are computed, seconds are ticks, priorities that are too great are ranks, and
+each task and ISR has the given script, or a skeleton.
 """
 
 from dataclasses import dataclass
@@ -155,8 +155,9 @@ class _Importer:
     def resources_by_core(self, tasks: Dict[int, List[Task]]) -> Dict[int, List[Resource]]:
         """The resources that the tasks of each core take; each stands on one core."""
         found: Dict[int, List[Resource]] = {}
+        taken = {core: {node for task in tasks[core] for node in task.resources} for core in sorted(tasks)}
         for resource in self.objects.resources:
-            users = [core for core in sorted(tasks) if any(resource.node in task.resources for task in tasks[core])]
+            users = [core for core in taken if resource.node in taken[core]]
             if not users:
                 self.notes.alike_of(resource.node, "no task", "left out: no task takes it")
                 continue
@@ -197,16 +198,21 @@ class _Importer:
             takes = [resource.name for resource in task.resources if resource in own]
             members["script"] = self.script(task.node, _skeleton(self.events.own_names(task.node), takes))
             placed.append(Placed(task.node, members))
-        ceilings = [Placed(each.node, self.resource(each, tasks, ranks)) for each in resources]
-        return {"resources": ceilings, "tasks": placed}
+        return {"resources": self.ceilings(resources, tasks, ranks), "tasks": placed}
 
-    def resource(self, resource: Resource, tasks: Sequence[Task], ranks: Dict[int, int]) -> Dict[str, Any]:
-        """A resource with its ceiling: the greatest priority of the tasks that take it, or what it is linked to."""
-        first = self.first_linked(resource.node)
-        users = [task for task in tasks if any(self.first_linked(node) is first for node in task.resources)]
-        if resource.node.name == _SCHEDULER:
-            users = list(tasks)
-        return {"name": resource.node.name, "ceiling": max(ranks[task.priority] for task in users)}
+    def ceilings(self, resources: Sequence[Resource], tasks: Sequence[Task], ranks: Dict[int, int]) -> List[Placed]:
+        """The resources, each with the greatest priority of the tasks that take it, or what it is linked to."""
+        greatest: Dict[Node, int] = {}
+        for task, node in [(task, node) for task in tasks for node in task.resources]:
+            first = self.first_linked(node)
+            greatest[first] = max(greatest.get(first, 0), ranks[task.priority])
+        found = []
+        for resource in resources:
+            ceiling = greatest[self.first_linked(resource.node)]
+            if resource.node.name == _SCHEDULER:
+                ceiling = max(ranks.values())
+            found.append(Placed(resource.node, {"name": resource.node.name, "ceiling": ceiling}))
+        return found
 
     def first_linked(self, node: Node) -> Node:
         """The resource to which links lead from one; those that lead to the same one have one ceiling."""

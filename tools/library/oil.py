@@ -1,6 +1,6 @@
 """From the objects of OIL to containers in AUTOSAR's words, so that both formats are imported alike.
 
-OIL 2.5, and what AUTOSAR's additions are called where they are common: in AUTOSAR's own OIL, in Trampoline and in ERIKA.
+OIL 2.5, and what AUTOSAR's additions are called where they are common: in AUTOSAR's own OIL, in Trampoline, in ERIKA.
 What is called otherwise keeps its word, and is named as what has no place.
 """
 
@@ -157,6 +157,7 @@ _ACTIONS: Dict[str, Dict[str, Tuple[str, Dict[str, _To]]]] = {
         ),
     },
 }
+_LINKED = {"LINKEDRESOURCE": _To("OsResourceLinkedResourceRef", "OsResource")}
 _POINTS = ("EXPIRYPOINT", "EXPIRY_POINT")
 _OFFSET = "OsScheduleTblExpPointOffset"
 _CATEGORIES = {"1": "CATEGORY_1", "2": "CATEGORY_2"}
@@ -231,7 +232,7 @@ class _Translator:
         elif entry.word in _POINTS + ("ACTION",) and node.kind == "OsScheduleTable":
             self.point(node, entry)
         elif entry.word == "RESOURCEPROPERTY":
-            node.values += _values(entry, attributes, {"LINKEDRESOURCE": _To("OsResourceLinkedResourceRef", "OsResource")})
+            node.values += _values(entry, attributes, _LINKED)
         else:
             node.values += _values(entry, attributes)
 
@@ -256,7 +257,7 @@ class _Translator:
         return node
 
     def point(self, table: Node, entry: Entry) -> None:
-        """Adds an expiry point of a table, or an action with an offset of its own, which may be of a point that is there."""
+        """Adds an expiry point of a table, or an action with an offset of its own, which a point may have already."""
         inner = [entry] if entry.word == "ACTION" else [each for each in entry.entries if each.word == "ACTION"]
         offsets = [each for each in entry.entries if each.word == "OFFSET"]
         offset = offsets[0].text if offsets else ""

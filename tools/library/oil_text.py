@@ -6,8 +6,8 @@
     braces      ::= "{" { entry } "}"
     description ::= ":" STRING
 
-Comments are `//` up to the end of the line, and `/* */`. A file of `#include "FILE"` is read in its place. IMPLEMENTATION,
-which says what attributes a vendor has, is passed over.
+Comments are `//` up to the end of the line, and `/* */`. A file of `#include "FILE"` is read in its place.
+IMPLEMENTATION, which says what attributes a vendor has, is passed over.
 """
 
 import bisect

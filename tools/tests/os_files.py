@@ -212,7 +212,8 @@ def task(file, each):
     parameters = [("OsTaskPriority", each["prio"]), ("OsTaskActivation", each.get("activations", 1))]
     parameters.append(("OsTaskSchedule", "FULL" if each.get("preemptable", True) else "NON"))
     references = [("OsTaskEventRef", reference(name)) for name in file.events[each["name"]]]
-    references += [("OsTaskResourceRef", reference(name)) for name, users in file.users.items() if each["name"] in users]
+    takes = [name for name, users in file.users.items() if each["name"] in users]
+    references += [("OsTaskResourceRef", reference(name)) for name in takes]
     parts = autostart("OsTask/OsTaskAutostart", each.get("auto", []))
     parts += protection("OsTask", "OsTaskExecutionBudget", each)
     return container("OsTask", each["name"], parameters, references, parts)
@@ -236,7 +237,8 @@ def alarm(file, each):
         parameters = [("OsAlarmAlarmTime", auto["start"]), ("OsAlarmCycleTime", auto["cycle"])]
         parameters.append(("OsAlarmAutostartType", "RELATIVE"))
         parts += autostart("OsAlarm/OsAlarmAutostart", auto["modes"], parameters)
-    return container("OsAlarm", each["name"], references=[("OsAlarmCounterRef", reference(each["counter"]))], parts=parts)
+    references = [("OsAlarmCounterRef", reference(each["counter"]))]
+    return container("OsAlarm", each["name"], references=references, parts=parts)
 
 
 def table(file, each):
@@ -297,7 +299,8 @@ def oil_objects(file):
     yield oil_object("OS", "os", ("STATUS", "EXTENDED"), *hooks)
     yield from (oil_object("APPMODE", mode) for mode in file.modes)
     for spinlock in file.configuration.get("spinlocks", []):
-        yield oil_object("SPINLOCK", spinlock["name"], *([("SUCCESSOR", spinlock["next"])] if spinlock.get("next") else []))
+        after = [("SUCCESSOR", spinlock["next"])] if spinlock.get("next") else []
+        yield oil_object("SPINLOCK", spinlock["name"], *after)
     for core in file.configuration["cores"]:
         words = {"tasks": "TASK", "isrs": "ISR", "alarms": "ALARM", "counters": "COUNTER", "tables": "SCHEDULETABLE"}
         objects = [(words[name], each["name"]) for name in words for each in core.get(name, [])]
@@ -307,18 +310,22 @@ def oil_objects(file):
     yield from (oil_object("RESOURCE", name, ("RESOURCEPROPERTY", "STANDARD")) for name in file.users)
     yield from (oil_counter(each) for _, each in file.objects("counters"))
     yield from (oil_task(file, each) for _, each in file.objects("tasks"))
-    yield from (oil_object("ISR", each["name"], ("CATEGORY", 2), ("PRIORITY", each["level"])) for _, each in file.objects("isrs"))
+    for _, each in file.objects("isrs"):
+        yield oil_object("ISR", each["name"], ("CATEGORY", 2), ("PRIORITY", each["level"]))
     yield from (oil_alarm(file, each) for _, each in file.objects("alarms"))
     yield from (oil_table(file, each) for _, each in file.objects("tables"))
 
 
 def oil_counter(each):
     attributes = [("MAXALLOWEDVALUE", each["max"]), ("TICKSPERBASE", 1), ("MINCYCLE", each.get("min", 1))]
-    return oil_object("COUNTER", each["name"], *attributes, ("TYPE", "SOFTWARE" if each.get("software") else "HARDWARE"))
+    attributes.append(("TYPE", "SOFTWARE" if each.get("software") else "HARDWARE"))
+    return oil_object("COUNTER", each["name"], *attributes)
 
 
 def oil_autostart(modes, *attributes):
-    return ("AUTOSTART", "TRUE", [*attributes, *(("APPMODE", mode) for mode in modes)]) if modes else ("AUTOSTART", "FALSE")
+    if not modes:
+        return ("AUTOSTART", "FALSE")
+    return ("AUTOSTART", "TRUE", [*attributes, *(("APPMODE", mode) for mode in modes)])
 
 
 def oil_action(file, text, *attributes):

@@ -178,6 +178,7 @@ def application(name, core, **references):
 
 
 MODE = container("OsAppMode", "M")
+HOOKS = [("OsErrorHook", False), ("OsStartupHook", True)]
 ACTIVATES_T = ("OsAlarmActivateTask", ("OsAlarmActivateTaskRef", "T"))
 SKELETON = "note: no file has scripts: those of %s are skeletons; --scripts gives others"
 # Containers of an Os module, and the notes on them beside the one on skeletons.
@@ -205,7 +206,7 @@ NOTES = {
     "a hook that is not called": (
         [
             os_task("T"),
-            container("OsOS", "OS", parts=[container("OsOS/OsHooks", "H", [("OsErrorHook", False), ("OsStartupHook", True)])]),
+            container("OsOS", "OS", parts=[container("OsOS/OsHooks", "H", HOOKS)]),
         ],
         ["note: OsOS OS, OsHooks H: OsErrorHook false: this hook is always called"],
     ),
@@ -311,7 +312,10 @@ NOTES = {
     ),
     "counters of two ticks": (
         [os_counter("C", OsSecondsPerTick="0.001"), os_counter("D", OsSecondsPerTick="1E-4"), os_task("T")],
-        ["note: OsCounter C: its tick is 0.001 s, and that of another one of core 0 0.0001 s: each `tick` increments both"],
+        [
+            "note: OsCounter C: its tick is 0.001 s, and that of another one of core 0 0.0001 s: "
+            "each `tick` increments both"
+        ],
     ),
     "a tick that is no length of time": (
         [os_counter(OsSecondsPerTick="INF"), os_task("T")],
@@ -382,8 +386,8 @@ NOTES = {
     "an application whose core is nowhere": (
         [container("OsApplication", "App", (), [("OsApplicationCoreRef", "/X/EcuC/Hw/Core3")])],
         [
-            "note: OsApplication App: OsApplicationCoreRef /X/EcuC/Hw/Core3 leads nowhere: is the file of the module EcuC "
-            "missing? It stands on core 3"
+            "note: OsApplication App: OsApplicationCoreRef /X/EcuC/Hw/Core3 leads nowhere: is the file of the module "
+            "EcuC missing? It stands on core 3"
         ],
     ),
     "an application of what is nowhere": (
@@ -430,7 +434,8 @@ NOTES = {
         ],
     ),
     "cores of great numbers": (
-        [application("A", 2, OsAppTaskRef="T"), application("B", 16, OsAppTaskRef="U"), os_task("T"), os_task("U"), MODE],
+        [application("A", 2, OsAppTaskRef="T"), application("B", 16, OsAppTaskRef="U")]
+        + [os_task("T"), os_task("U"), MODE],
         [
             "note: the cores have numbers up to 16, and here up to 7: 2 is 0, 16 is 1",
             "note: no file says which core starts which: core 0 starts 1 here",
@@ -441,7 +446,8 @@ NOTES = {
         ["note: no file says in which mode a core starts: in M here"],
     ),
     "a table without a point": (
-        [container("OsScheduleTable", "S", (), [("OsScheduleTableCounterRef", reference("C"))]), os_counter(), os_task("T")],
+        [container("OsScheduleTable", "S", (), [("OsScheduleTableCounterRef", reference("C"))])]
+        + [os_counter(), os_task("T")],
         [
             "note: OsScheduleTable S: OsScheduleTableDuration is missing: 1 here",
             "note: OsScheduleTable S: left out: it has no expiry point",
@@ -575,7 +581,8 @@ class Refused(InAFolder):
         self.assertEqual(called(MAIN, "--scripts", "none.json", "Os.arxml"), (1, "", message))
 
     def test_wrong_usage(self):
-        for words in ((), ("--master", "8", "a"), ("--tick", "0", "a"), ("--tick", "x", "a"), ("--frob", "a"), ("-", "-")):
+        wrong = [(), ("-", "-"), ("--frob", "a"), ("--master", "8", "a"), ("--tick", "0", "a"), ("--tick", "x", "a")]
+        for words in wrong:
             with self.subTest(words=words):
                 status, output, _ = called(MAIN, *words)
                 self.assertEqual((status, output), (2, ""))
@@ -585,7 +592,8 @@ class Imported(InAFolder):
     """What the source has."""
 
     def tasks(self, *containers, words=()):
-        return {task["name"]: task for core in self.of_os(*containers, words=words)[0]["cores"] for task in core["tasks"]}
+        source = self.of_os(*containers, words=words)[0]
+        return {task["name"]: task for core in source["cores"] for task in core["tasks"]}
 
     def test_skeletons(self):
         tasks = self.tasks(
@@ -622,7 +630,8 @@ class Imported(InAFolder):
         self.assertEqual(tasks["T"]["script"][0], "loop: WaitEvent A; ClearEvent A")
 
     def test_numbers(self):
-        for text, priority in (("0x1F", 31), ("0b11", 3), ("017", 15), ("10.0", 10), ("1E1", 10), ("+5", 5), (" 7 ", 7)):
+        numbers = {"0x1F": 31, "0b11": 3, "017": 15, "10.0": 10, "1E1": 10, "+5": 5, " 7 ": 7}
+        for text, priority in numbers.items():
             with self.subTest(text=text):
                 self.assertEqual(self.tasks(os_task("T", OsTaskPriority=text))["T"]["prio"], priority)
         for text in ("09", "1e9999", "1e-999", "9" * 41, "NaN", "1_0", "\u0661"):
@@ -643,7 +652,8 @@ class Imported(InAFolder):
 
     def test_budgets(self):
         parts = budget("OsTask", "0.01")
-        counters = [os_counter("C", OsSecondsPerTick="1.0E-3"), os_counter("D", OsSecondsPerTick="0.002", OsCounterType="SOFTWARE")]
+        counters = [os_counter("C", OsSecondsPerTick="1.0E-3")]
+        counters.append(os_counter("D", OsSecondsPerTick="0.002", OsCounterType="SOFTWARE"))
         self.assertEqual(self.tasks(*counters, os_task("T", parts=parts))["T"]["budget"], 10)
         self.assertEqual(self.tasks(os_task("T", parts=parts))["T"]["budget"], 10)
         self.assertEqual(self.tasks(*counters, os_task("T", parts=parts), words=["--tick", "0.005"])["T"]["budget"], 2)
@@ -731,7 +741,7 @@ class Document(InAFolder):
 
     def test_the_work_list(self):
         command = documents.example("says what the scripts have still to do:").strip()
-        command = command.replace("import Os.arxml EcuC.arxml", "import examples/import/Os.arxml examples/import/EcuC.arxml")
+        command = command.replace(" Os.arxml EcuC.arxml", " examples/import/Os.arxml examples/import/EcuC.arxml")
         status, lines, _ = self.shell(command)
         self.assertEqual(status, 0)
         self.assertIn("nothing increments the `software` counter `Tooth`", lines)

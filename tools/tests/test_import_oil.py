@@ -33,7 +33,8 @@ class Text(InOil):
 
     def test_comments_and_descriptions(self):
         for text in (
-            "// one\n/* two\n * lines */ TASK T /*here*/ { PRIORITY = 3 : \"what it is\"; // 3\n ACTIVATION = 2; } : \"T\";",
+            "// one\n/* two\n * lines */ TASK T /*here*/ { PRIORITY = 3; // 3\n ACTIVATION = 2; };",
+            'TASK T { PRIORITY = 3 : "what it is"; ACTIVATION = 2; } : "T";',
             'TASK T { PRIORITY = 3; ACTIVATION = 2; } : "a // text /* and \\" a quote";',
             "TASK\tT{PRIORITY=3;ACTIVATION=2;};",
             "TASK T { PRIORITY = 0x3; ACTIVATION = 0X02; };",
@@ -75,9 +76,11 @@ class Text(InOil):
         self.assertEqual(places, ["a.oil:3:2", "parts/more.oil:1:1", "parts/tasks.oil:2:24"])
 
     def test_wrong_includes(self):
-        self.refused('CPU c {\n #include "none.oil"\n};', "a.oil:2:2: the file to include is not there: `none.oil`", "a.oil")
+        message = "a.oil:2:2: the file to include is not there: `none.oil`"
+        self.refused('CPU c {\n #include "none.oil"\n};', message, "a.oil")
         self.refused('CPU c {\n#include "a.oil"\n};', "a.oil:2:1: this file includes itself: `a.oil`", "a.oil")
-        self.refused("#define X 1\n", "a.oil:1:1: of the preprocessor only `#include` is read, not `#define X 1`", "a.oil")
+        message = "a.oil:1:1: of the preprocessor only `#include` is read, not `#define X 1`"
+        self.refused("#define X 1\n", message, "a.oil")
         self.write("b.oil", "")
         message = "a.oil:101:1: more than 100 files are included"
         self.refused('#include "b.oil"\n' * 101, message, "a.oil")
@@ -176,12 +179,14 @@ class Words(InOil):
         )
         ceilings = {resource["name"]: resource["ceiling"] for resource in core["resources"]}
         self.assertEqual(ceilings, {"R": 2, "S": 2, "RES_SCHEDULER": 3})
-        self.assertEqual(notes, ["note: RESOURCE S: it is linked to R: a resource of its own here, with the ceiling of both"])
+        note = "note: RESOURCE S: it is linked to R: a resource of its own here, with the ceiling of both"
+        self.assertEqual(notes, [note])
 
     def test_cores(self):
         source, notes = self.of_cpu(
             "APPMODE m;\nAPPLICATION a { CORE = 2; TASK = T; };\n"
-            'TASK T { PRIORITY = 1; };\nTASK U { PRIORITY = 1; CPU_ID = 0x3; };\nTASK V { PRIORITY = 1; CPU_ID = "cpu1"; };'
+            "TASK T { PRIORITY = 1; };\nTASK U { PRIORITY = 1; CPU_ID = 0x3; };\n"
+            'TASK V { PRIORITY = 1; CPU_ID = "cpu1"; };'
         )
         tasks = {core["id"]: [task["name"] for task in core["tasks"]] for core in source["cores"]}
         self.assertEqual(tasks, {1: ["V"], 2: ["T"], 3: ["U"]})
@@ -199,16 +204,20 @@ class Words(InOil):
 
     def test_tables(self):
         auto = "AUTOSTART = TRUE { APPMODE = m; %s };"
-        actions = "ACTION = SETEVENT { TASK = T; EVENT = e; OFFSET = 4; }; ACTION = ACTIVATETASK { TASK = T; OFFSET = 2; };"
+        actions = "ACTION = SETEVENT { TASK = T; EVENT = e; OFFSET = 4; };"
+        actions += "ACTION = ACTIVATETASK { TASK = T; OFFSET = 2; };"
         points = "%s = POINT { OFFSET = 2; ACTION = ACTIVATETASK { TASK = T; }; };"
         points += "%s P { OFFSET = 4; ACTION = SETEVENT { TASK = T; EVENT = e; }; };"
+        old = "LENGTH = 10; PERIODIC = TRUE; LOCAL_TO_GLOBAL_TIME_SYNCHRONIZATION = FALSE;"
+        new = "DURATION = 10; REPEATING = TRUE;"
         texts = [
-            "LENGTH = 10; PERIODIC = TRUE; LOCAL_TO_GLOBAL_TIME_SYNCHRONIZATION = FALSE;" + auto % "OFFSET = 3;" + actions,
-            "DURATION = 10; REPEATING = TRUE;" + auto % "TYPE = ABSOLUTE { START = 3; };" + actions,
-            "DURATION = 10; REPEATING = TRUE;" + auto % "TYPE = RELATIVE; START_VALUE = 3;" + points % (("EXPIRYPOINT",) * 2),
-            "DURATION = 10; REPEATING = TRUE;" + auto % "START = 3;" + points % (("EXPIRY_POINT",) * 2),
+            old + auto % "OFFSET = 3;" + actions,
+            new + auto % "TYPE = ABSOLUTE { START = 3; };" + actions,
+            new + auto % "TYPE = RELATIVE; START_VALUE = 3;" + points % (("EXPIRYPOINT",) * 2),
+            new + auto % "START = 3;" + points % (("EXPIRY_POINT",) * 2),
         ]
-        expected = {"name": "S", "counter": "C", "duration": 10, "repeating": True, "auto": {"modes": ["m"], "offset": 3}}
+        expected = {"name": "S", "counter": "C", "duration": 10, "repeating": True}
+        expected["auto"] = {"modes": ["m"], "offset": 3}
         expected["points"] = [
             {"offset": 2, "actions": ["ActivateTask T"]},
             {"offset": 4, "actions": ["SetEvent T e"]},
@@ -219,7 +228,8 @@ class Words(InOil):
                 self.assertEqual((core["tables"], notes), ([expected], []))
 
     def test_one_object_in_two_parts(self):
-        core, notes = self.core("TASK T { PRIORITY = 1; };\nTASK T { ACTIVATION = 2; PRIORITY = 1; };\nTASK U { PRIORITY = 1; };")
+        task = "TASK %s { PRIORITY = 1; %s };\n"
+        core, notes = self.core(task % ("T", "") + task % ("T", "ACTIVATION = 2;") + task % ("U", ""))
         self.assertEqual([task["name"] for task in core["tasks"]], ["T", "U"])
         self.assertEqual((core["tasks"][0]["activations"], notes), (2, []))
         notes = self.core("TASK T { PRIORITY = 1; };\nTASK T { PRIORITY = 2; };")[1]
