@@ -11,7 +11,6 @@ from fractions import Fraction
 from typing import Dict, Iterator, List, NamedTuple, Optional, Set
 
 from library.ending import Failed
-from library.not_json import printable
 
 OS = "Os"
 HARDWARE = "EcuC"
@@ -52,7 +51,7 @@ class Value:
     @property
     def shown(self) -> str:
         """The value in a message, in one line, and cut if it is long."""
-        text = printable(" ".join(self.text.split()))
+        text = " ".join(self.text.split())
         return text if len(text) <= 60 else text[:58] + ".."
 
 
@@ -79,12 +78,12 @@ class Node:
     @property
     def shown(self) -> str:
         """As of a value: what it is in a message."""
-        return printable(self.name)
+        return self.name
 
     @property
     def title(self) -> str:
         """The container in a message: the object first, and then the way to what stands in it."""
-        own = "%s %s" % (self.word, printable(self.name)) if self.name else self.word
+        own = "%s %s" % (self.word, self.name) if self.name else self.word
         return "%s, %s" % (self.owner.title, own) if self.owner is not None else own
 
     def all(self, key: str) -> List[Value]:

@@ -8,6 +8,7 @@ from dataclasses import dataclass
 from typing import Dict, Iterable, Iterator, List, Optional, Tuple, Union
 
 from library.ecuc import Node, Spot, Value, truth
+from library.not_json import printable
 
 # Values that say no more than what is always so here.
 AS_HERE = {
@@ -89,7 +90,7 @@ class _Note:
     @property
     def line(self) -> str:
         more = "; so for %d more %s" % (self.more, self.kind) if self.more else ""
-        return "%s: note: %s%s" % (self.spot, self.text, more)
+        return "%s: note: %s%s" % (self.spot, printable(self.text), more)
 
 
 class Notes:

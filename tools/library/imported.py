@@ -90,6 +90,8 @@ class _Importer:
         self.notes = notes
         self.scripts = choices.scripts
         self.given_tick = choices.tick
+        self.is_tick_said = True
+        self.is_tick_noted = False
         self.skeletons: List[Node] = []
         self.links = {each.node: each.linked for each in objects.resources if each.linked is not None}
         self.lists: Dict[int, Dict[str, List[Placed]]] = {}
@@ -252,6 +254,7 @@ class _Importer:
         if seconds:
             return least
         others = [each.seconds for each in self.objects.counters if each.seconds is not None]
+        self.is_tick_said = bool(others)
         return min(others, default=_USUAL_TICK)
 
     def budget(self, node: Node, value: Optional[Value], tick: Fraction) -> Dict[str, int]:
@@ -261,6 +264,10 @@ class _Importer:
             self.notes.of(node, "%s %s is no length of time: no `budget` here" % (value.word, value.shown), value.spot)
         if not seconds or seconds < 0:
             return {}
+        if not self.is_tick_said and not self.is_tick_noted:
+            self.is_tick_noted = True
+            text = "no counter says how long a tick is: %s s here, for budgets; --tick says another length"
+            self.notes.of(node, text % _shown(tick))
         exact = seconds / tick
         ticks = min(max(-(-exact.numerator // exact.denominator), 1), GREATEST_BUDGET)
         if ticks != exact:

@@ -322,8 +322,29 @@ NOTES = {
         ["note: OsCounter C: OsSecondsPerTick INF is no length of time"],
     ),
     "a budget of a part of a tick": (
-        [os_task("T", parts=budget("OsTask", "0.0015")), os_task("U", parts=budget("OsTask", "0.002"))],
+        [os_counter(OsSecondsPerTick="0.001")]
+        + [os_task("T", parts=budget("OsTask", "0.0015")), os_task("U", parts=budget("OsTask", "0.002"))],
         ["note: OsTask T: OsTaskExecutionBudget 0.0015 s: `budget` is 2 ticks of 0.001 s here"],
+    ),
+    "a budget without a tick": (
+        [os_task("T", parts=budget("OsTask", "0.002")), os_isr("I", OsIsrPriority=1, parts=budget("OsIsr", "1"))],
+        ["note: OsIsr I: no counter says how long a tick is: 0.001 s here, for budgets; --tick says another length"],
+    ),
+    "a name with a line end": (
+        [os_task("T\nU")],
+        ["note: OsTask T\\nU: a name is a letter, and up to 127 letters, digits and underscores"],
+    ),
+    "references to two counters": (
+        [
+            os_counter("C"),
+            os_counter("D"),
+            os_task("T"),
+            container("OsAlarm", "A", (), [("OsAlarmCounterRef", reference(name)) for name in "CD"]),
+        ],
+        [
+            "note: OsAlarm A: OsAlarmCounterRef stands 2 times: the first one counts, OsCounter C",
+            "note: OsAlarm A: left out: it has no action",
+        ],
     ),
     "a budget that is no number": (
         [os_task("T", parts=budget("OsTask", "long"))],
