@@ -10,7 +10,7 @@ from typing import Any, Dict, List, Optional
 
 from library.ecuc import Ecuc, Node, Value, fraction, truth, whole
 from library.findings import did_you_mean, listed
-from library.formats import COUNTER, GREATEST_COUNT, TASK, Number
+from library.formats import COUNTER, GREATEST_COUNT, MODE, TASK, Number
 from library.import_notes import Notes, reason_of
 
 # No standard says what the priority of an interrupt is called.
@@ -216,8 +216,8 @@ class ObjectReader:
 
     def modes(self, node: Node, key: str) -> List[str]:
         """The modes of an autostart. Without any it is the first one."""
-        if not node.all(key) and self.of_kind("OsAppMode"):
-            first = self.of_kind("OsAppMode")[0].name
+        if not node.all(key):
+            first = next((mode.name for mode in self.of_kind("OsAppMode")), MODE)
             self.notes.alike_of(node, key + " missing", "no %s: it is %s here" % (self.ecuc.word(key), first))
             return [first]
         return [mode.name for mode in self.targets(node, key, "OsAppMode")]

@@ -235,6 +235,25 @@ class Words(InOil):
         notes = self.core("TASK T { PRIORITY = 1; };\nTASK T { PRIORITY = 2; };")[1]
         self.assertEqual(notes, ["note: TASK T: PRIORITY stands 2 times: the first one counts, 1"])
 
+    def test_an_old_file(self):
+        core, notes = self.core(
+            'OS os { EE_OPT = "DEBUG"; CPU_DATA = PIC30 { APP_SRC = "a.c"; }; };\n'
+            "TASK T { PRIORITY = 0x80; STACK = SHARED; AUTOSTART = TRUE; };\n"
+            'COUNTER C;\nALARM A { COUNTER = "C"; ACTION = ACTIVATETASK { TASK = "T"; }; };'
+        )
+        self.assertEqual(core["alarms"], [{"name": "A", "counter": "C", "action": "ActivateTask T"}])
+        self.assertEqual((core["tasks"][0]["prio"], core["tasks"][0]["auto"]), (0, ["M"]))
+        expected = [
+            "note: OS os: EE_OPT DEBUG: no place in the configuration",
+            "note: OS os: CPU_DATA PIC30: no place in the configuration",
+            "note: OS os: APP_SRC a.c: no place in the configuration",
+            "note: core 0 has priorities from 128 to 128, and `prio` is 0 to 31: each is its rank here, 0 to 0",
+            "note: TASK T: STACK SHARED: no place in the configuration",
+            "note: TASK T, AUTOSTART: no APPMODE: it is M here",
+            "note: COUNTER C: MAXALLOWEDVALUE is missing: 65535 here",
+        ]
+        self.assertEqual(notes, expected)
+
     def test_what_stands_in_braces_is_noted(self):
         _, notes = self.core(
             "APPMODE m; COUNTER C { MAXALLOWEDVALUE = 9; TYPE = HARDWARE { DEVICE = GPT { CHANNEL = 3; }; }; };\n"
