@@ -4,7 +4,7 @@ import re
 from typing import Dict, Iterable, Iterator, List, Optional
 
 from library.ecuc import HARDWARE, Ecuc, Node, whole
-from library.formats import CORE
+from library.formats import CONFIGURATION, CORE
 from library.import_notes import Notes
 
 _REFERENCES = {
@@ -17,7 +17,7 @@ _REFERENCES = {
 # How OIL says it of an object itself, in several words; AUTOSAR has none of it.
 OWN_CORE = "core of the object"
 _GREATEST = CORE.member("id").value.greatest
-_MOST = 8
+_MOST = CONFIGURATION.member("cores").value.greatest
 
 
 class Cores:

@@ -2,7 +2,7 @@
 
 from typing import Any, Dict, Iterable, List, Sequence
 
-from library.ecuc import Node, Spot
+from library.ecuc import Node
 from library.findings import counted
 from library.formats import CONFIGURATION, CORE, MOST_ACTIVATIONS, NAMED_LISTS, NO_MODES, POINT, TABLE, is_name
 from library.import_notes import Notes
@@ -21,6 +21,9 @@ def note_limits(
     for core, named in lists.items():
         _note_core(notes, core, named)
     placed = [each.node for named in lists.values() for name in NAMED_LISTS for each in named[name]]
+    most = CONFIGURATION.member("cores").value.greatest
+    if len(lists) > most and placed:
+        notes.note(placed[-1].spot, _ARE_ALLOWED % (counted(len(lists), "core"), most))
     _note_names(notes, list(modes) + [each.node for each in spinlocks] + placed)
     for node in modes:
         if node.name in NO_MODES:
@@ -29,10 +32,6 @@ def note_limits(
 
 def _note_core(notes: Notes, core: int, named: Dict[str, List[Any]]) -> None:
     """Notes too many objects of one core, and too many parts of its tables."""
-    if core > CORE.member("id").value.greatest:
-        first = next((each for placed in named.values() for each in placed), None)
-        spot = first.node.spot if first is not None else Spot("", 1, 1)
-        notes.note(spot, "core %d: at most %d is allowed" % (core, CORE.member("id").value.greatest))
     for name, placed in named.items():
         most = CORE.member(name).value.greatest
         if len(placed) > most:

@@ -355,22 +355,20 @@ class ObjectReader:
             modes = self.modes(auto, "OsScheduleTableAppModeRef")
             offset = self.start(node, auto, "OsScheduleTableStartValue", "OsScheduleTableAutostartType")
             members["auto"] = {"modes": modes, "offset": offset}
-        points = [point for part in node.parts_of("OsScheduleTableExpiryPoint") for point in self.point(node, part)]
+        points = [point for part in node.parts_of("OsScheduleTableExpiryPoint") for point in self.point(part)]
         if not points:
             return self.left_out(node, "it has no expiry point")
         members["points"] = sorted(points, key=lambda point: point["offset"])
         return [Driven(node, counter, members)]
 
-    def point(self, table: Node, node: Node) -> List[Dict[str, Any]]:
+    def point(self, node: Node) -> List[Dict[str, Any]]:
         """An expiry point, if it has an action."""
         acts = [part for part in node.parts if part.kind in _ACTIVATION + _SETTING]
         found = [self.action(node, act) for act in acts]
         actions = [action for action in found if action is not None]
         offset = self.number(node, "OsScheduleTblExpPointOffset", 0)
         if not actions:
-            self.notes.of(table, "%s is left out: it has no action" % node.title, node.spot)
-            node.all_read()
-            return []
+            return self.left_out(node, "it has no action")
         return [{"offset": offset, "actions": actions}]
 
     def resource(self, node: Node) -> List[Resource]:

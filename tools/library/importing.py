@@ -6,7 +6,7 @@ from library import ending
 from library.arxml import read_arxml
 from library.ecuc import OS, Ecuc
 from library.ending import Failed
-from library.findings import listed
+from library.findings import counted, listed
 from library.import_notes import Notes
 from library.oil import read_oil
 
@@ -55,8 +55,9 @@ def _from_arxml(texts: Sequence[Tuple[str, bytes]], notes: Notes) -> Ecuc:
             ecuc.add(module)
         if found.variations:
             text = "holds in some variants only, and is read as if it held in all"
-            more = "; so do %d more places" % (len(found.variations) - 1) if len(found.variations) > 1 else ""
-            notes.note(found.variations[0], text + more)
+            more = len(found.variations) - 1
+            text += "; and so %s" % counted(more, "more place") if more else ""
+            notes.note(found.variations[0], text)
     modules = [module for module in ecuc.modules if module.kind == OS]
     if not modules:
         with_others = "; there is %s" % listed(others[:8]) if others else ""

@@ -166,7 +166,7 @@ def os_containers(file):
     for spinlock in file.configuration.get("spinlocks", []):
         after = [("OsSpinlockSuccessor", reference(spinlock["next"]))] if spinlock.get("next") else []
         yield container("OsSpinlock", spinlock["name"], [("OsSpinlockLockMethod", "LOCK_NOTHING")], after)
-    yield from (application(core) for core in file.configuration["cores"])
+    yield from (core_application(core) for core in file.configuration["cores"])
     for masks in file.events.values():
         yield from (container("OsEvent", name, [("OsEventMask", mask)]) for name, mask in masks.items())
     for name in file.users:
@@ -178,7 +178,7 @@ def os_containers(file):
     yield from (table(file, each) for _, each in file.objects("tables"))
 
 
-def application(core):
+def core_application(core):
     keys = {"tasks": "Task", "isrs": "Isr", "alarms": "Alarm", "counters": "Counter", "tables": "ScheduleTable"}
     path = "%s/EcuC/Hardware/Core_%s" % (PACKAGE, "abcdefgh"[core["id"]])
     references = [("OsApplicationCoreRef", path)]
@@ -264,6 +264,70 @@ def point(file, number, each):
             references.append(("OsScheduleTableSetEventRef", reference(words[2])))
         parts.append(container("%s/%s" % (way, kind), "Act_%d" % index, references=references))
     return container(way, "Point_%d" % number, [("OsScheduleTblExpPointOffset", each["offset"])], parts=parts)
+
+
+# ---------------------------------------------------------------------------------------------------------------------
+# Single containers
+# ---------------------------------------------------------------------------------------------------------------------
+
+
+def os_task(name, *references, parts=(), **parameters):
+    """A task of an Os module, with the usual priority."""
+    given = {"OsTaskPriority": 1, **parameters}
+    return container("OsTask", name, list(given.items()), [(key, reference(path)) for key, path in references], parts)
+
+
+def os_counter(name="C", **parameters):
+    given = {"OsCounterMaxAllowedValue": 100, "OsCounterType": "HARDWARE", **parameters}
+    return container("OsCounter", name, list(given.items()))
+
+
+def os_alarm(name, act, *references, parts=(), counter="C"):
+    """An alarm with an action of a kind, which has these references."""
+    way = "OsAlarm/OsAlarmAction"
+    paths = [(key, reference(path)) for key, path in references]
+    action = container(way, "Action", parts=[container("%s/%s" % (way, act), "Act", references=paths)])
+    return container("OsAlarm", name, (), [("OsAlarmCounterRef", reference(counter))], [action, *parts])
+
+
+def os_table(name, *points, **parameters):
+    """A schedule table of the counter C, with points of an offset and the names of tasks each."""
+    way = "OsScheduleTable/OsScheduleTableExpiryPoint"
+    parts = []
+    for offset, tasks in points:
+        paths = [[("OsScheduleTableActivateTaskRef", reference(task))] for task in tasks]
+        acts = [container(way + "/OsScheduleTableTaskActivation", "Act", references=each) for each in paths]
+        parts.append(container(way, "P%d" % offset, [("OsScheduleTblExpPointOffset", offset)], parts=acts))
+    given = {"OsScheduleTableDuration": 50, **parameters}
+    references = [("OsScheduleTableCounterRef", reference("C"))]
+    return container("OsScheduleTable", name, list(given.items()), references, parts)
+
+
+def os_isr(name, *references, parts=(), **parameters):
+    given = {"OsIsrCategory": "CATEGORY_2", **parameters}
+    return container("OsIsr", name, list(given.items()), [(key, reference(path)) for key, path in references], parts)
+
+
+def budget(kind, seconds):
+    """The time protection of a task or an ISR."""
+    parameters = [("%sExecutionBudget" % kind, seconds)]
+    return [container("%s/%sTimingProtection" % (kind, kind), "TimingProtection", parameters)]
+
+
+def alarm_start(**parameters):
+    way = "OsAlarm/OsAlarmAutostart"
+    return [container(way, "Auto", list(parameters.items()), [("OsAlarmAppModeRef", reference("M"))])]
+
+
+def application(name, core, **references):
+    """An OsApplication on a core, by the older parameter; each reference has a list of names."""
+    paths = [(key, reference(path)) for key, names in references.items() for path in names]
+    return container("OsApplication", name, [("OsApplicationCoreAssignment", core)], paths)
+
+
+MODE = container("OsAppMode", "M")
+HOOKS = [("OsErrorHook", False), ("OsStartupHook", True)]
+ACTIVATES_T = ("OsAlarmActivateTask", ("OsAlarmActivateTaskRef", "T"))
 
 
 # ---------------------------------------------------------------------------------------------------------------------

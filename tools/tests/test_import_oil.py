@@ -60,8 +60,11 @@ class Text(InOil):
 
     def test_implementation(self):
         text = "IMPLEMENTATION i { TASK { ENUM [A, B { X = 1; }] Y[] = (1 + 2); UINT32 [1..9] Z = NO_DEFAULT; }; };\n"
-        self.write("a.oil", 'OIL_VERSION = "2.5";\n' + text + "CPU c { TASK T { PRIORITY = 1; }; };")
+        text += 'TASK U { };\nCPU c { TASK T { PRIORITY = 1; AUTOSTART = AUTO; }; };'
+        self.write("a.oil", 'OIL_VERSION = "2.5";\n' + text)
         _, notes = self.source("a.oil")
+        self.assertIn("note: TASK U: left out: it stands in no CPU", notes)
+        self.assertIn("note: TASK T: AUTOSTART AUTO: no place in the configuration", notes)
         self.assertIn("note: IMPLEMENTATION i: not read, and neither are defaults in it", notes)
 
     def test_includes(self):
