@@ -13,7 +13,7 @@ from unittest import mock
 sys.path.insert(0, os.path.dirname(os.path.abspath(__file__)))
 import documents  # noqa: E402
 import os_files  # noqa: E402
-from os_files import ACTIVATES_T, MODE, CannotBeSaid, application, arxml, budget, container  # noqa: E402
+from os_files import ACTIVATES_T, MODE, CannotBeSaid, alarm_start, application, arxml, budget, container  # noqa: E402
 from os_files import os_alarm, os_counter, os_task, reference  # noqa: E402
 from sample_runs import EXAMPLES, PROGRAM, ROOT, TOOLS, called, needs_program, read, sessions, sources  # noqa: E402
 from library import expanding, importing  # noqa: E402
@@ -324,6 +324,26 @@ class Imported(InAFolder):
         containers = [application("A", 0, OsAppTaskRef="T"), application("B", 1), os_task("T")]
         source = self.of_os(*containers, words=["--master", "7"])[0]
         self.assertEqual((source["master"], source["cores"][-1]), (7, {"id": 7, "start": [0, 1]}))
+
+    def names(self, source, members):
+        """The names of the objects in a list of each core."""
+        return {core["id"]: [each["name"] for each in core.get(members, [])] for core in source["cores"]}
+
+    def test_an_alarm_stands_with_its_counter(self):
+        containers = [application("First", 0, OsAppTaskRef="T", OsAppAlarmRef="A")]
+        containers += [application("Second", 1, OsAppCounterRef="C"), os_counter(), os_task("T")]
+        source, _ = self.of_os(*containers, os_alarm("A", *ACTIVATES_T))
+        self.assertEqual(self.names(source, "alarms"), {0: [], 1: ["A"]})
+
+    def test_cores_of_great_numbers(self):
+        containers = [application("First", 2, OsAppTaskRef="T"), application("Second", 16, OsAppTaskRef="U")]
+        source, _ = self.of_os(*containers, os_task("T"), os_task("U"))
+        self.assertEqual(self.names(source, "tasks"), {0: ["T"], 1: ["U"]})
+
+    def test_a_start_of_0(self):
+        start = alarm_start(OsAlarmAlarmTime=0, OsAlarmCycleTime=5)
+        source, _ = self.of_os(MODE, os_counter(), os_alarm("A", *ACTIVATES_T, parts=start), os_task("T"))
+        self.assertEqual(source["cores"][0]["alarms"][0]["auto"], {"modes": ["M"], "start": 1, "cycle": 5})
 
     def test_the_standard_input(self):
         text = arxml(("Os", os_files.OS, [os_task("T")]))
