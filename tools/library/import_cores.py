@@ -3,7 +3,7 @@
 import re
 from typing import Dict, Iterable, Iterator, List, Optional
 
-from library.ecuc import HARDWARE, Ecuc, Node, whole
+from library.ecuc import HARDWARE, Ecuc, Node, Value, whole
 from library.formats import CONFIGURATION, CORE
 from library.import_notes import Notes
 
@@ -67,17 +67,16 @@ class Cores:
         if found is not None and found >= 0:
             return found
         if reference is not None and target is None:
-            return self.core_by_name(node, reference.text, reference.word)
+            return self.core_by_name(node, reference, "leads nowhere: is the file of the module EcuC missing?")
         text = "%s %s is no core: it stands on core 0" % (number.word, number.shown) if number is not None else None
         self.notes.of(node, text or "no core is said: it stands on core 0")
         return 0
 
-    def core_by_name(self, node: Node, path: str, word: str) -> int:
-        """The core of a reference that leads nowhere: the number at the end of its name, if there is one."""
-        found = re.search(r"[0-9]{1,3}\Z", path)
+    def core_by_name(self, node: Node, value: Value, why: str) -> int:
+        """The core of a word that is no number: the number at its end, if there is one."""
+        found = re.search(r"[0-9]{1,3}\Z", value.text)
         core = int(found.group()) if found is not None else 0
-        text = "%s %s leads nowhere: is the file of the module EcuC missing? It stands on core %d"
-        self.notes.of(node, text % (word, path, core))
+        self.notes.of(node, "%s %s %s It stands on core %d" % (value.word, value.shown, why, core), value.spot)
         return core
 
     def own(self, node: Node) -> None:
@@ -87,7 +86,7 @@ class Cores:
             return
         core = whole(value.text)
         if core is None or core < 0:
-            core = self.core_by_name(node, value.text, value.word)
+            core = self.core_by_name(node, value, "is no number.")
         self.numbers.append(core)
         self.of.setdefault(node, core)
 

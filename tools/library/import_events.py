@@ -3,7 +3,8 @@
 from typing import Dict, List, Optional
 
 from library.ecuc import Node, whole
-from library.import_notes import Notes
+from library.formats import is_name
+from library.import_notes import NO_NAME, Notes
 
 _MOST = 32
 _FILLER = "unused_%d"
@@ -47,6 +48,8 @@ class Events:
         return self.bits[event]
 
     def _bit(self, event: Node) -> Optional[int]:
+        if not is_name(event.name):
+            self.notes.of(event, NO_NAME)
         value = event.first("OsEventMask")
         if value is None or value.text.upper() == "AUTO":
             return None

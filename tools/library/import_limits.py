@@ -5,7 +5,7 @@ from typing import Any, Dict, Iterable, List, Sequence
 from library.ecuc import Node
 from library.findings import counted
 from library.formats import CONFIGURATION, CORE, MOST_ACTIVATIONS, NAMED_LISTS, NO_MODES, POINT, TABLE, is_name
-from library.import_notes import Notes
+from library.import_notes import NO_NAME, Notes
 
 _ARE_ALLOWED = "%s: at most %d are allowed"
 
@@ -62,7 +62,7 @@ def _note_names(notes: Notes, nodes: Iterable[Node]) -> None:
     known: Dict[str, Node] = {}
     for node in nodes:
         if not is_name(node.name):
-            notes.of(node, "a name is a letter, and up to 127 letters, digits and underscores")
+            notes.of(node, NO_NAME)
         earlier = known.setdefault(node.name, node)
         if earlier is not node:
             text = "%s in line %d has this name too, and each name stands once"

@@ -71,6 +71,7 @@ REASONS = {
 }
 _LOCKS = ("LockBudget", "ResourceLock", "ResourceLockBudget")
 NO_PLACE = "no place in the configuration"
+NO_NAME = "a name is a letter, and up to 127 letters, digits and underscores"
 
 
 def reason_of(key: str) -> str:

@@ -6,7 +6,7 @@ each task and ISR has the given script, or a skeleton.
 
 from dataclasses import dataclass
 from fractions import Fraction
-from typing import Any, Dict, List, Optional, Sequence
+from typing import Any, Callable, Dict, List, Optional, Sequence
 
 from library.ecuc import Ecuc, Node, Value, fraction, whole
 from library.findings import counted, listed
@@ -94,21 +94,23 @@ class _Importer:
         self.is_tick_noted = False
         self.skeletons: List[Node] = []
         self.links = {each.node: each.linked for each in objects.resources if each.linked is not None}
+        self.firsts: Dict[Node, Node] = {}
         self.lists: Dict[int, Dict[str, List[Placed]]] = {}
 
     def whole(self) -> Source:
         """The source."""
-        tasks = _by_core(self.objects.tasks, self.cores)
-        isrs = _by_core(self.objects.isrs, self.cores)
-        counters = _by_core(self.objects.counters, self.cores)
-        driven = {each: self.core_of_driven(each) for each in self.objects.alarms + self.objects.tables}
+        tasks = _by_core(self.objects.tasks, self.core_of)
+        isrs = _by_core(self.objects.isrs, self.core_of)
+        counters = _by_core(self.objects.counters, self.core_of)
+        alarms = _by_core(self.objects.alarms, self.core_of_driven)
+        tables = _by_core(self.objects.tables, self.core_of_driven)
         taken = self.resources_by_core(tasks)
         for core in self.cores.numbers:
             tick = self.tick(core, counters)
             self.lists[core] = {
                 "counters": [Placed(each.node, each.members) for each in counters.get(core, [])],
-                "alarms": [Placed(each.node, each.members) for each in self.objects.alarms if driven[each] == core],
-                "tables": [Placed(each.node, each.members) for each in self.objects.tables if driven[each] == core],
+                "alarms": [Placed(each.node, each.members) for each in alarms.get(core, [])],
+                "tables": [Placed(each.node, each.members) for each in tables.get(core, [])],
                 "isrs": self.isrs(core, isrs.get(core, []), tick),
                 **self.tasks(core, tasks.get(core, []), taken.get(core, []), tick),
             }
@@ -144,6 +146,10 @@ class _Importer:
         return any("start" in said for said in self.scripts.of_cores.values())
 
     # ---- what stands on a core
+
+    def core_of(self, each: Any) -> int:
+        """The core of an object that belongs to no other one."""
+        return self.cores.place(each.node)
 
     def core_of_driven(self, driven: Driven) -> int:
         """The core of an alarm or a table: that of its counter."""
@@ -187,7 +193,7 @@ class _Importer:
         """The resources and the tasks of a core."""
         priorities = [task.priority for task in tasks]
         ranks = self.ranks(core, "prio", priorities, _PRIORITIES, [task.node for task in tasks])
-        own = [resource.node for resource in resources]
+        own = {resource.node for resource in resources}
         placed = []
         for task in tasks:
             members: Dict[str, Any] = {"name": task.node.name, "prio": ranks[task.priority]}
@@ -218,11 +224,13 @@ class _Importer:
 
     def first_linked(self, node: Node) -> Node:
         """The resource to which links lead from one; those that lead to the same one have one ceiling."""
-        seen: List[Node] = []
-        while node in self.links and node not in seen:
-            seen.append(node)
+        way: Dict[Node, None] = {}
+        while node in self.links and node not in way and node not in self.firsts:
+            way.setdefault(node)
             node = self.links[node]
-        return node
+        first = self.firsts.get(node, node)
+        self.firsts.update((each, first) for each in way)
+        return first
 
     # ---- numbers
 
@@ -293,21 +301,21 @@ class _Importer:
             text = "no file has scripts: those of %s are skeletons; --scripts gives others"
             self.notes.note(self.skeletons[0].spot, text % _first_names(self.skeletons))
         master, others = self.cores.master, [each for each in self.cores.numbers if each != self.cores.master]
-        spot = self.objects.modes[0] if self.objects.modes else next(iter(owners), None)
-        if others and not self.are_starts_given and spot is not None:
+        first = next(iter(self.objects.modes + owners), None)
+        if others and not self.are_starts_given and first is not None:
             text = "no file says which core starts which: core %d starts %s here"
-            self.notes.note(spot.spot, text % (master, listed(map(str, others))))
+            self.notes.note(first.spot, text % (master, listed(map(str, others))))
         silent = [core for core in self.cores.numbers if "mode" not in self.scripts.of_cores.get(core, {})]
         if len(self.objects.modes) > 1 and silent:
             text = "no file says in which mode a core starts: in %s here"
             self.notes.note(self.objects.modes[0].spot, text % self.objects.modes[0].name)
 
 
-def _by_core(objects: Sequence[Any], cores: Cores) -> Dict[int, List[Any]]:
+def _by_core(objects: Sequence[Any], core_of: Callable[[Any], int]) -> Dict[int, List[Any]]:
     """Objects by their cores."""
     found: Dict[int, List[Any]] = {}
     for each in objects:
-        found.setdefault(cores.place(each.node), []).append(each)
+        found.setdefault(core_of(each), []).append(each)
     return found
 
 

@@ -268,13 +268,13 @@ class _Translator:
             known.values += [value for each in offsets for value in _values(each, {"OFFSET": _To(_OFFSET)})]
             table.parts.append(known)
             self.points[path] = known
-        for each in inner:
-            act = self.action(each, _ACTIONS["OsScheduleTable"], path)
-            act.values = [value for value in act.values if value.word != "OFFSET"]
-            known.parts.append(act)
-        if entry.word != "ACTION":
-            rest = [each for each in entry.entries if each.word not in ("ACTION", "OFFSET")]
-            known.values += [value for each in rest for value in _values(each, {})]
+        acts = [self.action(each, _ACTIONS["OsScheduleTable"], path) for each in inner]
+        known.parts += acts
+        if entry.word == "ACTION":
+            acts[0].read.add("OFFSET")
+            return
+        rest = [each for each in entry.entries if each.word not in ("ACTION", "OFFSET")]
+        known.values += [value for each in rest for value in _values(each, {})]
 
     def add_scheduler(self, module: Node) -> None:
         """Adds the resource that OSEK has without an object, if a task refers to it."""

@@ -380,6 +380,10 @@ NOTES = {
         [os_task("_T")],
         ["note: OsTask _T: a name is a letter, and up to 127 letters, digits and underscores"],
     ),
+    "an event without a name": (
+        [container("OsEvent", "_E"), os_task("T", ("OsTaskEventRef", "_E"))],
+        ["note: OsEvent _E: a name is a letter, and up to 127 letters, digits and underscores"],
+    ),
     "a mode of a name that none may have": (
         [container("OsAppMode", "conflict"), os_task("T")],
         ["note: OsAppMode conflict: no mode may be called so"],

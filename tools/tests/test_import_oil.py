@@ -194,7 +194,11 @@ class Words(InOil):
         tasks = {core["id"]: [task["name"] for task in core["tasks"]] for core in source["cores"]}
         self.assertEqual(tasks, {1: ["V"], 2: ["T"], 3: ["U"]})
         self.assertEqual(source["master"], 1)
-        self.assertEqual(notes[0], "note: no file says which core starts which: core 1 starts 2 and 3 here")
+        expected = [
+            "note: no file says which core starts which: core 1 starts 2 and 3 here",
+            "note: TASK V: CPU_ID cpu1 is no number. It stands on core 1",
+        ]
+        self.assertEqual(notes, expected)
 
     def test_spinlocks(self):
         source, notes = self.of_cpu(
@@ -266,6 +270,12 @@ class Words(InOil):
         )
         found = [note.split(": ")[-2].split(" ")[0] for note in notes]
         self.assertEqual(found, ["DEVICE", "CHANNEL", "STACK", "SIZE", "X", "X", "Y", "FUNCTION"])
+
+    def test_an_offset_where_none_counts(self):
+        text = "EXPIRYPOINT P { OFFSET = 2; ACTION = ACTIVATETASK { TASK = T; OFFSET = 3; }; };"
+        notes = self.core(self.TABLE % ("DURATION = 9;" + text))[1]
+        expected = "SCHEDULETABLE S, EXPIRYPOINT of offset 2, ACTIVATETASK: OFFSET 3: no place in the configuration"
+        self.assertEqual(notes, ["note: " + expected])
 
     def test_what_stands_twice_is_noted(self):
         text = "APPMODE m; COUNTER C { MAXALLOWEDVALUE = 9; }; COUNTER D { MAXALLOWEDVALUE = 9; };\n"
