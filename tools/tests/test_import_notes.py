@@ -1,6 +1,8 @@
 """The notes of `tools/import`: on each thing of an Os configuration that has no place here."""
 
+import json
 import os
+import re
 import sys
 import unittest
 
@@ -8,7 +10,7 @@ sys.path.insert(0, os.path.dirname(os.path.abspath(__file__)))
 import os_files  # noqa: E402
 from os_files import ACTIVATES_T, HOOKS, MODE, alarm_start, application, arxml, budget, container  # noqa: E402
 from os_files import os_alarm, os_counter, os_isr, os_table, os_task, reference  # noqa: E402
-from sample_runs import called  # noqa: E402
+from sample_runs import EXAMPLES, called  # noqa: E402
 from test_import import MAIN, InAFolder  # noqa: E402
 
 # Containers of an Os module, and the notes on them beside the one on skeletons.
@@ -397,6 +399,19 @@ class Noted(InAFolder):
             with self.subTest(what=what):
                 notes = [note for note in self.notes(*containers) if "skeletons" not in note]
                 self.assertEqual(sorted(notes), sorted(expected))
+
+    def test_nothing_is_dropped_without_a_word(self):
+        """A wrong value in place of any one changes the source or the notes."""
+        with open(os.path.join(EXAMPLES, "application", "config.json"), encoding="utf-8") as file:
+            texts = os_files.os_arxml(json.load(file))
+        self.write("EcuC.arxml", texts[1])
+        self.write("Os.arxml", texts[0])
+        right = self.source("Os.arxml", "EcuC.arxml")
+        values = list(re.finditer(r"(?<=<VALUE>)[^<]*|(?<=<VALUE-REF DEST='ECUC-CONTAINER-VALUE'>)[^<]*", texts[0]))
+        self.assertGreater(len(values), 70)
+        for value in values:
+            self.write("Os.arxml", texts[0][: value.start()] + "Wrong" + texts[0][value.end() :])
+            self.assertNotEqual(self.source("Os.arxml", "EcuC.arxml"), right, value.group())
 
     def test_places(self):
         self.write("Os.arxml", arxml(("Os", os_files.OS, [os_task("T", OsTaskStackSize=400)])))
