@@ -16,6 +16,7 @@ def tables(figures: Figures) -> str:
     units = units_of(figures)
     sections = [
         ("Run", _run(figures)),
+        *_stalled(figures),
         ("Cores", _plain(_CORES, figures["cores"], 2)),
         ("Tasks", _plain(_TASKS, figures["tasks"], 2)),
         ("ISRs", _plain(_ISRS, figures["isrs"], 2)),
@@ -43,6 +44,13 @@ def _run(figures: Figures) -> List[str]:
     end = "ended" if run["ended"] else "stalled"
     conflict = " in a conflict of modes" if run["conflict"] else ""
     return ["%s: %s%s%s, %d turns" % (schedule, end, conflict, rounds, run["turns"])]
+
+
+def _stalled(figures: Figures) -> List[Tuple[str, List[str]]]:
+    """Why the run stalled, if it did: the section of it."""
+    if "stalled" not in figures:
+        return []
+    return [("Stalled", [each["text"] for part in figures["stalled"].values() for each in part])]
 
 
 def _table(titles: Sequence[str], rows: List[Sequence[str]], first_number: int) -> List[str]:

@@ -20,6 +20,7 @@ from library.jobs import (
     Preemption,
 )
 from library.model import TABLE, model_of
+from library.stalls import stall_of
 from library.timeline import mailbox_levels
 
 Figures = Dict[str, Any]
@@ -62,6 +63,9 @@ def figures_of(jobs: Jobs) -> Figures:
             ROUNDS: (last.round if last else 0) if run.turns is None else None,
         }
     }
+    stall = stall_of(jobs)
+    if stall is not None:
+        found["stalled"] = stall.figures
     refusals = _refusals(jobs)
     found["cores"] = _cores(jobs, refusals)
     with_jobs = _Owners(jobs, refusals, units_of(found))

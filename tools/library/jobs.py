@@ -129,6 +129,11 @@ class Hold:
     taken: Optional[Item] = None
     given: Optional[Item] = None
 
+    @property
+    def is_kept(self) -> bool:
+        """Whether it was taken, and not given back."""
+        return self.taken is not None and self.given is None
+
 
 @dataclass(eq=False)
 class Envelope:
