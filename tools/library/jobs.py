@@ -48,6 +48,11 @@ ERROR = "error"
 PROTECTION = "protection"
 SHUTDOWN = "shutdown"
 LOST = "lost"
+# What is done with events.
+SET_EVENT = "set_event"
+CLEAR_EVENT = "clear_event"
+WAIT_EVENT = "wait_event"
+_EVENT_LINES = {"ev": SET_EVENT, "clr": CLEAR_EVENT, "wait": WAIT_EVENT}
 # What a job holds.
 RESOURCE = "resource"
 SPINLOCK = "spinlock"
@@ -182,6 +187,20 @@ class Mark(NamedTuple):
     before: int
 
 
+class EventDeed(NamedTuple):
+    """The events of a mask are set for a task, or its job clears them or waits for them; and who does it.
+
+    A job waits also for events that are set already. `before` says how many events of jobs came before.
+    """
+
+    kind: str
+    task: str
+    mask: int
+    item: Item
+    cause: Optional[Cause]
+    before: int
+
+
 class Refusal(NamedTuple):
     """An operation that was refused: who did it, on which core, and where that was known first.
 
@@ -214,6 +233,7 @@ class Jobs:
     preemptions: List[Preemption] = field(default_factory=list)
     interruptions: List[Preemption] = field(default_factory=list)
     marks: List[Mark] = field(default_factory=list)
+    events: List[EventDeed] = field(default_factory=list)
     refusals: List[Refusal] = field(default_factory=list)
     loose: List[Loose] = field(default_factory=list)
 
@@ -301,7 +321,10 @@ class _Walk:
             self._leave(item, index, self.live[words[1]][0])
         elif words[0] in ("end", "leave"):
             self._end(item, self.live[words[1]].popleft())
+        elif words[0] in ("ev", "clr", "stat"):
+            self._event(item, index, words, causes)
         elif words[0] == "wait":
+            self._event(item, index, words, causes)
             self._finish(item, self.live[words[1]][0], WAIT)
 
     def _change(self, job: Job, event: str, item: Item) -> None:
@@ -368,6 +391,17 @@ class _Walk:
     def _mark(self, kind: str, item: Item, name: str, text: str) -> None:
         """Marks what happens in an item."""
         self.found.marks.append(Mark(kind, item.core, name, text, item, self.numbers.get(name, 0)))
+
+    def _event(self, item: Item, index: int, words: List[str], causes: List[Optional[Cause]]) -> None:
+        """Something is done with events. Where a job need not wait, its operation alone has the mask."""
+        kind, mask = _EVENT_LINES.get(words[0]), words[-1]
+        if kind is None:
+            deed = item.deed_at(index)
+            if deed is None or (deed.service, deed.status) != ("WaitEvent", OK):
+                return
+            kind, mask = WAIT_EVENT, deed.operation.split(" ")[1]
+        before = len(self.found.changes)
+        self.found.events.append(EventDeed(kind, words[1], int(mask), item, _at(item, index, causes), before))
 
     # Operations -----------------------------------------------------------------------------------------------------
 

@@ -9,11 +9,13 @@ import subprocess
 import sys
 import tempfile
 import unittest
+from unittest import mock
 
 sys.path.insert(0, os.path.dirname(os.path.abspath(__file__)))
 import sample_runs  # noqa: E402
 from sample_runs import PROGRAM, TOOLS, called, first_timeline, needs_program  # noqa: E402
-from library import btf, chrome, jobs, timeline, vcd  # noqa: E402
+from library import btf, chrome, jobs, runs, timeline, vcd  # noqa: E402
+from library.ending import Failed  # noqa: E402
 
 MAIN = runpy.run_path(os.path.join(TOOLS, "export"))["main"]
 
@@ -22,7 +24,7 @@ MAIN = runpy.run_path(os.path.join(TOOLS, "export"))["main"]
 # ---------------------------------------------------------------------------------------------------------------------
 
 # The columns of a row: time, source, source instance, type, target, target instance, event, and perhaps a note.
-BTF_ROW = re.compile(r"(\d+),([A-Za-z]\w*),(\d+),([A-Z]+),([A-Za-z]\w*),(\d+),([a-z]+)(?:,.*)?")
+BTF_ROW = re.compile(r"(\d+),([A-Za-z]\w*),(\d+),([A-Z]+),([A-Za-z]\w*),(\d+),([a-z_]+)(?:,.*)?")
 BTF_SCALES = ("ps", "ns", "us", "ms", "s")
 # Of a task or an ISR: the states between which an event leads, and what its source is.
 BTF_EVENTS = {
@@ -33,7 +35,13 @@ BTF_EVENTS = {
     "wait": ("running", "waiting", "core"),
     "release": ("waiting", "ready", "core"),
     "terminate": ("running", "terminated", "core"),
+    "poll": ("running", "polling", "core"),
+    "run": ("polling", "running", "core"),
 }
+# What a job does with a semaphore or an event, and whose name the event has: task and mask.
+BTF_SEMAPHORE = ("requestsemaphore", "waiting", "assigned", "released")
+BTF_OS_EVENT = ("set_event", "clear_event", "wait_event")
+BTF_OS_EVENT_NAME = re.compile(r"EVENT_(\w+)_(\d+)")
 BTF_FIRST = """#version 2.2.0
 #creator mcos tools/export
 #inputFile config.json stim.json
@@ -59,6 +67,9 @@ class BtfReader:
         self.states = {}
         self.running = {}
         self.triggered = set()
+        self.requested = set()
+        self.waiting = set()
+        self.owners = {}
         self.time = 0
         for line in text.splitlines():
             if line.startswith("#"):
@@ -85,10 +96,45 @@ class BtfReader:
             assert event == "trigger" and (target, instance) not in self.triggered, line
             assert source == "SIM" or self.states.get((source, number)) is not None, line
             self.triggered.add((target, instance))
+        elif kind == "SEM":
+            assert instance == "0" and event in BTF_SEMAPHORE and (source, number) in self.states, line
+            self.read_semaphore(line, (source, number), target, event)
+        elif kind == "EVENT":
+            assert instance == "0" and event in BTF_OS_EVENT, line
+            self.read_os_event(line, source, number, target, event)
         else:
             assert kind == "T" or kind == "I" and event not in ("wait", "release"), line
             self.read_job(line, source, number, target, instance, event)
         self.events.append((self.time, event, target))
+
+    def read_semaphore(self, line, job, name, event):
+        """One job at a time is assigned to a semaphore, after its request; and one waits while another one is."""
+        request, owner = (job, name), self.owners.get(name)
+        if event == "requestsemaphore":
+            assert request not in self.requested and owner != job, line
+            self.requested.add(request)
+        elif event == "waiting":
+            assert request in self.requested and owner not in (None, job), line
+            self.waiting.add(job)
+        elif event == "assigned":
+            assert request in self.requested and owner is None, line
+            self.requested.remove(request)
+            self.waiting.discard(job)
+            self.owners[name] = job
+        else:
+            assert owner == job, line
+            del self.owners[name]
+
+    def read_os_event(self, line, source, number, target, event):
+        """A job of any task sets an event, or the simulation does; a running one of its task clears or awaits it."""
+        name = BTF_OS_EVENT_NAME.fullmatch(target)
+        assert name is not None and int(name[2]).bit_count() == 1, line
+        if event == "set_event":
+            assert source == "SIM" or (source, number) in self.states, line
+            live = (owner == name[1] and state != "terminated" for (owner, _), state in self.states.items())
+            assert any(live), line
+        else:
+            assert name[1] == source and self.states[source, number] == "running", line
 
     def read_job(self, line, source, number, owner, instance, event):
         if event == "mtalimitexceeded":
@@ -96,6 +142,8 @@ class BtfReader:
             return
         before, after, from_whom = BTF_EVENTS[event]
         assert self.states.get((owner, instance), "none") == before, line
+        if "polling" in (before, after):
+            assert ((owner, instance) in self.waiting) == (after == "polling"), line
         if from_whom == "stimulus":
             assert (source, number) in self.triggered, line
         else:
@@ -103,7 +151,7 @@ class BtfReader:
             # One job runs on a core.
             running = self.running.setdefault(source, set())
             running.discard((owner, instance))
-            if after == "running":
+            if after in ("running", "polling"):
                 assert not running, line
                 running.add((owner, instance))
         self.states[owner, instance] = after
@@ -210,6 +258,10 @@ class First(unittest.TestCase):
     maxDiff = None
 
     def setUp(self):
+        environment = mock.patch.dict(os.environ)
+        environment.start()
+        self.addCleanup(environment.stop)
+        os.environ.pop("SOURCE_DATE_EPOCH", None)
         self.jobs = jobs.jobs_of(first_timeline())
 
     def test_btf(self):
@@ -283,6 +335,91 @@ class Interrupts(unittest.TestCase):
         self.assertEqual([each["name"] for each in phases["f"]].count("reply"), 2)
 
 
+@needs_program
+class Semaphores(unittest.TestCase):
+    """What jobs do with resources, spinlocks and events, in BTF."""
+
+    def read(self, folder, configuration, stimuli):
+        """The rows of a run of an example, without their times and the instance of the target."""
+        paths = (os.path.join(sample_runs.EXAMPLES, folder, name) for name in (configuration, stimuli))
+        text = btf.text(jobs.jobs_of(sample_runs.timeline_of(runs.Source(PROGRAM, *paths))), "x")
+        rows = [line.split(",") for line in text.splitlines() if not line.startswith("#")]
+        return BtfReader(text), [(row[1], row[4], row[6]) for row in rows]
+
+    def test_spinlocks(self):
+        reader, rows = self.read("spinlocks", "config.json", "stimuli.json")
+        found = [(source, event) for source, target, event in rows if target == "Log"]
+        careless, poll = ([(name, event) for event in ("requestsemaphore", "assigned")] for name in ("Careless", "Poll"))
+        main = [("Main", event) for event in ("requestsemaphore", "waiting")]
+        # Careless ends without giving Log back, and its core does. A TryToGetSpinlock does not wait.
+        expected = [*careless, *main, ("Careless", "released"), ("Main", "assigned")]
+        expected += [poll[0], ("Main", "released"), poll[1], ("Poll", "released")]
+        self.assertEqual(found, expected)
+        for name, events in (("Main", ["start", "poll", "run", "terminate"]), ("Poll", ["start", "terminate"])):
+            self.assertEqual([event for _, target, event in rows if target == name][1:], events)
+        self.assertEqual(reader.owners, {})
+
+    def test_a_wait_that_a_halt_drops(self):
+        reader, rows = self.read("spinlocks", "halt.json", "halt_stimuli.json")
+        send = [event for source, target, event in rows if "Send" in (source, target)]
+        self.assertEqual(send, ["activate", "start", "requestsemaphore", "waiting", "poll"])
+        self.assertEqual((reader.states["Send", "0"], reader.owners), ("polling", {}))
+
+    def test_resources(self):
+        _, rows = self.read("engine", "config.json", "stimuli.json")
+        found = [(source, event) for source, target, event in rows if target == "Map"]
+        events = ("requestsemaphore", "assigned", "released")
+        self.assertEqual(found[:6], [(task, event) for task in ("T10ms", "T5ms") for event in events])
+
+    def test_events(self):
+        _, rows = self.read("engine", "config.json", "stimuli.json")
+        found = [row for row in rows if row[1].startswith("EVENT_")]
+        waits = [("Com", "EVENT_Com_%d" % bit, "wait_event") for bit in (1, 2)]
+        cleared = ("Com", "EVENT_Com_1", "clear_event")
+        self.assertEqual(found[:4], [*waits, ("T10ms", "EVENT_Com_1", "set_event"), cleared])
+        # An alarm sets the other one.
+        self.assertIn(("SIM", "EVENT_Com_2", "set_event"), found)
+
+    def test_events_that_are_set_already(self):
+        script = "SetEvent E 6;WaitEvent 4;ClearEvent 2"
+        tasks = [{"name": "E", "prio": 1, "extended": True, "auto": ["M"], "script": script}]
+        with sample_runs.written(json.dumps({"cores": [{"id": 0, "tasks": tasks}]}), {"0": "op op op"}) as source:
+            found = BtfReader(btf.text(jobs.jobs_of(sample_runs.timeline_of(source)), "x")).events
+        shown = [(event, target) for _, event, target in found if target.startswith("EVENT_")]
+        expected = [("set_event", "EVENT_E_2"), ("set_event", "EVENT_E_4")]
+        self.assertEqual(shown, [*expected, ("wait_event", "EVENT_E_4"), ("clear_event", "EVENT_E_2")])
+
+    def test_a_point_activates_a_task_and_sets_its_events(self):
+        point = {"offset": 0, "actions": ["SetEvent E 1", "ActivateTask E"]}
+        core = {"id": 0, "counters": [{"name": "C", "max": 9}]}
+        table = {"name": "S", "counter": "C", "duration": 5, "points": [point], "auto": {"modes": ["M"], "offset": 1}}
+        core["tables"] = [table]
+        core["tasks"] = [{"name": "E", "prio": 1, "extended": True, "script": "WaitEvent 1;TerminateTask"}]
+        with sample_runs.written(json.dumps({"cores": [core]}), {"0": "tick op op"}) as source:
+            found = BtfReader(btf.text(jobs.jobs_of(sample_runs.timeline_of(source)), "x")).events
+        expected = ["trigger", "activate", "set_event", "start", "wait_event", "terminate"]
+        self.assertEqual([event for _, event, _ in found], expected)
+
+
+class CreationDate(unittest.TestCase):
+    def text(self, seconds):
+        """The export of a run with this in the environment."""
+        with mock.patch.dict(os.environ, {"SOURCE_DATE_EPOCH": seconds}):
+            return btf.text(jobs.jobs_of(first_timeline()), "config.json stim.json")
+
+    def test_dates(self):
+        for seconds, date in (("0", "1970-01-01T00:00:00Z"), ("1700000000", "2023-11-14T22:13:20Z")):
+            with self.subTest(seconds=seconds):
+                line = "#creationDate %s\n" % date
+                self.assertIn(line, self.text(seconds))
+                self.assertEqual(self.text(seconds).replace(line, ""), BTF_FIRST)
+
+    def test_no_date(self):
+        for seconds in ("", "-1", "1.5", "today", "9" * 20):
+            with self.subTest(seconds=seconds), self.assertRaisesRegex(Failed, "no number of seconds"):
+                self.text(seconds)
+
+
 class Readers(unittest.TestCase):
     """The readers refuse what is wrong."""
 
@@ -297,6 +434,25 @@ class Readers(unittest.TestCase):
             with self.subTest(new=new):
                 self.assertIn(old, BTF_FIRST)
                 self.assertRaises((AssertionError, KeyError), BtfReader, BTF_FIRST.replace(old, new))
+
+    def test_btf_of_semaphores_and_events(self):
+        rows = ["22,A,0,SEM,R,0,requestsemaphore", "22,A,0,SEM,R,0,assigned", "23,A,0,SEM,R,0,released"]
+        rows += ["34,A,0,SEM,R,0,requestsemaphore", "34,A,0,SEM,R,0,assigned"]
+        before, behind = BTF_FIRST.split("34,A,0,STI")
+        behind = "34,A,0,STI" + behind
+        waits = ["35,B,0,SEM,R,0,requestsemaphore", "35,B,0,SEM,R,0,waiting", "35,Core_1,0,T,B,0,poll"]
+        waits += ["37,A,0,SEM,R,0,released", "37,B,0,SEM,R,0,assigned", "37,Core_1,0,T,B,0,run"]
+        events = ["37,B,0,EVENT,EVENT_B_4,0,wait_event", "37,SIM,0,EVENT,EVENT_A_1,0,set_event"]
+        first, last = behind.split("38,Core_0")
+        all_rows = [before[:-1], *rows, first[:-1], *waits, *events, "38,Core_0" + last]
+        BtfReader("\n".join(all_rows))
+        for row in rows + waits:
+            with self.subTest(left_out=row):
+                left = "\n".join(each for each in all_rows if each != row)
+                self.assertRaises((AssertionError, KeyError), BtfReader, left)
+        for old, new in (("EVENT_B_4,", "EVENT_B_5,"), ("EVENT_B_4,", "EVENT_A_4,"), ("EVENT_A_1,", "EVENT_C_1,")):
+            with self.subTest(new=new):
+                self.assertRaises(AssertionError, BtfReader, "\n".join(all_rows).replace(old, new))
 
     def test_vcd(self):
         text = vcd.text(jobs.jobs_of(first_timeline()), "x")
@@ -351,11 +507,25 @@ class Examples(unittest.TestCase):
                 ("release", "free"),
             ):
                 self.assertEqual(events.count(event), sum(lines.count(word) for word in words))
+            deeds = [deed for item in found.items for deed in item.deeds if deed.status == "E_OK"]
+            services = [deed.service for deed in deeds]
+            for event, service in (("clear_event", "ClearEvent"), ("wait_event", "WaitEvent")):
+                masks = [each.mask for each in all_jobs.events if each.kind == event]
+                self.assertEqual(len(masks), services.count(service))
+                self.assertEqual(events.count(event), sum(mask.bit_count() for mask in masks))
+            masks = [int(line.split(" ")[2]) for item in found.items for line in item.lines if line.startswith("ev ")]
+            self.assertEqual(events.count("set_event"), sum(mask.bit_count() for mask in masks))
+            self.assertEqual(events.count("assigned"), self.gets(found))
             # When an ISR leaves, what it interrupted resumes.
             still = sum(job.changes[-1].event == jobs.INTERRUPT for job in all_jobs.jobs)
             resumed = len(all_jobs.interruptions) - still
             begun = lines.count("pre") + lines.count("enter")
             self.assertEqual(events.count("start") + events.count("resume"), begun + resumed)
+
+    def gets(self, found):
+        """How often a resource or a spinlock was got, by the lines of the trace."""
+        got = re.compile("stat \\w+ (GetResource E_OK|GetSpinlock E_OK|TryToGetSpinlock E_OK 1)$")
+        return sum(got.match(line) is not None for item in found.items for line in item.lines)
 
     def test_chrome(self):
         for found, all_jobs in self.runs():
