@@ -1,10 +1,12 @@
-"""A run as a value change dump (VCD, IEEE 1364): states of tasks and ISRs, resources, ticks, hooks, spinlocks, mailboxes.
+"""A run as a value change dump (VCD): states of tasks and ISRs, resources, ticks, hooks, spinlocks, mailboxes.
 
-A time is the number of a turn. Of several changes in one turn a variable shows the last one.
+A time is the number of a turn. Of several changes in one turn a variable shows the last one. States are words, in
+variables of the type `string`, which GTKWave brought in and other viewers read too; or numbers, as in IEEE 1364, which
+has no such type.
 """
 
 from dataclasses import dataclass
-from typing import Dict, Iterator, List, Tuple
+from typing import Dict, Iterator, List, Tuple, Union
 
 from library.jobs import ERROR, INTERRUPTED, LOST, PROTECTION, READY, RUNNING, SHUTDOWN, WAITING, Jobs
 from library.states import end_of, held_by_task, rows_of, stretches_by_name
@@ -15,7 +17,8 @@ CODES = {SUSPENDED: 0, READY: 1, WAITING: 2, RUNNING: 3, INTERRUPTED: 4}
 _CODE_BITS = 3
 _FIRST_CODE, _CODES = 33, 94  # the characters of which the short names of variables consist
 
-Values = List[Tuple[int, int]]  # a turn, and the value from then on
+Value = Union[int, str]  # a number, or the word of a state
+Values = List[Tuple[int, Value]]  # a turn, and the value from then on
 
 
 @dataclass(frozen=True)
@@ -33,25 +36,27 @@ class Variable:
         """Its type and size, as a declaration has them."""
         return "%s %d" % (self.kind, self.bits)
 
-    def text(self, value: int) -> str:
+    def text(self, value: Value) -> str:
         """A value, without the short name."""
+        if isinstance(value, str):
+            return "s%s " % value
         return "%d" % value if self.bits == 1 else "b{:b} ".format(value)
 
 
-def text(jobs: Jobs, source: str) -> str:
-    """The whole text."""
-    variables = variables_of(jobs)
-    lines = ["$comment made from %s $end" % source, "$comment %s $end" % _legend(jobs.timeline)]
+def text(jobs: Jobs, source: str, has_words: bool = True) -> str:
+    """The whole text; states are words or numbers."""
+    variables = variables_of(jobs, has_words)
+    lines = ["$comment made from %s $end" % source, "$comment %s $end" % _legend(jobs.timeline, has_words)]
     lines += ["$timescale 1 us $end", "$scope module mcos $end"]
     lines += list(_declarations(variables))
     lines += ["$upscope $end", "$enddefinitions $end"]
     return "\n".join(lines + list(_changes(variables, end_of(jobs.timeline)))) + "\n"
 
 
-def _legend(timeline: Timeline) -> str:
+def _legend(timeline: Timeline, has_words: bool) -> str:
     """What times and values mean."""
-    codes = ", ".join("%d %s" % (code, state) for state, code in CODES.items())
-    return "a time is the number of a turn of the %s schedule; a task or an ISR is %s" % (timeline.run.schedule, codes)
+    states = ", ".join(state if has_words else "%d %s" % (code, state) for state, code in CODES.items())
+    return "a time is the number of a turn of the %s schedule; a task or an ISR is %s" % (timeline.run.schedule, states)
 
 
 def short_name(number: int) -> str:
@@ -92,7 +97,7 @@ def _changes(variables: List[Variable], end: int) -> Iterator[str]:
     yield "#%d" % end
 
 
-def _last_of_each_turn(values: Values) -> List[Tuple[int, int]]:
+def _last_of_each_turn(values: Values) -> Values:
     """Of the values of one turn the last one."""
     return sorted(dict(values).items())
 
@@ -102,7 +107,7 @@ def _last_of_each_turn(values: Values) -> List[Tuple[int, int]]:
 # ---------------------------------------------------------------------------------------------------------------------
 
 
-def variables_of(jobs: Jobs) -> List[Variable]:
+def variables_of(jobs: Jobs, has_words: bool) -> List[Variable]:
     """All variables, by scopes."""
     timeline = jobs.timeline
     states, held = _states(jobs), _held(jobs)
@@ -113,10 +118,18 @@ def variables_of(jobs: Jobs) -> List[Variable]:
         found += _events(jobs, core, scope)
         for row in rows_of(timeline):
             if row.core == core:
-                found.append(Variable(scope, row.name, "reg", _CODE_BITS, states.get(row.name, [(0, 0)])))
+                found.append(_state(scope, row.name, states, has_words))
         found += [_wire(scope, resource.name, held) for resource in timeline.run.draft.core(core).named["resources"]]
     found += [_wire("spinlocks", spinlock.name, held) for spinlock in timeline.run.draft.spinlocks]
     return found + _mailboxes(timeline)
+
+
+def _state(scope: str, name: str, states: Dict[str, Values], has_words: bool) -> Variable:
+    """In which state a task or an ISR is."""
+    values = states.get(name, [(0, SUSPENDED)])
+    if has_words:
+        return Variable(scope, name, "string", 1, values)
+    return Variable(scope, name, "reg", _CODE_BITS, [(turn, CODES[state]) for turn, state in values])
 
 
 def _wire(scope: str, name: str, held: Dict[str, Values]) -> Variable:
@@ -125,13 +138,13 @@ def _wire(scope: str, name: str, held: Dict[str, Values]) -> Variable:
 
 
 def _states(jobs: Jobs) -> Dict[str, Values]:
-    """The states of tasks and ISRs."""
+    """The states of tasks and ISRs, as words."""
     found = {}
     for name, stretches in stretches_by_name(jobs).items():
-        values = [(0, CODES[SUSPENDED])]
+        values: Values = [(0, SUSPENDED)]
         for each in stretches:
             # What begins in the turn of an end stands behind it.
-            values += [(each.begin, CODES[each.state]), (each.end, CODES[SUSPENDED])]
+            values += [(each.begin, each.state), (each.end, SUSPENDED)]
         found[name] = _in_order(values, end_of(jobs.timeline))
     return found
 

@@ -161,18 +161,19 @@ class BtfReader:
 # VCD
 # ---------------------------------------------------------------------------------------------------------------------
 
+VCD_STATES = ("suspended", "ready", "waiting", "running", "interrupted")  # a number is the place in it
 VCD_FIRST = {
-    "mcos.core_0.A": [(0, 0), (21, 3), (38, 0)],
-    "mcos.core_1.B": [(0, 0), (34, 3), (41, 0)],
+    "mcos.core_0.A": [(0, "suspended"), (21, "running"), (38, "suspended")],
+    "mcos.core_1.B": [(0, "suspended"), (34, "running"), (41, "suspended")],
     "mcos.mailboxes.from_0_to_1": [(0, 0), (32, 1), (34, 0)],
     "mcos.mailboxes.from_1_to_0": [(0, 0), (35, 1), (37, 0)],
 }
 
 
-def read_vcd(text):
-    """The values of each variable, by its whole name, as IEEE 1364 (18.2) has them."""
+def read_vcd(text, kinds=("event", "integer", "reg", "wire", "string")):
+    """The values of each variable, by its whole name, as IEEE 1364 (18.2) has them; and words, which it has not."""
     words = iter(text.split())
-    scopes, names, found = [], {}, {}
+    scopes, names, found, strings = [], {}, {}, set()
     time = None
     for word in words:
         if word in ("$comment", "$timescale", "$date", "$version"):
@@ -187,7 +188,9 @@ def read_vcd(text):
             assert next(words) == "$end"
         elif word == "$var":
             kind, size, code, name = (next(words) for _ in range(4))
-            assert kind in ("event", "integer", "reg", "wire") and int(size) >= 1
+            # GTKWave gives a string no bits.
+            assert kind in kinds and (int(size) >= 1 or kind == "string")
+            strings |= {code} if kind == "string" else set()
             rest = next(words)
             if rest != "$end":  # a range of bits
                 assert next(words) == "$end"
@@ -197,8 +200,10 @@ def read_vcd(text):
         elif word.startswith("#"):
             assert time is None or int(word[1:]) > time, word
             time = int(word[1:])
-        elif word[0] == "b":
-            note_vcd(found, names, next(words), time, int(word[1:], 2))
+        elif word[0] in "bs":
+            code = next(words)
+            assert (code in strings) == (word[0] == "s"), word
+            note_vcd(found, names, code, time, word[1:] if word[0] == "s" else int(word[1:], 2))
         elif word[0] in "01":
             note_vcd(found, names, word[1:], time, int(word[0]))
         else:
@@ -210,6 +215,13 @@ def note_vcd(found, names, code, time, value):
     """Notes a value of a declared variable."""
     for name in names[code]:
         found.setdefault(name, []).append((time, value))
+
+
+def as_words(numbers, found):
+    """The values of an export with numbers, in which those of tasks and ISRs are the words of their states."""
+    are_words = [name for name, values in found.items() if any(isinstance(value, str) for _, value in values)]
+    words = {name: [(time, VCD_STATES[value]) for time, value in numbers[name]] for name in are_words}
+    return {**numbers, **words}
 
 
 def without_repeats(values):
@@ -273,6 +285,12 @@ class First(unittest.TestCase):
         found = read_vcd(vcd.text(self.jobs, "x"))
         self.assertEqual({name: found[name] for name in VCD_FIRST}, VCD_FIRST)
 
+    def test_vcd_with_numbers(self):
+        found = read_vcd(vcd.text(self.jobs, "x"))
+        numbers = read_vcd(vcd.text(self.jobs, "x", has_words=False), ("event", "integer", "reg", "wire"))
+        self.assertEqual(numbers["mcos.core_0.A"], [(0, 0), (21, 3), (38, 0)])
+        self.assertEqual(as_words(numbers, found), found)
+
     def test_chrome(self):
         phases = read_chrome(chrome.text(self.jobs, "x"))
         running = [(each["name"], each["ts"], each["dur"]) for each in phases["X"] if each["cat"] == "running"]
@@ -309,10 +327,10 @@ class Interrupts(unittest.TestCase):
     def test_vcd(self):
         found = read_vcd(vcd.text(self.jobs, "x"))
         for name, values in (
-            ("core_0.I", [0, 1, 3, 4, 3, 0]),
-            ("core_0.J", [0, 3, 0]),
-            ("core_0.X", [0, 3, 4, 1, 3, 0]),
-            ("core_1.B", [0, 3, 0]),
+            ("core_0.I", ["suspended", "ready", "running", "interrupted", "running", "suspended"]),
+            ("core_0.J", ["suspended", "running", "suspended"]),
+            ("core_0.X", ["suspended", "running", "interrupted", "ready", "running", "suspended"]),
+            ("core_1.B", ["suspended", "running", "suspended"]),
             ("core_0.lost", [1]),
             ("core_0.protection", [1]),
             ("core_1.protection", [1]),
@@ -356,7 +374,8 @@ class Semaphores(unittest.TestCase):
         expected += [poll[0], ("Main", "released"), poll[1], ("Poll", "released")]
         self.assertEqual(found, expected)
         for name, events in (("Main", ["start", "poll", "run", "terminate"]), ("Poll", ["start", "terminate"])):
-            self.assertEqual([event for _, target, event in rows if target == name][1:], events)
+            found = [event for _, target, event in rows if target == name]
+            self.assertEqual(found, ["activate", *events])
         self.assertEqual(reader.owners, {})
 
     def test_a_wait_that_a_halt_drops(self):
@@ -456,15 +475,23 @@ class Readers(unittest.TestCase):
 
     def test_vcd(self):
         text = vcd.text(jobs.jobs_of(first_timeline()), "x")
-        for old, new in (("#38", "#20"), ("b11 #", "b11 ~"), ("$enddefinitions", "$upscope $end $enddefinitions")):
+        for old, new in (
+            ("#38", "#20"),
+            ("srunning #", "srunning ~"),
+            ("srunning #", "b11 #"),
+            ("$var string 1 #", "$var reg 3 #"),
+            ("$enddefinitions", "$upscope $end $enddefinitions"),
+        ):
             with self.subTest(new=new):
                 self.assertIn(old, text)
                 self.assertRaises((AssertionError, KeyError, IndexError), read_vcd, text.replace(old, new, 1))
+        # IEEE 1364 has no strings.
+        self.assertRaises(AssertionError, read_vcd, text, ("event", "integer", "reg", "wire"))
 
 
 class Commands(unittest.TestCase):
     def test_wrong_usage(self):
-        for words in (("vcd", "a"), ("otf", "a", "b")):
+        for words in (("vcd", "a"), ("otf", "a", "b"), ("btf", "--numbers", "a", "b")):
             with self.subTest(words=words):
                 self.assertEqual(called(MAIN, *words)[:2], (2, ""))
 
@@ -541,6 +568,7 @@ class Examples(unittest.TestCase):
     def test_vcd(self):
         for found, all_jobs in self.runs():
             values = read_vcd(vcd.text(all_jobs, "x"))
+            self.assertEqual(as_words(read_vcd(vcd.text(all_jobs, "x", has_words=False)), values), values)
             for core, items in found.by_core.items():
                 ticks = items[-1].tick if items else 0
                 self.assertEqual(values["mcos.core_%d.tick" % core][-1][1], ticks)
@@ -553,11 +581,18 @@ class Examples(unittest.TestCase):
 
     @unittest.skipUnless(shutil.which("vcd2fst") and shutil.which("fst2vcd"), "gtkwave is not installed")
     def test_vcd_by_gtkwave(self):
-        text = vcd.text(jobs.jobs_of(sample_runs.engine()), "x")
+        found = jobs.jobs_of(sample_runs.engine())
+        for has_words in (True, False):
+            with self.subTest(has_words=has_words):
+                self.hold_by_gtkwave(vcd.text(found, "x", has_words))
+
+    def hold_by_gtkwave(self, text):
+        """Holds a text to what GTKWave makes of it, by its own format and back."""
         with tempfile.TemporaryDirectory() as folder:
             with open(os.path.join(folder, "a.vcd"), "w", encoding="utf-8") as file:
                 file.write(text)
-            subprocess.run(["vcd2fst", "a.vcd", "a.fst"], cwd=folder, check=True, capture_output=True, timeout=60)
+            made = subprocess.run(["vcd2fst", "a.vcd", "a.fst"], cwd=folder, capture_output=True, text=True, timeout=60)
+            self.assertEqual((made.returncode, made.stderr), (0, ""))
             words = ["fst2vcd", "a.fst"]
             back = subprocess.run(words, cwd=folder, check=True, capture_output=True, text=True, timeout=60).stdout
         wanted, found = read_vcd(text), read_vcd(back)
