@@ -10,7 +10,7 @@ import tempfile
 from dataclasses import dataclass, replace
 from typing import Iterable, List, Sequence, Tuple, TypeVar
 
-from library import ending
+from library import ending, progress
 from library.formats import MOST_TURNS
 from library.items import Item
 from library.runs import Source, blocks_of
@@ -35,12 +35,15 @@ def check(timeline: Timeline, source: Source, most: int) -> Check:
     turns = sorted({end for item in chosen for end in (item.turn - 1, item.turn)})
     firsts = sorted({(item.core, end) for item in chosen for end in (item.number - 1, item.number)})
     differences: List[str] = []
-    with tempfile.TemporaryDirectory() as folder:
+    comparing = progress.shown("comparing", len(turns) + len(firsts))
+    with tempfile.TemporaryDirectory() as folder, comparing as work:
         path = os.path.join(folder, "prefix")
         for end in turns:
             differences += _of_turns(timeline, source, path, end)
+            work.done += 1
         for core, end in firsts:
             differences += _of_items(timeline, source, path, core, end)
+            work.done += 1
     return Check(len(turns), len(firsts), tuple(differences))
 
 

@@ -13,6 +13,7 @@ from collections import deque
 from dataclasses import dataclass, field
 from typing import Deque, Dict, List, NamedTuple, Optional, Tuple
 
+from library import progress
 from library.formats import GETS_SPINLOCK, NO_OBJECT
 from library.items import CORE, DROPPED, OK, START, Deed, Item
 from library.model import ISR, TASK
@@ -252,8 +253,9 @@ def target_of(operation: str) -> Optional[str]:
 def jobs_of(timeline: Timeline) -> Jobs:
     """The jobs of a run."""
     walk = _Walk(timeline)
-    for item in timeline.items:
-        walk.item(item)
+    with progress.shown("following the jobs", len(timeline.items)) as work:
+        for work.done, item in enumerate(timeline.items):
+            walk.item(item)
     return walk.found
 
 

@@ -5,7 +5,7 @@ import re
 from dataclasses import dataclass
 from typing import Dict, List, Optional, Sequence, Tuple
 
-from library import ending
+from library import ending, progress
 from library.drafts import Draft
 from library.ending import Failed
 from library.formats import words_of
@@ -75,9 +75,13 @@ def blocks_of(text: str) -> Dict[int, Tuple[str, ...]]:
 
 def read_run(source: Source) -> Run:
     """Runs the program once for the trace, and once for the log of each core."""
-    whole = source.printed()
-    draft = _draft(source.configuration)
-    logs = {core: tuple(source.printed("--items", str(core)).text.splitlines()) for core in sorted(draft.ids)}
+    logs = {}
+    with progress.shown("running mcos") as work:
+        whole = source.printed()
+        draft = _draft(source.configuration)
+        work.steps = 1 + len(draft.ids)
+        for work.done, core in enumerate(sorted(draft.ids), 1):
+            logs[core] = tuple(source.printed("--items", str(core)).text.splitlines())
     turns = _turns(source.schedule) if source.schedule is not None else None
     return Run(draft, blocks_of(whole.text), logs, not whole.is_stalled, turns)
 

@@ -8,9 +8,11 @@ from collections import Counter, deque
 from itertools import chain, islice, repeat
 from typing import Dict, List, NamedTuple, Optional, Sequence, Set
 
+from library import progress
 from library.ending import Failed
 from library.formats import TURN
 from library.items import OK, Item, items_of
+from library.progress import Work
 from library.runs import Run
 
 SERVE = "s"
@@ -64,11 +66,14 @@ def first_turns(run: Run, count: int) -> List[str]:
 
 def placed_items(run: Run) -> List[Item]:
     """The items of all cores in the order of the turns, each with its turn."""
-    play = _Play(run)
-    return _listed(run, play) if run.turns is not None else _in_rounds(run, play)
+    steps = sum(map(len, run.logs.values()))
+    with progress.shown("reading the logs", steps) as work:
+        play = _Play(run, work)
+    with progress.shown("following the turns", steps) as work:
+        return _listed(run, play, work) if run.turns is not None else _in_rounds(run, play, work)
 
 
-def _listed(run: Run, play: "_Play") -> List[Item]:
+def _listed(run: Run, play: "_Play", work: Work) -> List[Item]:
     """Plays the turns of a listed schedule."""
     found = []
     for number, word in enumerate(run.turns or (), 1):
@@ -76,17 +81,18 @@ def _listed(run: Run, play: "_Play") -> List[Item]:
         if item is not None:
             item.turn = number
             found.append(item)
+            work.done = len(found)
     play.check_all_taken()
     return found
 
 
-def _in_rounds(run: Run, play: "_Play") -> List[Item]:
+def _in_rounds(run: Run, play: "_Play", work: Work) -> List[Item]:
     """Plays rounds of the default schedule, as long as one changes something."""
     one = default_round(run.cores)
     found: List[Item] = []
     number, before = 0, -1
     while len(found) > before:
-        before = len(found)
+        work.done = before = len(found)
         for place, turn in enumerate(one, 1):
             item = play.taken(turn)
             if item is not None:
@@ -103,8 +109,11 @@ class _Play:
     Of each spinlock that is taken there is the core that has it.
     """
 
-    def __init__(self, run: Run):
-        self.left = {core: deque(items_of(run, core)) for core in run.cores}
+    def __init__(self, run: Run, work: Work):
+        self.left = {}
+        for core in run.cores:
+            self.left[core] = deque(items_of(run, core))
+            work.done += len(self.left[core])
         self.cap = run.draft["cap"]
         self.mail: Dict[tuple, int] = Counter()
         self.started = {run.draft["master"]}
