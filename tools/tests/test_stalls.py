@@ -169,15 +169,25 @@ class Listed(unittest.TestCase):
             lines = lines_of(stall_of(listed(source, [*words.split(" "), "1s0"])))
             self.assertEqual(lines, [NO_OTHER % 0, NO_OTHER % 1])
 
-    def test_each_prefix_names_the_cores_that_have_not_ended(self):
+    def test_each_prefix(self):
         with sample_runs.written(KEPT, {"0": "op op", "1": "op op op op"}) as source:
             run = runs.read_run(source)
-            last = timeline.timeline_of(run).turns
-            for count in range(0, last, 5):
-                found = runs.read_run(listed(source, turns.first_turns(run, count)))
-                stall = stalls.stall_of(jobs.jobs_of(timeline.timeline_of(found)))
-                ended = [core for core, log in found.logs.items() if log[-1:] == ("last",)]
-                self.assertEqual([wait.core for wait in stall.waits], [core for core in (0, 1) if core not in ended])
+            for count in range(0, timeline.timeline_of(run).turns, 5):
+                with self.subTest(count=count):
+                    self.judge(source, turns.first_turns(run, count))
+
+    def judge(self, source, words):
+        """Holds a stall to the program: who has not ended, and who can do something by a turn of its own."""
+        found = runs.read_run(listed(source, words))
+        stall = stalls.stall_of(jobs.jobs_of(timeline.timeline_of(found)))
+        ended = [core for core, log in found.logs.items() if log[-1:] == ("last",)]
+        self.assertEqual([wait.core for wait in stall.waits], [core for core in (0, 1) if core not in ended])
+        for wait in stall.waits:
+            logs = []
+            for turn in ("%do", "%dl"):
+                further = listed(source, [*words, turn % wait.core])
+                logs.append(tuple(further.printed("--items", str(wait.core)).text.splitlines()))
+            self.assertEqual(wait.kind == stalls.TURN, any(log != found.logs[wait.core] for log in logs), wait)
 
 
 @needs_program
