@@ -353,6 +353,11 @@ class Interrupts(unittest.TestCase):
         self.assertEqual([each["name"] for each in phases["f"]].count("reply"), 2)
 
 
+def task(name, script, **members):
+    """A task that autostarts."""
+    return {"name": name, "prio": 1, "auto": ["M"], "script": script, **members}
+
+
 @needs_program
 class Semaphores(unittest.TestCase):
     """What jobs do with resources, spinlocks and events, in BTF."""
@@ -367,7 +372,8 @@ class Semaphores(unittest.TestCase):
     def test_spinlocks(self):
         reader, rows = self.read("spinlocks", "config.json", "stimuli.json")
         found = [(source, event) for source, target, event in rows if target == "Log"]
-        careless, poll = ([(name, event) for event in ("requestsemaphore", "assigned")] for name in ("Careless", "Poll"))
+        gets = ("requestsemaphore", "assigned")
+        careless, poll = ([(name, event) for event in gets] for name in ("Careless", "Poll"))
         main = [("Main", event) for event in ("requestsemaphore", "waiting")]
         # Careless ends without giving Log back, and its core does. A TryToGetSpinlock does not wait.
         expected = [*careless, *main, ("Careless", "released"), ("Main", "assigned")]
@@ -383,6 +389,28 @@ class Semaphores(unittest.TestCase):
         send = [event for source, target, event in rows if "Send" in (source, target)]
         self.assertEqual(send, ["activate", "start", "requestsemaphore", "waiting", "poll"])
         self.assertEqual((reader.states["Send", "0"], reader.owners), ("polling", {}))
+
+    def test_a_spinlock_that_another_core_gets_after_the_halt(self):
+        # B asks for the free spinlock, and C gets it before or after B's core is halted in the same round.
+        stimuli = {core: "op op op op" for core in "012"}
+        for works, state in ((1, "polling"), (2, "running")):
+            scripts = ["ShutdownAllCores 0", "work;" * works + "GetSpinlock L"]
+            scripts.append("work;" * (works - 1) + "TryToGetSpinlock L v0")
+            cores = [{"id": core, "tasks": [task("ABC"[core], script)]} for core, script in enumerate(scripts)]
+            cores[0]["start"] = [1, 2]
+            text = json.dumps({"spinlocks": [{"name": "L"}], "cores": cores})
+            with self.subTest(works=works), sample_runs.written(text, stimuli) as source:
+                found = BtfReader(btf.text(jobs.jobs_of(sample_runs.timeline_of(source)), "x"))
+                self.assertEqual(found.states["B", "0"], state)
+                self.assertIn("assigned", [event for _, event, name in found.events if name == "L"])
+
+    def test_the_newest_is_released_first(self):
+        resources = [{"name": name, "ceiling": 1} for name in ("R", "S")]
+        core = {"id": 0, "resources": resources, "tasks": [task("A", "GetResource R;GetResource S")]}
+        with sample_runs.written(json.dumps({"cores": [core]}), {"0": "op op op"}) as source:
+            found = BtfReader(btf.text(jobs.jobs_of(sample_runs.timeline_of(source)), "x")).events
+        released = [(event, name) for _, event, name in found[-3:]]
+        self.assertEqual(released, [("released", "S"), ("released", "R"), ("terminate", "A")])
 
     def test_resources(self):
         _, rows = self.read("engine", "config.json", "stimuli.json")
@@ -400,8 +428,7 @@ class Semaphores(unittest.TestCase):
         self.assertIn(("SIM", "EVENT_Com_2", "set_event"), found)
 
     def test_events_that_are_set_already(self):
-        script = "SetEvent E 6;WaitEvent 4;ClearEvent 2"
-        tasks = [{"name": "E", "prio": 1, "extended": True, "auto": ["M"], "script": script}]
+        tasks = [task("E", "SetEvent E 6;WaitEvent 4;ClearEvent 2", extended=True)]
         with sample_runs.written(json.dumps({"cores": [{"id": 0, "tasks": tasks}]}), {"0": "op op op"}) as source:
             found = BtfReader(btf.text(jobs.jobs_of(sample_runs.timeline_of(source)), "x")).events
         shown = [(event, target) for _, event, target in found if target.startswith("EVENT_")]

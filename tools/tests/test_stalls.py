@@ -117,13 +117,15 @@ class Spinlocks(unittest.TestCase):
             self.assertNotIn("\nStalled\n", output)
 
     def test_one_that_is_to_be_given_back(self):
-        ends = KEPT.replace("GetSpinlock L;ReleaseSpinlock L;TerminateTask", "GetSpinlock L", 1)
-        with sample_runs.written(ends, {"0": "op op", "1": "op op op op"}) as source:
-            run = runs.read_run(source)
-            freed = next(item for item in timeline.timeline_of(run).items if item.text == "freed L")
-            stall = stall_of(listed(source, turns.first_turns(run, freed.turn - 1)))
-        expected = [NO_OTHER % 0, POLL_WAITS.replace("task Main of core 0 holds", "core 0 has to give back")]
-        self.assertEqual((lines_of(stall), stall.kept, stall.circles), (expected, (), ()))
+        # The job ends, or the core is down.
+        for script in ("GetSpinlock L", "GetSpinlock L;ShutdownOS 0"):
+            text = KEPT.replace("GetSpinlock L;ReleaseSpinlock L;TerminateTask", script, 1)
+            with self.subTest(script=script), sample_runs.written(text, {"0": "op op", "1": "op op op op"}) as source:
+                run = runs.read_run(source)
+                freed = next(item for item in timeline.timeline_of(run).items if item.text == "freed L")
+                stall = stall_of(listed(source, turns.first_turns(run, freed.turn - 1)))
+                expected = [NO_OTHER % 0, POLL_WAITS.replace("task Main of core 0 holds", "core 0 has to give back")]
+                self.assertEqual((lines_of(stall), stall.kept, stall.circles), (expected, (), ()))
 
     def test_a_halt_drops_the_call(self):
         with example("spinlocks", "halt.json", "halt_stimuli.json") as source:
