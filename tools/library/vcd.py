@@ -1,8 +1,8 @@
 """A run as a value change dump (VCD): states of tasks and ISRs, resources, ticks, hooks, spinlocks, mailboxes.
 
 A time is the number of a turn. Of several changes in one turn a variable shows the last one. States are words, in
-variables of the type `string`, which GTKWave brought in and other viewers read too; or numbers, as in IEEE 1364, which
-has no such type.
+variables of the type `string`, which GTKWave and other viewers show; or numbers, as in IEEE 1364, which has no such
+type.
 """
 
 from dataclasses import dataclass
