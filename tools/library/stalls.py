@@ -221,7 +221,6 @@ class _End:
         is_live = job.changes[-1].event != TERMINATE and job.core not in self.jobs.timeline.down
         return Wait(core, SPINLOCK, name, (job.core,), item.runner, item.place, _runner(job) if is_live else None)
 
-
     def _wait_of_mailbox(self, core: int) -> Optional[Wait]:
         """Whether the oldest envelope of a core's outbox has no room in its mailbox."""
         receivers = [receiver for item in self.items[core] for receiver in _receivers(item)]
