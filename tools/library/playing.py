@@ -1,0 +1,152 @@
+"""Plays a configuration by schedules in which cores pause, until each run ends or changes nothing any more."""
+
+import json
+import os
+from dataclasses import dataclass, replace
+from functools import cached_property, lru_cache
+from typing import Dict, List, Optional, Sequence, Tuple
+
+from library import ending
+from library.drafts import Draft
+from library.ending import Failed
+from library.formats import MOST_STIMULI
+from library.jobs import Jobs, jobs_of
+from library.pausing import Changes, Rounds, Stimuli, most_rounds, moved, moves_in, pauses_in
+from library.runs import Run, Source, accepted_draft, blocks_of, read_logs
+from library.stalls import Stall, stalls_of
+from library.timeline import timeline_of
+
+ENDED = "ended"
+STALLED = "stalled"
+UNFINISHED = "unfinished"  # it still goes on where a schedule can have no more turns
+ENDS = (ENDED, STALLED, UNFINISHED)
+
+Blocks = Dict[int, Tuple[str, ...]]
+# How many rounds a schedule has beyond those of the default one and the pauses.
+_SPARE = 20
+# So many runs are kept: those that making a finding small asks for again.
+_KEPT = 512
+
+
+@dataclass(frozen=True)
+class Outcome:
+    """What a run printed, and how it ended after how many rounds; of one that stalled also its logs."""
+
+    blocks: Blocks
+    end: str
+    rounds: int
+    stalled: Optional[Run] = None
+
+    @cached_property
+    def stalls(self) -> List[Stall]:
+        """Why it stalled."""
+        return stalls_of(self.stalled) if self.stalled is not None else []
+
+
+def read_stimuli(path: str, draft: Draft, more: int) -> Stimuli:
+    """The stimuli of all cores of a configuration that the program has accepted, each with so many more `op`."""
+    words = json.loads(ending.read(path))
+    found = {core: tuple(words.get(str(core), "").split()) + ("op",) * more for core in sorted(draft.ids)}
+    for core, stimuli in found.items():
+        if more and len(stimuli) > MOST_STIMULI:
+            text = "core %d would have %d stimuli, and at most %d are allowed"
+            raise Failed(text % (core, len(stimuli), MOST_STIMULI))
+    return found
+
+
+def stimuli_text(stimuli: Stimuli) -> str:
+    """Stimuli as a file has them."""
+    words = {str(core): " ".join(words) for core, words in stimuli.items()}
+    return "{\n" + ",\n".join("%s: %s" % (json.dumps(core), json.dumps(text)) for core, text in words.items()) + "\n}\n"
+
+
+class Player:
+    """Plays a run with changes. A folder takes the files that the program reads, several processes may share it."""
+
+    def __init__(self, source: Source, more: int, folder: str):
+        source.printed()  # reports a fault before anything else
+        self.draft = accepted_draft(source.configuration)
+        self.cores = sorted(self.draft.ids)
+        self.stimuli = read_stimuli(source.stimuli, self.draft, more)
+        self.folder = folder
+        path = os.path.join(folder, "stimuli.json")
+        ending.save(path, stimuli_text(self.stimuli))
+        self.source = replace(source, stimuli=path)
+        self.outcome = lru_cache(_KEPT)(self._outcome)
+
+    @cached_property
+    def default(self) -> Outcome:
+        """The run of the default schedule, as the program plays it by itself."""
+        run = self._run(self.source)
+        rounds = timeline_of(run).items
+        return Outcome(run.blocks, ENDED if run.has_ended else STALLED, rounds[-1].round if rounds else 0)
+
+    @property
+    def spare_rounds(self) -> int:
+        """How many rounds of pauses a schedule has room for."""
+        return most_rounds(self.cores) - self.default.rounds - _SPARE
+
+    def rounds(self, changes: Changes, count: Optional[int] = None) -> Rounds:
+        """The rounds of a schedule with changes, by default as many as its run has."""
+        count = self.outcome(changes).rounds if count is None else count
+        return Rounds(self.cores, pauses_in(changes), count)
+
+    def source_of(self, changes: Changes, schedule: str) -> Source:
+        """The run of a schedule, whose turns are divided by spaces, and of the stimuli with the moved interrupts."""
+        path = self._path("schedule")
+        ending.save(path, json.dumps(schedule))
+        return replace(self._with_stimuli(changes), schedule=path)
+
+    def run(self, changes: Changes, words: Sequence[str], numbers: Sequence[int]) -> Run:
+        """A run of some turns, each with the number of its round, with its logs."""
+        source = self.source_of(changes, " ".join(words))
+        return self._run(source, tuple(words), tuple(numbers))
+
+    def jobs(self, changes: Changes, count: Optional[int] = None) -> Jobs:
+        """The jobs of a run with changes, by default of as many rounds as it takes."""
+        rounds = self.rounds(changes, count)
+        return jobs_of(timeline_of(self.run(changes, rounds.words, rounds.numbers)))
+
+    def blocks(self, changes: Changes, schedule: str) -> Blocks:
+        """What a run prints by a schedule."""
+        return blocks_of(self.source_of(changes, schedule).printed().text)
+
+    def _path(self, name: str) -> str:
+        """A file of this process."""
+        return os.path.join(self.folder, "%s-%d.json" % (name, os.getpid()))
+
+    def _with_stimuli(self, changes: Changes) -> Source:
+        """The run of the stimuli with the moved interrupts."""
+        moves = moves_in(changes)
+        if not moves:
+            return self.source
+        path = self._path("stimuli")
+        ending.save(path, stimuli_text(moved(self.stimuli, moves)))
+        return replace(self.source, stimuli=path)
+
+    def _run(
+        self, source: Source, words: Optional[Tuple[str, ...]] = None, numbers: Optional[Tuple[int, ...]] = None
+    ) -> Run:
+        """A run with its logs."""
+        whole = source.printed()
+        logs = read_logs(source, self.cores)
+        return Run(self.draft, blocks_of(whole.text), logs, not whole.is_stalled, words, numbers)
+
+    def _logs(self, changes: Changes, count: int) -> Dict[int, Tuple[str, ...]]:
+        """The logs of a run of so many rounds."""
+        return read_logs(self.source_of(changes, " ".join(self.rounds(changes, count).words)), self.cores)
+
+    def _outcome(self, changes: Changes) -> Outcome:
+        """Plays a run with changes, by more and more rounds, until it ends or one more round changes nothing."""
+        count = min(self.default.rounds + sum(each.count for each in pauses_in(changes)) + _SPARE, most_rounds(self.cores))
+        while True:
+            printed = self.source_of(changes, " ".join(self.rounds(changes, count).words)).printed()
+            blocks = blocks_of(printed.text)
+            if not printed.is_stalled:
+                return Outcome(blocks, ENDED, count)
+            logs = self._logs(changes, count)
+            if count < most_rounds(self.cores) and logs == self._logs(changes, count + 1):
+                return Outcome(blocks, STALLED, count, Run(self.draft, blocks, logs, False))
+            if 2 * count > most_rounds(self.cores):
+                return Outcome(blocks, UNFINISHED, count)
+            count *= 2

@@ -1,0 +1,135 @@
+"""What a shake found, as text; and the files by which a finding is played again."""
+
+import json
+from typing import Any, List, Sequence, Tuple
+
+from library import ending
+from library.columns import columns
+from library.findings import counted
+from library.pausing import Move, moved, moves_in
+from library.playing import ENDED, Stimuli, stimuli_text
+from library.shake_report import Report, changes_in
+from library.shaking import CIRCLE, ERROR, KEPT, MISTAKE, REQUIREMENT, STALL
+from library.shrinking import expanded
+
+_TITLES = {
+    CIRCLE: "a circle of waits",
+    KEPT: "a spinlock that is kept; more stimuli for this core may give it back (--more)",
+    STALL: "the run stalls",
+}
+Paths = Sequence[Tuple[str, str]]
+
+
+def text_of(report: Report, saved: Paths = ()) -> str:
+    """A report as text, with the paths of the stimuli and the schedule of each finding if they are saved."""
+    sections = [("Run", _run(report)), ("Cores", _table(("core", "standing", "differs"), report["cores"], 2))]
+    titles = ("core", "line", "default", "least", "greatest")
+    sections.append(("Errors of the default schedule", _table(titles, report["errors"], 2)))
+    if report["requirements"]:
+        sections.append(("Requirements", [_verdict(report, each) for each in report["requirements"]]))
+    sections.append(("Findings", _findings(report, saved) or ["none"]))
+    return "\n".join("%s\n%s" % (title, "".join("  %s\n" % line for line in lines)) for title, lines in sections)
+
+
+def _table(titles: Sequence[str], rows: Sequence[Report], first_number: int) -> List[str]:
+    """A table of a report; from one column on there are numbers."""
+    if not rows:
+        return ["none"]
+    cells = [[str(row[title]) for title in titles] for row in rows]
+    return columns([titles] + cells, range(first_number, len(titles)))
+
+
+def played_in(report: Report) -> int:
+    """How many schedules were drawn and played."""
+    return sum(report["ends"].values())
+
+
+def _run(report: Report) -> List[str]:
+    """The run as a whole."""
+    default = report["default"]
+    conflict = " in a conflict of modes, so no core does any work" if default["conflict"] else ""
+    ends = ["%d %s" % (times, end) for end, times in report["ends"].items() if times or end == ENDED]
+    shard = ", shard %d/%d" % tuple(report["shard"]) if report["shard"] is not None else ""
+    drawn = "%s, seed %d%s: %s" % (counted(played_in(report), "schedule"), report["seed"], shard, ", ".join(ends))
+    return ["default schedule: %s%s, %d rounds" % (default["end"], conflict, default["rounds"]), drawn]
+
+
+def _verdict(report: Report, row: Report) -> str:
+    """Whether a requirement is met by all schedules."""
+    title = row["text"] if row["id"] is None else "%s: %s" % (row["id"], row["text"])
+    played = counted(played_in(report), "schedule")
+    if row["schedule"] is None:
+        return "met: %s (by the default schedule %s; met by all of %s)" % (title, row["found"], played)
+    where = "by the default schedule" if row["schedule"] == 0 else "by schedule %d" % row["schedule"]
+    return "not met: %s (%s %s; not met by %d of %s)" % (title, where, row["found"], row["not_met"], played)
+
+
+# ---------------------------------------------------------------------------------------------------------------------
+# Findings
+# ---------------------------------------------------------------------------------------------------------------------
+
+
+def _findings(report: Report, saved: Paths) -> List[str]:
+    """The findings. One that the schedule of another one shows too stands there alone."""
+    lines: List[str] = []
+    beside: List[Any] = []
+    for place, finding in enumerate(report["findings"]):
+        if _key(finding) in beside:
+            continue
+        beside += [_key(other) for other in finding["others"]]
+        lines += _finding(report, finding, place + 1, saved[place] if saved else None)
+    return lines
+
+
+def _key(finding: Report) -> Tuple[Any, ...]:
+    """What tells findings apart."""
+    return finding["kind"], finding["cores"], finding["lines"]
+
+
+def _title(finding: Report) -> str:
+    """What was found."""
+    kind = finding["kind"]
+    if kind == MISTAKE:
+        return "MISTAKE OF mcos: core %d is separate, and its block differs" % finding["cores"][0]
+    if kind == REQUIREMENT:
+        return "not met: %s" % finding["lines"][0]
+    if kind == ERROR:
+        return "core %d prints `%s`" % (finding["cores"][0], finding["lines"][0])
+    return _TITLES[kind]
+
+
+def _finding(report: Report, finding: Report, number: int, saved: Any) -> List[str]:
+    """A finding: how often it was seen, what has to come together for it, and how it is played again."""
+    times = "in %s" % counted(finding["times"], "schedule")
+    by = "by the default schedule too" if finding["schedule"] == 0 else "first in %d" % finding["schedule"]
+    lines = ["%d. %s, %s, %s" % (number, _title(finding), times, by)]
+    if finding["kind"] in (CIRCLE, KEPT):
+        lines += ["   " + line for line in finding["lines"]]
+    words = {(each["core"], each["interrupt"]): each["word"] for each in finding["moves"]}
+    for change in changes_in(finding):
+        word = " (%s)" % words[change.core, change.interrupt] if isinstance(change, Move) else ""
+        lines.append("   if %s%s" % (change, word))
+    lines += ["   with it %s" % _title(other) for other in finding["others"]]
+    lines.append("   %d turns, %d rounds: %s" % (finding["turns"], finding["rounds"], _command(report, finding, saved)))
+    return lines if finding["shown"] else lines + ["   NOT SHOWN when it was played again"]
+
+
+def _command(report: Report, finding: Report, saved: Any) -> str:
+    """How a finding is played again."""
+    if saved:
+        return "mcos run %s %s --schedule %s" % (report["configuration"], *saved)
+    return json.dumps(finding["shorthand"])
+
+
+def save(report: Report, stimuli: Stimuli, prefix: str) -> Paths:
+    """Writes the schedule of each finding, and its stimuli if they are not those that were given; gives the paths."""
+    paths = []
+    for number, finding in enumerate(report["findings"], 1):
+        schedule, own = "%s-%d.json" % (prefix, number), report["stimuli"]
+        ending.save(schedule, json.dumps(" ".join(expanded(finding["shorthand"]))) + "\n")
+        moves = moves_in(tuple(changes_in(finding)))
+        if moves or report["more"]:
+            own = "%s-%d-stimuli.json" % (prefix, number)
+            ending.save(own, stimuli_text(moved(stimuli, moves)))
+        paths.append((own, schedule))
+    return paths

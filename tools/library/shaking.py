@@ -1,0 +1,168 @@
+"""Plays a configuration by many schedules drawn by a seed, and says what they show that the default one does not.
+
+What a schedule is depends on the seed and its number alone, and how a finding is made small on the finding alone. So the
+findings are the same however the schedules are shared among processes and shards.
+"""
+
+import random
+from dataclasses import dataclass
+from typing import Any, Dict, List, NamedTuple, Optional, Sequence, Tuple
+
+from library.error_lines import ErrorLine, error_lines
+from library.figures import figures_of
+from library.model import SEPARATE, model_of
+from library.pausing import Changes, Move, Pause, interrupts_in, moves_in
+from library.playing import ENDED, STALLED, Outcome, Player
+from library.requirements import Requirement, Verdict, judge_given
+
+# The kinds of findings, the gravest first.
+MISTAKE = "mistake"  # of mcos: what a separate core prints depends on the schedule
+CIRCLE = "circle"
+KEPT = "kept"
+STALL = "stall"  # for another reason
+REQUIREMENT = "requirement"
+ERROR = "error"
+KINDS = (MISTAKE, CIRCLE, KEPT, STALL, REQUIREMENT, ERROR)
+
+
+class Sign(NamedTuple):
+    """What a finding is: its kind, the cores, and the lines that show it."""
+
+    kind: str
+    cores: Tuple[int, ...]
+    lines: Tuple[str, ...]
+
+    @property
+    def order(self) -> Tuple[Any, ...]:
+        """Where it stands among others."""
+        return (KINDS.index(self.kind), self.cores, self.lines)
+
+
+@dataclass(frozen=True)
+class Draws:
+    """How schedules are drawn: the seed, the most pauses and moved interrupts of one, and how far these go."""
+
+    seed: int
+    pauses: int
+    longest: int
+    jitter: int
+
+
+@dataclass(frozen=True)
+class Look:
+    """What one schedule shows. The schedule 0 is the default one."""
+
+    number: int
+    changes: Changes
+    end: str
+    differing: Tuple[int, ...]
+    errors: Dict[ErrorLine, int]
+    signs: Tuple[Sign, ...]
+    verdicts: Tuple[Verdict, ...]
+
+
+class Shake:
+    """Schedules of one configuration, with the requirements that each is held to."""
+
+    def __init__(self, player: Player, draws: Draws, wanted: Sequence[Requirement]):
+        self.player = player
+        self.draws = draws
+        self.wanted = wanted
+        model = model_of(player.draft)
+        self.standings = {core: model.standing(core) for core in player.cores}
+        self.started = [core for core in player.cores if core in model.started]
+        self.usual = error_lines(player.default.blocks)
+        self.has_conflict = any("conflict" in block for block in player.default.blocks.values())
+        self.interrupts = [
+            (core, number)
+            for core in self.started
+            for number in range(1, len(interrupts_in(player.stimuli[core])) + 1)
+        ]
+
+    def changes_of(self, number: int) -> Changes:
+        """The changes of a schedule. Short pauses are as frequent as long ones."""
+        if number == 0:
+            return ()
+        draws = random.Random("%d/%d" % (self.draws.seed, number))
+        found: List[Any] = []
+        for _ in range(draws.randint(1, self.draws.pauses)):
+            most = min(self.draws.longest, 1 << draws.randrange(self.draws.longest.bit_length()))
+            first = draws.randint(1, max(1, self.player.default.rounds))
+            found.append(Pause(draws.choice(self.started), first, draws.randint((most + 1) // 2, most)))
+        if self.draws.jitter and self.interrupts:
+            for _ in range(draws.randint(0, self.draws.pauses)):
+                shift = draws.choice((-1, 1)) * draws.randint(1, self.draws.jitter)
+                found.append(Move(*draws.choice(self.interrupts), shift))
+        return tuple(found)
+
+    def look(self, number: int) -> Look:
+        """Plays one schedule."""
+        changes = self.changes_of(number)
+        outcome = self.player.outcome(changes)
+        verdicts = self.verdicts(changes) if self.wanted else ()
+        signs = self.signs(changes, outcome) + [unmet(verdict) for verdict in verdicts if not verdict.is_met]
+        return Look(
+            number,
+            changes,
+            outcome.end,
+            tuple(core for core in self.player.cores if self._differs(core, outcome) and not _moves(core, changes)),
+            error_lines(outcome.blocks),
+            tuple(signs),
+            verdicts,
+        )
+
+    def signs(self, changes: Changes, outcome: Outcome) -> List[Sign]:
+        """What a run shows that is a finding, but for requirements that it does not meet."""
+        found = [Sign(MISTAKE, (core,), ()) for core in self.player.cores if self._is_mistaken(core, changes, outcome)]
+        found += [Sign(CIRCLE if stall.is_circle else KEPT, stall.cores, stall.lines) for stall in outcome.stalls]
+        if outcome.end == STALLED and not outcome.stalls:
+            found.append(Sign(STALL, (), ()))
+        errors = error_lines(outcome.blocks)
+        return found + [Sign(ERROR, (each.core,), (each.text,)) for each in errors if each not in self.usual]
+
+    def shows(self, changes: Changes, sign: Sign) -> bool:
+        """Whether a run with changes shows a finding. An error is looked for by itself, without why a run stalled."""
+        if sign.kind == REQUIREMENT:
+            return any(sign == unmet(verdict) for verdict in self.verdicts(changes) if not verdict.is_met)
+        outcome = self.player.outcome(changes)
+        if sign.kind == ERROR:
+            return ErrorLine(sign.cores[0], sign.lines[0]) in error_lines(outcome.blocks)
+        return sign in self.signs(changes, outcome)
+
+    def verdicts(self, changes: Changes) -> Tuple[Verdict, ...]:
+        """Whether a run with changes meets the requirements."""
+        return tuple(judge_given(figures_of(self.player.jobs(changes)), self.wanted))
+
+    def _differs(self, core: int, outcome: Outcome) -> bool:
+        """Whether a core's block differs from that of the default schedule."""
+        return outcome.blocks[core] != self.player.default.blocks[core]
+
+    def _is_mistaken(self, core: int, changes: Changes, outcome: Outcome) -> bool:
+        """Whether a separate core prints what it may not, if its own stimuli are the same.
+
+        Its block is always a prefix of what it prints alone, and all of that if the run ended.
+        """
+        default = self.player.default
+        if self.standings[core] != SEPARATE or _moves(core, changes):
+            return False
+        if outcome.end == ENDED and default.end == ENDED:
+            return self._differs(core, outcome)
+        block, alone = outcome.blocks[core], default.blocks[core]
+        common = min(len(block), len(alone))
+        return block[:common] != alone[:common]
+
+
+def _moves(core: int, changes: Changes) -> bool:
+    """Whether interrupts of a core have moved, so that its own stimuli are other ones."""
+    return any(move.core == core for move in moves_in(changes))
+
+
+def unmet(verdict: Verdict) -> Sign:
+    """The finding that a requirement is not met."""
+    return Sign(REQUIREMENT, (), (verdict.title,))
+
+
+def longest_for(player: Player, pauses: int, given: Optional[int]) -> int:
+    """How many rounds a pause may have: so many as a schedule has room for, by default a quarter of the default ones."""
+    wanted = max(4, player.default.rounds // 4) if given is None else given
+    return max(1, min(wanted, player.spare_rounds // pauses))
