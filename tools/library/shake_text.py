@@ -14,7 +14,7 @@ from library.shrinking import expanded
 
 _TITLES = {
     CIRCLE: "a circle of waits",
-    KEPT: "a spinlock that is kept; more stimuli for this core may give it back (--more)",
+    KEPT: "a spinlock kept by a core that has drained (--more gives it more stimuli)",
     STALL: "the run stalls",
 }
 Paths = Sequence[Tuple[str, str]]

@@ -86,7 +86,7 @@ class Shake:
         draws = random.Random("%d/%d" % (self.draws.seed, number))
         found: List[Any] = []
         for _ in range(draws.randint(1, self.draws.pauses)):
-            most = min(self.draws.longest, 1 << draws.randrange(self.draws.longest.bit_length()))
+            most = min(self.draws.longest, 1 << draws.randrange(self.draws.longest.bit_length() + 1))
             first = draws.randint(1, max(1, self.player.default.rounds))
             found.append(Pause(draws.choice(self.started), first, draws.randint((most + 1) // 2, most)))
         if self.draws.jitter and self.interrupts:

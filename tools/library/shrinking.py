@@ -113,14 +113,17 @@ def expanded(shorthand: str) -> List[str]:
 
 
 def _turns(shake: Shake, sign: Sign, changes: Changes, rounds: Rounds) -> int:
-    """How many turns are needed. What a core has printed stays; a stall is shown by a round that changes nothing."""
+    """How many turns are needed: of an error up to its line, and else up to the last turn that changes something.
+
+    A stall is shown by one more round.
+    """
     words = rounds.words
-    if sign.kind in (CIRCLE, KEPT, STALL):
-        items = shake.player.jobs(changes).timeline.items
-        last = items[-1].round if items else 0
-        return sum(number <= last + 1 for number in rounds.numbers)
+    if sign.kind == MISTAKE:
+        return len(words)  # What a program prints that makes mistakes may fit no turn.
     if sign.kind != ERROR:
-        return len(words)
+        items = shake.player.jobs(changes).timeline.items
+        last = (items[-1].round if items else 0) + (sign.kind in (CIRCLE, KEPT, STALL))
+        return sum(number <= last for number in rounds.numbers)
     line = ErrorLine(sign.cores[0], sign.lines[0])
     low, high = 0, len(words)
     while low < high:

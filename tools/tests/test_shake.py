@@ -1,0 +1,390 @@
+"""What `tools/shake` finds, made small and played again; and that it finds the same however the work is shared."""
+
+import json
+import os
+import runpy
+import subprocess
+import sys
+import tempfile
+import unittest
+from unittest import mock
+
+sys.path.insert(0, os.path.dirname(os.path.abspath(__file__)))
+import documents  # noqa: E402
+import help_texts  # noqa: E402
+import sample_runs  # noqa: E402
+from sample_runs import PROGRAM, TOOLS, called, needs_program  # noqa: E402
+from library import ending, pausing, runs, shake_report, shake_text, shaking, shrinking, stalls  # noqa: E402
+from library.error_lines import ErrorLine, error_lines  # noqa: E402
+from library.pausing import Move, Pause, Rounds  # noqa: E402
+from library.playing import Player  # noqa: E402
+from library.stalls import Grip  # noqa: E402
+
+SHAKE = runpy.run_path(os.path.join(TOOLS, "shake"))
+MAIN = SHAKE["main"]
+FOLDER = os.path.join(sample_runs.EXAMPLES, "circle")
+CIRCLE = [os.path.join(FOLDER, name) for name in ("config.json", "stimuli.json")]
+# The lines of the circle of examples/circle.
+WAITS = ["core 0: Send holds Signals", "core 0: Send waits for Log", "core 1: Dump holds Log"]
+WAITS += ["core 1: Knock waits for Signals"]
+LIMIT = "in 0 ActivateTask Dump E_OS_LIMIT"
+
+# A program that changes a line of core 2, which is separate, if it plays a listed schedule.
+MISTAKEN = """#!/bin/sh
+case "$*" in
+  *--items*) exec %(program)s "$@" ;;
+  *--schedule*) %(program)s "$@" > %(file)s.$$; status=$?; sed 's/^var Brake v0 4$/var Brake v0 5/' %(file)s.$$
+    rm %(file)s.$$; exit $status ;;
+  *) exec %(program)s "$@" ;;
+esac
+"""
+
+# Lines of a block, and what is counted of them.
+ERRORS = [
+    (["stat A ActivateTask E_OK"], []),
+    (["stat A ActivateTask E_OS_LIMIT", "hook Error E_OS_LIMIT"], ["stat A ActivateTask E_OS_LIMIT"]),
+    (["start 1 E_OS_STATE"], ["start 1 E_OS_STATE"]),
+    (["in 0 ActivateTask B E_OS_LIMIT", "hook Error E_OS_LIMIT"], ["in 0 ActivateTask B E_OS_LIMIT"]),
+    (["lost I"], ["lost I"]),
+    (["tick", "alarm A", "hook Error E_OS_STATE"], ["hook Error E_OS_STATE, alarm A"]),
+    (
+        ["tick", "point S 3", "act T", "hook Error E_OS_LIMIT", "hook Error E_OS_STATE"],
+        ["hook Error E_OS_LIMIT, point S 3", "hook Error E_OS_STATE, point S 3"],
+    ),
+    (["alarm A", "act T", "hook Error E_OS_MISSINGEND", "post X", "end X"], ["hook Error E_OS_MISSINGEND, end X"]),
+    (["hook Error E_OS_DISABLEDINT", "leave I"], ["hook Error E_OS_DISABLEDINT, leave I"]),
+    (["hook Protection E_OS_PROTECTION_TIME", "end T"], ["hook Protection E_OS_PROTECTION_TIME, end T"]),
+    (["hook Shutdown E_OS_LIMIT"], ["hook Shutdown E_OS_LIMIT"]),
+    (["stat A ActivateTask E_OS_LIMIT", "hook Error E_OS_LIMIT", "tick", "alarm A", "act B"],
+     ["stat A ActivateTask E_OS_LIMIT"]),
+]
+WRONG_USAGE = [
+    (),
+    ("a",),
+    ("a", "b", "--schedules", "0"),
+    ("a", "b", "--processes", "x"),
+    ("a", "b", "--shard", "0/2"),
+    ("a", "b", "--shard", "3/2"),
+    ("a", "b", "--shard", "1"),
+    ("a", "b", "--jitter", "-1"),
+    ("a", "b", "--merge", "c"),
+]
+
+
+def shaken(*words, files=CIRCLE, program=PROGRAM):
+    """The status, the output and the messages of the script."""
+    return called(MAIN, "--mcos", program, *words, *files)
+
+
+# As many as show all that the default number shows.
+FEW = ("--schedules", "70")
+
+
+def report(*words, **options):
+    """What the script prints as JSON."""
+    return json.loads(shaken("--json", *words, **options)[1])
+
+
+def told(found):
+    """What tells the findings of a report apart."""
+    return [(each["kind"], each["cores"], each["lines"]) for each in found["findings"]]
+
+
+def lines_of(*words):
+    """The lines that the program prints."""
+    return subprocess.run([PROGRAM, *words], capture_output=True, text=True, timeout=60).stdout.splitlines()
+
+
+class Schedules(unittest.TestCase):
+    def test_a_pause_leaves_out_the_turns_of_its_core(self):
+        rounds = Rounds((0, 1), [Pause(1, 2, 2)], 4)
+        self.assertEqual(" ".join(rounds.words), "0s1 0o 0l 1s0 1o 1l 0s1 0o 0l 0s1 0o 0l 0s1 0o 0l 1s0 1o 1l")
+        self.assertEqual(rounds.numbers, [1] * 6 + [2] * 3 + [3] * 3 + [4] * 6)
+        self.assertEqual(Rounds((0, 1), [Pause(0, 1, 9), Pause(1, 1, 2)], 3).words, ["1s0", "1o", "1l"])
+
+    def test_the_shorthand_of_the_first_turns(self):
+        pauses = [Pause(1, 2, 2), Pause(0, 3, 1), Pause(0, 6, 1), Pause(1, 6, 1)]
+        rounds = Rounds((0, 1, 2), pauses, 8)
+        for turns in range(1, len(rounds.words) + 1):
+            with self.subTest(turns=turns):
+                self.assertEqual(shrinking.expanded(rounds.shorthand(turns)), rounds.words[:turns])
+        self.assertEqual(Rounds((0, 1), [], 9).shorthand(54), "9*(0s1 0o 0l 1s0 1o 1l)")
+        self.assertEqual(Rounds((0, 1), [Pause(0, 1, 1), Pause(1, 1, 1)], 1).shorthand(0), "")
+
+    def test_moved_interrupts(self):
+        stimuli = {0: ("op", "irq=I", "tick", "irq=J", "op"), 1: ("op",)}
+        for moves, words in (
+            ([Move(0, 1, 1)], "op tick irq=I irq=J op"),
+            ([Move(0, 2, -9)], "irq=J op irq=I tick op"),
+            ([Move(0, 1, 9), Move(0, 2, -1)], "op irq=J tick op irq=I"),
+            ([], "op irq=I tick irq=J op"),
+        ):
+            with self.subTest(moves=moves):
+                moved = pausing.moved(stimuli, moves)
+                self.assertEqual((" ".join(moved[0]), moved[1]), (words, ("op",)))
+
+    def test_texts(self):
+        self.assertEqual(str(Pause(1, 3, 1)), "core 1 pauses in round 3")
+        self.assertEqual(str(Pause(1, 3, 2)), "core 1 pauses in the rounds 3 to 4")
+        self.assertEqual(str(Move(1, 3, 1)), "core 1's interrupt 3 comes 1 word later")
+        self.assertEqual(str(Move(1, 3, -2)), "core 1's interrupt 3 comes 2 words earlier")
+
+
+class Errors(unittest.TestCase):
+    def test_lines(self):
+        for lines, wanted in ERRORS:
+            with self.subTest(lines=lines):
+                self.assertEqual(list(error_lines({1: lines})), [ErrorLine(1, text) for text in wanted])
+
+    def test_counts(self):
+        lines = ["stat A ActivateTask E_OS_LIMIT", "hook Error E_OS_LIMIT", "lost I"] * 3
+        self.assertEqual(error_lines({0: lines, 1: []}), {ErrorLine(0, lines[0]): 3, ErrorLine(0, "lost I"): 3})
+
+
+class Circles(unittest.TestCase):
+    def circles(self, *waits):
+        """The circles of cores, each waiting for a spinlock that another one has."""
+        waiting = {core: Grip(core, "T", "L%d" % other) for core, other in waits}
+        holding = {"L%d" % core: Grip(core, "U", "L%d" % core) for core in range(9)}
+        return stalls._circles(waiting, holding)
+
+    def test_circles(self):
+        self.assertEqual(self.circles((0, 1), (1, 0)), [[0, 1]])
+        self.assertEqual(self.circles((2, 1), (1, 3), (3, 2)), [[1, 3, 2]])
+        self.assertEqual(self.circles((0, 2), (1, 2), (2, 3), (3, 2)), [[2, 3]])
+        self.assertEqual(self.circles((0, 1), (1, 0), (2, 3), (3, 2), (4, 0)), [[0, 1], [2, 3]])
+
+    def test_none(self):
+        self.assertEqual(self.circles((0, 1), (1, 2)), [])
+        self.assertEqual(self.circles(), [])
+
+
+class Smaller(unittest.TestCase):
+    def test_the_needed_change_is_left_and_short(self):
+        def shows(changes):
+            return any(each.core == 1 and each.first <= 40 < each.first + each.count for each in changes)
+
+        changes = (Pause(0, 1, 9), Pause(1, 10, 90), Pause(1, 70, 9))
+        self.assertEqual(shrinking.smallest(changes, shows), (Pause(1, 40, 1),))
+
+    def test_two_that_are_needed_together(self):
+        def shows(changes):
+            has_pause = any(isinstance(each, Pause) and each.count > 4 for each in changes)
+            return has_pause and any(isinstance(each, Move) and each.shift < -2 for each in changes)
+
+        changes = (Move(0, 1, -9), Pause(1, 10, 64), Move(0, 2, 8), Pause(1, 1, 3))
+        self.assertEqual(shrinking.smallest(changes, shows), (Move(0, 1, -3), Pause(1, 10, 5)))
+
+    def test_nothing_is_needed(self):
+        self.assertEqual(shrinking.smallest((Pause(0, 1, 9), Pause(0, 1, 9)), lambda changes: True), ())
+
+
+class WrongUsage(unittest.TestCase):
+    def test_wrong_usage(self):
+        for words in WRONG_USAGE:
+            with self.subTest(words=words):
+                self.assertEqual(called(MAIN, *words)[:2], (2, ""))
+
+    def test_what_is_no_report(self):
+        for text in ("", "[]", "{}", '{"format": "x"}'):
+            with self.subTest(text=text), tempfile.TemporaryDirectory() as folder:
+                path = os.path.join(folder, "a.json")
+                ending.save(path, text)
+                status, output, messages = called(MAIN, "--merge", path)
+                self.assertEqual((status, output), (1, ""))
+                self.assertIn("%s: this is no output of tools/shake --json" % path, messages)
+
+
+class Documents(unittest.TestCase):
+    def test_the_section_has_each_option(self):
+        options = help_texts.options(SHAKE["command_words"]())
+        self.assertEqual(help_texts.usage("shake"), options)
+        self.assertEqual(help_texts.described("shake") - {"--json"}, set(options) - {"--json", "--mcos"})
+
+    @needs_program
+    def test_the_example(self):
+        here = os.getcwd()
+        os.chdir(FOLDER)
+        try:
+            status, output, messages = shaken(files=["config.json", "stimuli.json"])
+        finally:
+            os.chdir(here)
+        printed = documents.example("`tools/shake config.json stimuli.json` prints")
+        self.assertEqual((status, output, messages), (1, printed, ""))
+
+
+@needs_program
+class Circle(unittest.TestCase):
+    """What is found in examples/circle."""
+
+    @classmethod
+    def setUpClass(cls):
+        cls.found = report(*FEW)
+
+    def played(self, finding, stimuli=CIRCLE[1]):
+        """The lines that the program prints by the schedule of a finding, expanded by the script for that."""
+        with tempfile.TemporaryDirectory() as folder:
+            source, schedule = (os.path.join(folder, name) for name in ("source.json", "schedule.json"))
+            ending.save(source, json.dumps(finding["shorthand"]))
+            command = [os.path.join(TOOLS, "expand"), source]
+            ending.save(schedule, subprocess.run(command, capture_output=True, text=True, timeout=60).stdout)
+            return lines_of("run", CIRCLE[0], stimuli, "--schedule", schedule)
+
+    def test_the_findings(self):
+        self.assertEqual(told(self.found)[0], ("circle", [0, 1], WAITS))
+        self.assertEqual([each["kind"] for each in self.found["findings"]], ["circle", "kept", "error"])
+        self.assertEqual(told(self.found)[2], ("error", [1], [LIMIT]))
+        self.assertEqual(self.found["findings"][0]["pauses"], [{"core": 0, "first": 53, "count": 3}])
+
+    def test_each_is_played_again_by_the_program(self):
+        circle, kept, error = (self.played(each) for each in self.found["findings"])
+        self.assertEqual((circle[-1], kept[-1]), ("stalled", "stalled"))
+        self.assertIn(LIMIT, error)
+        self.assertTrue(all(each["shown"] for each in self.found["findings"]))
+
+    def test_the_schedule_of_the_example_is_the_one_that_is_found(self):
+        words = shrinking.expanded(self.found["findings"][0]["shorthand"])
+        self.assertEqual(json.loads(sample_runs.read("examples", "circle", "schedule.json")).split(), words)
+
+    def test_more_turns_change_nothing(self):
+        finding = self.found["findings"][0]
+        whole = self.played(finding)
+        more = {"shorthand": finding["shorthand"] + " 90*(0s1 0s2 0o 0l 1s0 1s2 1o 1l 2s0 2s1 2o 2l)"}
+        core_2 = whole.index("core 2")
+        self.assertEqual(self.played(more)[:core_2], whole[:core_2])
+        self.assertEqual(self.played(more)[-1], "stalled")
+
+    def test_one_turn_less_does_not_show_an_error(self):
+        words = shrinking.expanded(self.found["findings"][2]["shorthand"])
+        self.assertNotIn(LIMIT, self.played({"shorthand": " ".join(words[:-1])}))
+
+    def test_the_separate_core_never_differs(self):
+        self.assertEqual([each["differs"] > 0 for each in self.found["cores"]], [True, True, False])
+        self.assertEqual([each["standing"] for each in self.found["cores"]], ["bound", "bound", "separate"])
+
+    def test_the_same_whatever_the_number_of_processes(self):
+        self.assertEqual(report(*FEW, "--processes", "1"), self.found)
+        self.assertEqual(report(*FEW, "--processes", "3"), self.found)
+
+    def test_another_seed_finds_the_circle_too(self):
+        found = report("--seed", "4", *FEW)
+        self.assertNotEqual(found["ends"], self.found["ends"])
+        self.assertIn(("circle", [0, 1], WAITS), told(found))
+
+    def test_shards(self):
+        with tempfile.TemporaryDirectory() as folder:
+            paths = [os.path.join(folder, "%d.json" % number) for number in (1, 2, 3)]
+            for number, path in enumerate(paths, 1):
+                ending.save(path, shaken("--json", *FEW, "--shard", "%d/3" % number)[1])
+            status, output, messages = called(MAIN, "--json", "--merge", paths[1], paths[0], paths[2])
+            self.assertEqual((status, json.loads(output), messages), (1, self.found, ""))
+            status, output, messages = called(MAIN, "--merge", *paths[:2])
+            self.assertEqual((status, output, messages), (1, "", "missing: 3/3\n"))
+            self.assertEqual(called(MAIN, "--merge", paths[0], *paths)[0], 1)
+            ending.save(paths[2], shaken("--json", *FEW, "--shard", "3/3", "--seed", "2")[1])
+            self.assertIn("`seed` is not that of", called(MAIN, "--merge", *paths)[2])
+
+    def test_what_is_saved(self):
+        with tempfile.TemporaryDirectory() as folder:
+            prefix = os.path.join(folder, "found")
+            output = shaken("--save", prefix, "--more", "9", "--jitter", "6", "--schedules", "40")[1]
+            commands = [line.split("mcos ")[1].split(" ") for line in output.splitlines() if "mcos run" in line]
+            self.assertEqual(lines_of(*commands[0])[-1], "stalled")
+            self.assertEqual(commands[0][2:], [prefix + "-1-stimuli.json", "--schedule", prefix + "-1.json"])
+            ended = lines_of("run", CIRCLE[0], CIRCLE[1])
+            self.assertEqual(ended[-1], "ended")
+            self.assertNotIn("E_OS_", "".join(ended))
+
+    def test_without_its_last_pause_it_is_not_shown(self):
+        whole = Rounds.shorthand
+        with mock.patch.object(Rounds, "shorthand", lambda self, turns: whole(Rounds(self.cores, [], 99), turns)):
+            found = report("--processes", "1", "--schedules", "30")
+        self.assertEqual([each["shown"] for each in found["findings"]], [False])
+        self.assertIn("NOT SHOWN when it was played again", shake_text.text_of(found))
+
+
+@needs_program
+class Requirements(unittest.TestCase):
+    def test_met_and_not_met(self):
+        words = ["--require", "Brake lost=0", "--require", "Dump lost=0", "--schedules", "80", "--processes", "2"]
+        status, output, _ = shaken(*words)
+        self.assertEqual(status, 1)
+        lines = [line.strip() for line in output.splitlines()]
+        self.assertIn("met: Brake lost=0 (by the default schedule 0; met by all of 80 schedules)", lines)
+        self.assertIn("not met: Dump lost=0 (by schedule 65 1; not met by 1 of 80 schedules)", lines)
+        found = report(*words)
+        self.assertIn(("requirement", [], ["Dump lost=0"]), told(found))
+        self.assertTrue(all(each["shown"] for each in found["findings"]))
+
+    def test_a_clean_run(self):
+        files = [os.path.join(sample_runs.EXAMPLES, "first", name) for name in ("config.json", "stim.json")]
+        words = ["--require", "A response<=40 rounds", "--schedules", "20", "--processes", "1"]
+        status, output, messages = shaken(*words, files=files)
+        self.assertEqual((status, messages), (0, ""))
+        self.assertTrue(output.endswith("\nFindings\n  none\n"), output)
+
+    def test_one_of_a_file_that_the_default_schedule_does_not_meet(self):
+        with tempfile.TemporaryDirectory() as folder:
+            path = os.path.join(folder, "requirements.txt")
+            ending.save(path, "R-1: core 2 ticks=7\n")
+            words = ["--requirements", path, "--schedules", "2", "--processes", "1"]
+            status, output, _ = shaken(*words)
+            self.assertEqual(status, 1)
+            line = "not met: R-1: core 2 ticks=7 (by the default schedule 6; not met by 2 of 2 schedules)"
+            self.assertIn(line, output)
+            self.assertEqual(told(report(*words)), [])
+
+    def test_wrong_ones(self):
+        status, output, messages = shaken("--require", "Dmup lost=0")
+        self.assertEqual((status, output), (2, ""))
+        self.assertIn("no task and no ISR is called `Dmup`; did you mean `Dump`", messages)
+
+    def test_modes_in_conflict(self):
+        files = [os.path.join(sample_runs.EXAMPLES, "modes", name) for name in ("conflict.json", "stimuli.json")]
+        status, output, _ = shaken("--schedules", "2", "--processes", "1", files=files)
+        self.assertEqual(status, 1)
+        self.assertIn("in a conflict of modes, so no core does any work", output)
+
+
+@needs_program
+class Mistakes(unittest.TestCase):
+    """A program that breaks the promise of a separate core is told."""
+
+    def test_a_separate_core_that_differs(self):
+        with tempfile.TemporaryDirectory() as folder:
+            program = os.path.join(folder, "mcos")
+            ending.save(program, MISTAKEN % {"program": PROGRAM, "file": os.path.join(folder, "out")})
+            os.chmod(program, 0o755)
+            words = ["--schedules", "4", "--processes", "2"]
+            status, output, _ = shaken(*words, program=program)
+            self.assertEqual(status, 1)
+            self.assertIn("1. MISTAKE OF mcos: core 2 is separate, and its block differs", output)
+            found = report(*words, program=program)
+        self.assertEqual(told(found)[0], ("mistake", [2], []))
+        self.assertEqual(found["cores"][2]["differs"], 4)
+
+    def test_a_fault(self):
+        status, output, messages = shaken(files=[CIRCLE[0], CIRCLE[0]])
+        self.assertEqual((status, output), (1, ""))
+        self.assertIn("fault 12 BadStimulus; tools/explain says where", messages)
+
+
+@needs_program
+class Examples(unittest.TestCase):
+    """Of each example a few schedules: no separate core differs, and each finding is shown again."""
+
+    def test_examples(self):
+        for source in sample_runs.sources():
+            if source.schedule is None:
+                with self.subTest(files=[source.configuration, source.stimuli]), tempfile.TemporaryDirectory() as folder:
+                    player = Player(runs.Source(PROGRAM, source.configuration, source.stimuli), 0, folder)
+                    draws = shaking.Draws(1, 3, shaking.longest_for(player, 3, None), 0)
+                    shake = shaking.Shake(player, draws, ())
+                    looks = [shake.look(number) for number in range(6)]
+                    for sign, look in shake_report.signs_in(looks).items():
+                        self.assertNotEqual(sign.kind, shaking.MISTAKE)
+                        self.assertTrue(shrinking.small_of(shake, sign, look.changes).is_shown, sign)
+
+
+if __name__ == "__main__":
+    unittest.main()
