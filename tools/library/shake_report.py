@@ -5,7 +5,7 @@ with the fewest changes. So the report of all shards together is the one that is
 """
 
 from collections import Counter
-from typing import Any, Callable, Dict, Iterable, List, Sequence, Tuple
+from typing import Any, Callable, Dict, Iterable, List, Optional, Sequence, Tuple
 
 from library.ending import Failed
 from library.pausing import Change, Move, Pause, interrupts_in, moves_in, pauses_in
@@ -16,6 +16,8 @@ from library.shrinking import Small
 Report = Dict[str, Any]
 
 FORMAT = "findings of tools/shake"
+# Of a requirement, before the first schedule is judged.
+_NOT_JUDGED = {"least": None, "greatest": None, "unit": None, "not_met": 0, "schedule": None, "found": None}
 # What the shards of one shake have in common.
 _COMMON = ("format", "configuration", "stimuli", "seed", "schedules", "pauses", "longest", "jitter", "more", "default")
 
@@ -63,7 +65,10 @@ def _errors(shake: Shake, drawn: Sequence[Look]) -> List[Report]:
 
 
 def _requirements(looks: Sequence[Look]) -> List[Report]:
-    """In how many of the drawn schedules each requirement is not met, and what was found in the first of all that is."""
+    """In how many of the drawn schedules each requirement is not met, and the first of all that does not meet it.
+
+    Also the least and the greatest of what was judged, in all schedules with the default one.
+    """
     found: Dict[str, Report] = {}
     for look in looks:
         for verdict in look.verdicts:
@@ -71,13 +76,20 @@ def _requirements(looks: Sequence[Look]) -> List[Report]:
             row = {"text": verdict.text, "id": None, "path": None, "line": None}
             if given is not None:
                 row.update({"id": given.id, "path": given.path, "line": given.line})
-            row = found.setdefault(repr(row), {**row, "not_met": 0, "schedule": None, "found": verdict.found})
-            if verdict.is_met:
-                continue
-            row["not_met"] += bool(look.number)
-            if row["schedule"] is None:
+            row = found.setdefault(repr(row), {**row, **_NOT_JUDGED})
+            row["least"] = _of_known(min, [row["least"], *verdict.values])
+            row["greatest"] = _of_known(max, [row["greatest"], *verdict.values])
+            row["unit"] = row["unit"] or verdict.unit
+            row["not_met"] += bool(look.number and not verdict.is_met)
+            if row["schedule"] is None and not verdict.is_met:
                 row.update({"schedule": look.number, "found": verdict.found})
     return list(found.values())
+
+
+def _of_known(choose: Callable[[List[float]], float], values: Sequence[Optional[float]]) -> Optional[float]:
+    """The least or the greatest of some values, without those that are not known; None if none is."""
+    known = [value for value in values if value is not None]
+    return choose(known) if known else None
 
 
 def _findings(shake: Shake, looks: Sequence[Look], smalls: Sequence[Small]) -> List[Report]:
@@ -192,7 +204,13 @@ def _joined_requirements(parts: Sequence[Report]) -> List[Report]:
     for rows in _by_key(parts, "requirements", ("text", "id", "path", "line")):
         unmet = [row for row in rows if row["schedule"] is not None]
         first = min(unmet, key=lambda row: row["schedule"], default=rows[0])
-        found.append({**first, "not_met": sum(row["not_met"] for row in rows)})
+        joined = {
+            "least": _of_known(min, [row["least"] for row in rows]),
+            "greatest": _of_known(max, [row["greatest"] for row in rows]),
+            "unit": next((row["unit"] for row in rows if row["unit"]), None),
+            "not_met": sum(row["not_met"] for row in rows),
+        }
+        found.append({**first, **joined})
     return found
 
 

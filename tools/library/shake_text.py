@@ -55,13 +55,23 @@ def _run(report: Report) -> List[str]:
 
 
 def _verdict(report: Report, row: Report) -> str:
-    """Whether a requirement is met by all schedules."""
+    """Whether a requirement is met by all schedules, and within which bounds its figure is in all of them."""
     title = row["text"] if row["id"] is None else "%s: %s" % (row["id"], row["text"])
     played = counted(played_in(report), "schedule")
+    bounds = _bounds(row)
     if row["schedule"] is None:
-        return "met: %s (by the default schedule %s; met by all of %s)" % (title, row["found"], played)
-    where = "by the default schedule" if row["schedule"] == 0 else "by schedule %d" % row["schedule"]
-    return "not met: %s (%s %s; not met by %d of %s)" % (title, where, row["found"], row["not_met"], played)
+        return "met: %s (%s in all of %s)" % (title, bounds, played)
+    first = "the default one" if row["schedule"] == 0 else "%d" % row["schedule"]
+    unmet = "not met by %d of %s, first by %s: %s" % (row["not_met"], played, first, row["found"])
+    return "not met: %s (%s%s)" % (title, bounds + "; " if bounds else "", unmet)
+
+
+def _bounds(row: Report) -> str:
+    """The least and the greatest of what a requirement is on; nothing if no schedule has it."""
+    if row["least"] is None:
+        return ""
+    text = "%g" % row["least"] if row["least"] == row["greatest"] else "%g to %g" % (row["least"], row["greatest"])
+    return "%s %s" % (text, row["unit"]) if row["unit"] else text
 
 
 # ---------------------------------------------------------------------------------------------------------------------

@@ -310,8 +310,8 @@ class Requirements(unittest.TestCase):
         status, output, _ = shaken(*words)
         self.assertEqual(status, 1)
         lines = [line.strip() for line in output.splitlines()]
-        self.assertIn("met: Brake lost=0 (by the default schedule 0; met by all of 80 schedules)", lines)
-        self.assertIn("not met: Dump lost=0 (by schedule 65 1; not met by 1 of 80 schedules)", lines)
+        self.assertIn("met: Brake lost=0 (0 in all of 80 schedules)", lines)
+        self.assertIn("not met: Dump lost=0 (0 to 1; not met by 1 of 80 schedules, first by 65: 1)", lines)
         found = report(*words)
         self.assertIn(("requirement", [], ["Dump lost=0"]), told(found))
         self.assertTrue(all(each["shown"] for each in found["findings"]))
@@ -330,9 +330,21 @@ class Requirements(unittest.TestCase):
             words = ["--requirements", path, "--schedules", "2", "--processes", "1"]
             status, output, _ = shaken(*words)
             self.assertEqual(status, 1)
-            line = "not met: R-1: core 2 ticks=7 (by the default schedule 6; not met by 2 of 2 schedules)"
+            line = "not met: R-1: core 2 ticks=7 (6; not met by 2 of 2 schedules, first by the default one: 6)"
             self.assertIn(line, output)
             self.assertEqual(told(report(*words)), [])
+
+    def test_shards(self):
+        words = ["--require", "Dump response<=12 rounds", "--require", "chain X > Y open=0", "--schedules", "12"]
+        with tempfile.TemporaryDirectory() as folder:
+            paths = [os.path.join(folder, "%d.json" % number) for number in (1, 2)]
+            for number, path in enumerate(paths, 1):
+                ending.save(path, shaken("--json", "--shard", "%d/2" % number, *words)[1])
+            merged = json.loads(called(MAIN, "--json", "--merge", *reversed(paths))[1])
+        self.assertEqual(merged, report(*words))
+        response, chain = merged["requirements"]
+        self.assertLess(response["least"], response["greatest"])
+        self.assertEqual((chain["schedule"], chain["not_met"], chain["greatest"]), (0, 12, None))
 
     def test_wrong_ones(self):
         status, output, messages = shaken("--require", "Dmup lost=0")
