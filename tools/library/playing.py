@@ -24,8 +24,8 @@ ENDS = (ENDED, STALLED, UNFINISHED)
 Blocks = Dict[int, Tuple[str, ...]]
 # How many rounds a schedule has beyond those of the default one and the pauses.
 _SPARE = 20
-# So many runs are kept: those that making a finding small asks for again.
-_KEPT = 512
+# So many runs are kept: making a finding small asks for some of them again.
+_KEPT = 32
 
 
 @dataclass(frozen=True)

@@ -8,10 +8,12 @@ import random
 from dataclasses import dataclass
 from typing import Any, Dict, List, NamedTuple, Optional, Sequence, Tuple
 
+from library.ending import Failed
 from library.error_lines import ErrorLine, error_lines
 from library.figures import figures_of
+from library.findings import counted
 from library.model import SEPARATE, model_of
-from library.pausing import Changes, Move, Pause, interrupts_in, moves_in
+from library.pausing import Changes, Move, Pause, interrupts_in, most_rounds, moves_in
 from library.playing import ENDED, STALLED, Outcome, Player
 from library.requirements import Requirement, Verdict, judge_given
 
@@ -163,6 +165,10 @@ def unmet(verdict: Verdict) -> Sign:
 
 
 def longest_for(player: Player, pauses: int, given: Optional[int]) -> int:
-    """How many rounds a pause may have: so many as a schedule has room for, by default a quarter of the default ones."""
+    """How many rounds a pause may have, by default a quarter of the default ones; all pauses have to fit in a schedule."""
+    if player.spare_rounds < pauses:
+        text = "the default schedule has %d rounds, and a schedule of %s at most %d: no pauses fit in"
+        cores = counted(len(player.cores), "core")
+        raise Failed(text % (player.default.rounds, cores, most_rounds(player.cores)))
     wanted = max(4, player.default.rounds // 4) if given is None else given
     return max(1, min(wanted, player.spare_rounds // pauses))

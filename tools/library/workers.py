@@ -2,6 +2,7 @@
 
 import multiprocessing
 import os
+import signal
 from types import TracebackType
 from typing import Any, Callable, Iterable, List, Optional, Tuple, Type
 
@@ -23,7 +24,7 @@ class Workers:
     def __init__(self, shake: Shake, count: int):
         _prepare(shake)
         context = multiprocessing.get_context("fork")
-        self._pool = context.Pool(count, _prepare, (shake,)) if count > 1 else None
+        self._pool = context.Pool(count, _begin, (shake,)) if count > 1 else None
 
     def __enter__(self) -> "Workers":
         return self
@@ -51,9 +52,15 @@ class Workers:
 
 
 def _prepare(shake: Shake) -> None:
-    """Begins a process."""
+    """Says of which shake the schedules are."""
     global _shake
     _shake = shake
+
+
+def _begin(shake: Shake) -> None:
+    """Begins a process. If the user interrupts the tool, the first process ends the others."""
+    signal.signal(signal.SIGINT, signal.SIG_IGN)
+    _prepare(shake)
 
 
 def _look(number: int) -> Look:

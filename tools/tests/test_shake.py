@@ -2,11 +2,13 @@
 
 import json
 import os
+import re
 import runpy
 import subprocess
 import sys
 import tempfile
 import unittest
+from types import SimpleNamespace
 from unittest import mock
 
 sys.path.insert(0, os.path.dirname(os.path.abspath(__file__)))
@@ -38,6 +40,13 @@ case "$*" in
   *) exec %(program)s "$@" ;;
 esac
 """
+
+# A core that drains while it holds a spinlock, if it has few stimuli, and one that waits for it.
+KEPT = """{"spinlocks": [{"name": "L"}], "cores": [
+  {"id": 0, "start": [1], "tasks": [
+    {"name": "A", "prio": 1, "auto": ["M"], "script": "GetSpinlock L;work;work;ReleaseSpinlock L;TerminateTask"}]},
+  {"id": 1, "tasks": [
+    {"name": "B", "prio": 1, "auto": ["M"], "script": "work;GetSpinlock L;ReleaseSpinlock L;TerminateTask"}]}]}"""
 
 # Lines of a block, and what is counted of them.
 ERRORS = [
@@ -202,6 +211,12 @@ class Documents(unittest.TestCase):
         self.assertEqual(help_texts.described("shake") - {"--json"}, set(options) - {"--json", "--mcos"})
 
     @needs_program
+    def test_the_members_of_a_finding(self):
+        rows = help_texts.section("shake").split("| Member | What it is |\n")[1].split("\n\n")[0].splitlines()[1:]
+        members = [name for row in rows for name in re.findall(r"`(\w+)`", row.split("|")[1])]
+        self.assertEqual(list(report(*FEW)["findings"][0]), members)
+
+    @needs_program
     def test_the_example(self):
         here = os.getcwd()
         os.chdir(FOLDER)
@@ -306,15 +321,15 @@ class Circle(unittest.TestCase):
 @needs_program
 class Requirements(unittest.TestCase):
     def test_met_and_not_met(self):
-        words = ["--require", "Brake lost=0", "--require", "Dump lost=0", "--schedules", "80", "--processes", "2"]
-        status, output, _ = shaken(*words)
-        self.assertEqual(status, 1)
-        lines = [line.strip() for line in output.splitlines()]
-        self.assertIn("met: Brake lost=0 (0 in all of 80 schedules)", lines)
-        self.assertIn("not met: Dump lost=0 (0 to 1; not met by 1 of 80 schedules, first by 65: 1)", lines)
+        words = ["--require", "Brake lost=0", "--require", "Dump response<=9 rounds", "--schedules", "12"]
         found = report(*words)
-        self.assertIn(("requirement", [], ["Dump lost=0"]), told(found))
-        self.assertTrue(all(each["shown"] for each in found["findings"]))
+        self.assertEqual(told(found), [("requirement", [], ["Dump response<=9 rounds"])])
+        self.assertTrue(found["findings"][0]["shown"])
+        self.assertFalse(shake_report.is_clean(found))
+        text = shake_text.text_of(found)
+        self.assertIn("  met: Brake lost=0 (0 in all of 12 schedules)\n", text)
+        unmet = "(6 to 15 rounds; not met by 2 of 12 schedules, first by 2: 6 to 15 rounds)"
+        self.assertIn("  not met: Dump response<=9 rounds %s\n" % unmet, text)
 
     def test_a_clean_run(self):
         files = [os.path.join(sample_runs.EXAMPLES, "first", name) for name in ("config.json", "stim.json")]
@@ -356,6 +371,36 @@ class Requirements(unittest.TestCase):
         status, output, _ = shaken("--schedules", "2", "--processes", "1", files=files)
         self.assertEqual(status, 1)
         self.assertIn("in a conflict of modes, so no core does any work", output)
+
+
+@needs_program
+class Stalls(unittest.TestCase):
+    """A run that stalls by the default schedule, since its stimuli are short."""
+
+    def test_more_stimuli_help(self):
+        with sample_runs.written(KEPT, {"0": "op op", "1": "op op"}) as source:
+            files = [source.configuration, source.stimuli]
+            status, output, _ = shaken("--schedules", "3", files=files)
+            self.assertEqual(status, 1)
+            self.assertIn("default schedule: stalled, ", output)
+            self.assertIn("in 3 schedules, by the default schedule too\n", output)
+            self.assertIn("     core 0 has drained, and its A holds L\n     core 1: B waits for L\n", output)
+            self.assertEqual(shaken("--schedules", "3", "--more", "9", files=files)[0], 0)
+
+    def test_too_many_stimuli(self):
+        with sample_runs.written(KEPT, {"0": "op"}) as source:
+            status, output, messages = shaken("--more", "100000", files=[source.configuration, source.stimuli])
+            self.assertEqual((status, output), (1, ""))
+            self.assertEqual(messages, "core 0 would have 100001 stimuli, and at most 100000 are allowed\n")
+
+    def test_a_run_that_no_schedule_has_room_for(self):
+        player = SimpleNamespace(cores=[0, 1], default=SimpleNamespace(rounds=400), spare_rounds=9)
+        self.assertEqual(shaking.longest_for(player, 4, None), 2)
+        self.assertEqual(shaking.longest_for(player, 4, 1), 1)
+        player.spare_rounds = 3
+        text = "the default schedule has 400 rounds, and a schedule of 2 cores at most 166666: no pauses fit in"
+        with self.assertRaisesRegex(ending.Failed, text):
+            shaking.longest_for(player, 4, None)
 
 
 @needs_program
