@@ -138,7 +138,8 @@ class Player:
 
     def _outcome(self, changes: Changes) -> Outcome:
         """Plays a run with changes, by more and more rounds, until it ends or one more round changes nothing."""
-        count = min(self.default.rounds + sum(each.count for each in pauses_in(changes)) + _SPARE, most_rounds(self.cores))
+        pauses = sum(pause.count for pause in pauses_in(changes))
+        count = min(self.default.rounds + pauses + _SPARE, most_rounds(self.cores))
         while True:
             printed = self.source_of(changes, " ".join(self.rounds(changes, count).words)).printed()
             blocks = blocks_of(printed.text)

@@ -5,6 +5,7 @@ with the fewest changes. So the report of all shards together is the one that is
 """
 
 from collections import Counter
+from dataclasses import asdict
 from typing import Any, Callable, Dict, Iterable, List, Optional, Sequence, Tuple
 
 from library.ending import Failed
@@ -72,11 +73,8 @@ def _requirements(looks: Sequence[Look]) -> List[Report]:
     found: Dict[str, Report] = {}
     for look in looks:
         for verdict in look.verdicts:
-            given = verdict.requirement
-            row = {"text": verdict.text, "id": None, "path": None, "line": None}
-            if given is not None:
-                row.update({"id": given.id, "path": given.path, "line": given.line})
-            row = found.setdefault(repr(row), {**row, **_NOT_JUDGED})
+            given = asdict(verdict.requirement)
+            row = found.setdefault(repr(given), {**given, **_NOT_JUDGED})
             row["least"] = _of_known(min, [row["least"], *verdict.values])
             row["greatest"] = _of_known(max, [row["greatest"], *verdict.values])
             row["unit"] = row["unit"] or verdict.unit

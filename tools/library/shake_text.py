@@ -8,6 +8,7 @@ from library.columns import columns
 from library.findings import counted
 from library.pausing import Move, moved, moves_in
 from library.playing import ENDED, Stimuli, stimuli_text
+from library.requirements import Requirement, Verdict
 from library.shake_report import Report, changes_in
 from library.shaking import CIRCLE, ERROR, KEPT, MISTAKE, REQUIREMENT, STALL
 from library.shrinking import expanded
@@ -16,6 +17,11 @@ _TITLES = {
     CIRCLE: "a circle of waits",
     KEPT: "a spinlock kept by a core that has drained (--more gives it more stimuli)",
     STALL: "the run stalls",
+}
+_WISHES = {
+    CIRCLE: "no circle of waits",
+    KEPT: "no spinlock is kept by a core that has drained",
+    STALL: "no run stalls",
 }
 Paths = Sequence[Tuple[str, str]]
 
@@ -55,15 +61,20 @@ def _run(report: Report) -> List[str]:
 
 
 def _verdict(report: Report, row: Report) -> str:
-    """Whether a requirement is met by all schedules, and within which bounds its figure is in all of them."""
+    """Whether a requirement is met by all schedules."""
     title = row["text"] if row["id"] is None else "%s: %s" % (row["id"], row["text"])
+    return "%s: %s (%s)" % ("met" if row["schedule"] is None else "not met", title, _detail(report, row))
+
+
+def _detail(report: Report, row: Report) -> str:
+    """Within which bounds the figure of a requirement is in all schedules, and which one does not meet it first."""
     played = counted(played_in(report), "schedule")
     bounds = _bounds(row)
     if row["schedule"] is None:
-        return "met: %s (%s in all of %s)" % (title, bounds, played)
+        return "%s in all of %s" % (bounds, played)
     first = "the default one" if row["schedule"] == 0 else "%d" % row["schedule"]
     unmet = "not met by %d of %s, first by %s: %s" % (row["not_met"], played, first, row["found"])
-    return "not met: %s (%s%s)" % (title, bounds + "; " if bounds else "", unmet)
+    return "%s; %s" % (bounds, unmet) if bounds else unmet
 
 
 def _bounds(row: Report) -> str:
@@ -72,6 +83,31 @@ def _bounds(row: Report) -> str:
         return ""
     text = "%g" % row["least"] if row["least"] == row["greatest"] else "%g to %g" % (row["least"], row["greatest"])
     return "%s %s" % (text, row["unit"]) if row["unit"] else text
+
+
+def verdicts_of(report: Report) -> List[Verdict]:
+    """The report as verdicts, for a CI: on each requirement, and that nothing else is found, or one for each finding."""
+    found = []
+    for row in report["requirements"]:
+        requirement = Requirement(row["text"], row["id"], row["path"], row["line"])
+        detail = _detail(report, row)
+        found.append(Verdict(row["text"], row["schedule"] is None, detail, requirement))
+    if report["default"]["conflict"]:
+        found.append(Verdict("the cores agree on a mode", False, "their modes are in conflict"))
+    others = [each for each in report["findings"] if each["kind"] != REQUIREMENT]
+    if not others:
+        found.append(Verdict("nothing is found", True, "by %s" % counted(played_in(report), "schedule")))
+    return found + [Verdict(_wish(each), False, "; ".join(_seen(each))) for each in others]
+
+
+def _wish(finding: Report) -> str:
+    """What should be in place of a finding."""
+    if finding["kind"] in _WISHES:
+        return _WISHES[finding["kind"]]
+    core = finding["cores"][0]
+    if finding["kind"] == MISTAKE:
+        return "core %d, which is separate, prints the same by each schedule" % core
+    return "core %d does not print `%s`" % (core, finding["lines"][0])
 
 
 # ---------------------------------------------------------------------------------------------------------------------
@@ -110,18 +146,24 @@ def _title(finding: Report) -> str:
 
 def _finding(report: Report, finding: Report, number: int, saved: Any) -> List[str]:
     """A finding: how often it was seen, what has to come together for it, and how it is played again."""
-    times = "in %s" % counted(finding["times"], "schedule")
-    by = "by the default schedule too" if finding["schedule"] == 0 else "first in %d" % finding["schedule"]
-    lines = ["%d. %s, %s, %s" % (number, _title(finding), times, by)]
-    if finding["kind"] in (CIRCLE, KEPT):
-        lines += ["   " + line for line in finding["lines"]]
-    words = {(each["core"], each["interrupt"]): each["word"] for each in finding["moves"]}
-    for change in changes_in(finding):
-        word = " (%s)" % words[change.core, change.interrupt] if isinstance(change, Move) else ""
-        lines.append("   if %s%s" % (change, word))
+    times, *seen = _seen(finding)
+    lines = ["%d. %s, %s" % (number, _title(finding), times)] + ["   " + line for line in seen]
     lines += ["   with it %s" % _title(other) for other in finding["others"]]
     lines.append("   %d turns, %d rounds: %s" % (finding["turns"], finding["rounds"], _command(report, finding, saved)))
     return lines if finding["shown"] else lines + ["   NOT SHOWN when it was played again"]
+
+
+def _seen(finding: Report) -> List[str]:
+    """How often a finding was seen, who waits for whom, and what has to come together for it."""
+    by = "by the default schedule too" if finding["schedule"] == 0 else "first in %d" % finding["schedule"]
+    lines = ["in %s, %s" % (counted(finding["times"], "schedule"), by)]
+    if finding["kind"] in (CIRCLE, KEPT):
+        lines += finding["lines"]
+    words = {(each["core"], each["interrupt"]): each["word"] for each in finding["moves"]}
+    for change in changes_in(finding):
+        word = " (%s)" % words[change.core, change.interrupt] if isinstance(change, Move) else ""
+        lines.append("if %s%s" % (change, word))
+    return lines
 
 
 def _command(report: Report, finding: Report, saved: Any) -> str:

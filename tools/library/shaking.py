@@ -12,6 +12,7 @@ from library.ending import Failed
 from library.error_lines import ErrorLine, error_lines
 from library.figures import figures_of
 from library.findings import counted
+from library.jobs import Jobs
 from library.model import SEPARATE, model_of
 from library.pausing import Changes, Move, Pause, interrupts_in, most_rounds, moves_in
 from library.playing import ENDED, STALLED, Outcome, Player
@@ -132,8 +133,13 @@ class Shake:
         return sign in self.signs(changes, outcome)
 
     def verdicts(self, changes: Changes) -> Tuple[Verdict, ...]:
-        """Whether a run with changes meets the requirements."""
-        return tuple(judge_given(figures_of(self.player.jobs(changes)), self.wanted))
+        """Whether a run with changes meets the requirements. Why it stalls is a finding of its own."""
+        return self.judge(self.player.jobs(changes))
+
+    def judge(self, jobs: Jobs) -> Tuple[Verdict, ...]:
+        """Whether a run meets the requirements that were given."""
+        verdicts = judge_given(figures_of(jobs), self.wanted)
+        return tuple(verdict for verdict in verdicts if verdict.requirement is not None)
 
     def _differs(self, core: int, outcome: Outcome) -> bool:
         """Whether a core's block differs from that of the default schedule."""
@@ -165,7 +171,7 @@ def unmet(verdict: Verdict) -> Sign:
 
 
 def longest_for(player: Player, pauses: int, given: Optional[int]) -> int:
-    """How many rounds a pause may have, by default a quarter of the default ones; all pauses have to fit in a schedule."""
+    """How many rounds a pause may have, by default a quarter of the default ones; all pauses fit in a schedule."""
     if player.spare_rounds < pauses:
         text = "the default schedule has %d rounds, and a schedule of %s at most %d: no pauses fit in"
         cores = counted(len(player.cores), "core")

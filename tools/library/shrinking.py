@@ -9,11 +9,9 @@ from typing import Callable, Iterator, List, Tuple
 
 from library import expanding
 from library.error_lines import ErrorLine, error_lines
-from library.figures import figures_of
 from library.jobs import jobs_of
 from library.pausing import Change, Changes, Move, Pause, Rounds
 from library.places import read_document
-from library.requirements import judge_given
 from library.runs import Run
 from library.shaking import CIRCLE, ERROR, KEPT, MISTAKE, REQUIREMENT, STALL, Shake, Sign, unmet
 from library.stalls import stalls_of
@@ -142,7 +140,7 @@ def _is_shown(shake: Shake, sign: Sign, run: Run) -> bool:
     if sign.kind == MISTAKE:
         return run.blocks[sign.cores[0]] != shake.player.default.blocks[sign.cores[0]]
     if sign.kind == REQUIREMENT:
-        verdicts = judge_given(figures_of(jobs_of(timeline_of(run))), shake.wanted)
+        verdicts = shake.judge(jobs_of(timeline_of(run)))
         return any(unmet(verdict) == sign for verdict in verdicts if not verdict.is_met)
     found = [(stall.cores, stall.lines) for stall in stalls_of(run)]
     return not run.has_ended and (sign.kind == STALL or (sign.cores, sign.lines) in found)

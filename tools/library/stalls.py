@@ -42,7 +42,8 @@ def stalls_of(run: Run) -> List[Stall]:
         elif asked is not None:
             waiting[core] = asked
     circles = [_circle(cores, waiting, holding) for cores in _circles(waiting, holding)]
-    return circles + [_kept(holder, waiting) for _, holder in sorted(holding.items()) if _is_kept(holder, done, waiting)]
+    kept = [holder for _, holder in sorted(holding.items()) if _is_kept(holder, done, waiting)]
+    return circles + [_kept(holder, waiting) for holder in kept]
 
 
 def _grips(items: List[Item]) -> Tuple[Optional[Grip], Dict[str, Grip]]:

@@ -24,7 +24,7 @@ def options(words):
     for action in words._actions:
         for name in action.option_strings:
             if name.startswith("--") and name != "--help":
-                found[name] = action.metavar if action.nargs != 0 else None
+                found[name] = (action.metavar or action.dest.upper()) if action.nargs != 0 else None
     return found
 
 

@@ -102,7 +102,8 @@ class Counts(unittest.TestCase):
         seen = Seen(run.draft)
         seen.add(run)
         self.assertEqual(seen.spots, {Spot("point", 0, "S", 0)})
-        self.assertEqual(kinds(covering.coverage_of(seen)), {"operation": (2, 0), "way": (0, 0), "alarm": (0, 0), "point": (1, 1)})
+        wanted = {"operation": (2, 0), "way": (0, 0), "alarm": (0, 0), "point": (1, 1)}
+        self.assertEqual(kinds(covering.coverage_of(seen)), wanted)
 
     def test_nothing_to_see(self):
         found = coverage_of(runs.run_of('{"cores": [{"id": 0}]}', {0: []}, {0: []}))
@@ -141,7 +142,8 @@ class Runs(unittest.TestCase):
             with self.subTest(way=way), sample_runs.written(WAYS % variable, {"0": "op op op op op op"}) as source:
                 text = coverage_text.text_of(coverage_of(runs.read_run(source)))
                 never = text.split("Never seen\n")[1].split("\n\n")[0].splitlines()
-                wanted = (NEVER % (variable, way, operation)).splitlines() + ["  core 0  task U  never ran, 1 operation"]
+                wanted = (NEVER % (variable, way, operation)).splitlines()
+                wanted.append("  core 0  task U  never ran, 1 operation")
                 self.assertEqual(sorted(never), sorted(wanted))
 
     def test_several_runs_together(self):
@@ -181,7 +183,7 @@ class Runs(unittest.TestCase):
         self.assertIn("fault 12 BadStimulus; tools/explain says where", messages)
 
     def test_the_statuses_of_the_examples(self):
-        """Each status of a job's service is one of those that the service can return, and each line `stat` is counted."""
+        """Each status of a job's service is one of its own, and each line `stat` is counted."""
         for source in sample_runs.sources():
             run = runs.read_run(source)
             seen = Seen(run.draft)

@@ -10,6 +10,7 @@ import tempfile
 import unittest
 from types import SimpleNamespace
 from unittest import mock
+from xml.etree import ElementTree
 
 sys.path.insert(0, os.path.dirname(os.path.abspath(__file__)))
 import documents  # noqa: E402
@@ -77,6 +78,8 @@ WRONG_USAGE = [
     ("a", "b", "--shard", "1"),
     ("a", "b", "--jitter", "-1"),
     ("a", "b", "--merge", "c"),
+    ("a", "b", "--json", "--format", "tap"),
+    ("a", "b", "--format", "xml"),
 ]
 
 
@@ -330,6 +333,32 @@ class Requirements(unittest.TestCase):
         self.assertIn("  met: Brake lost=0 (0 in all of 12 schedules)\n", text)
         unmet = "(6 to 15 rounds; not met by 2 of 12 schedules, first by 2: 6 to 15 rounds)"
         self.assertIn("  not met: Dump response<=9 rounds %s\n" % unmet, text)
+
+    def test_verdicts(self):
+        words = ["--schedules", "23", "--require", "Dump lost=0", "--require", "Dump response<=9 rounds"]
+        with tempfile.TemporaryDirectory() as folder:
+            path = os.path.join(folder, "requirements.txt")
+            ending.save(path, "R-1: Brake lost=0\n")
+            status, output, messages = shaken("--format", "text", *words, "--requirements", path)
+            suite = ElementTree.fromstring(shaken("--format", "junit", *words, "--requirements", path)[1].encode())[0]
+        self.assertEqual((status, messages), (1, ""))
+        lines = output.splitlines()
+        self.assertEqual(lines[0], "met: Dump lost=0 (0 in all of 23 schedules)")
+        self.assertEqual(lines[2], "met: R-1: Brake lost=0 (0 in all of 23 schedules)")
+        self.assertTrue(lines[1].startswith("not met: Dump response<=9 rounds ("))
+        circle = "; ".join(["in 2 schedules, first in 23", *WAITS, "if core 0 pauses in the rounds 53 to 55"])
+        self.assertEqual(lines[3:], ["not met: no circle of waits (%s)" % circle])
+        self.assertEqual([suite.get(name) for name in ("tests", "failures", "errors")], ["4", "2", "0"])
+        self.assertEqual((suite[2].get("name"), suite[2].get("file")), ("R-1: Brake lost=0", path))
+
+    def test_verdicts_on_a_clean_run_and_on_a_fault(self):
+        files = [os.path.join(sample_runs.EXAMPLES, "first", name) for name in ("config.json", "stim.json")]
+        status, output, _ = shaken("--format", "tap", "--schedules", "3", files=files)
+        self.assertEqual((status, output), (0, "TAP version 13\n1..1\nok 1 - nothing is found\n"))
+        status, output, messages = shaken("--format", "tap", files=files[:1] * 2)
+        self.assertEqual((status, output.splitlines()[:1]), (1, ["TAP version 13"]))
+        self.assertIn("Bail out! ", output)
+        self.assertIn("fault 12 BadStimulus", messages)
 
     def test_a_clean_run(self):
         files = [os.path.join(sample_runs.EXAMPLES, "first", name) for name in ("config.json", "stim.json")]
