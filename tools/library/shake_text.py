@@ -106,7 +106,7 @@ def _wish(finding: Report) -> str:
         return _WISHES[finding["kind"]]
     core = finding["cores"][0]
     if finding["kind"] == MISTAKE:
-        return "core %d, which is separate, prints the same by each schedule" % core
+        return "the block of core %d does not differ" % core
     return "core %d does not print `%s`" % (core, finding["lines"][0])
 
 
@@ -136,7 +136,7 @@ def _title(finding: Report) -> str:
     """What was found."""
     kind = finding["kind"]
     if kind == MISTAKE:
-        return "MISTAKE OF mcos: core %d is separate, and its block differs" % finding["cores"][0]
+        return "MISTAKE OF mcos: the block of core %d differs, and must not" % finding["cores"][0]
     if kind == REQUIREMENT:
         return "not met: %s" % finding["lines"][0]
     if kind == ERROR:

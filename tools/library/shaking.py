@@ -19,7 +19,7 @@ from library.playing import ENDED, STALLED, Outcome, Player
 from library.requirements import Requirement, Verdict, judge_given
 
 # The kinds of findings, the gravest first.
-MISTAKE = "mistake"  # of mcos: what a separate core prints depends on the schedule
+MISTAKE = "mistake"  # of mcos: what a core prints differs where it must not
 CIRCLE = "circle"
 KEPT = "kept"
 STALL = "stall"  # for another reason
@@ -146,11 +146,14 @@ class Shake:
         return outcome.blocks[core] != self.player.default.blocks[core]
 
     def _is_mistaken(self, core: int, changes: Changes, outcome: Outcome) -> bool:
-        """Whether a separate core prints what it may not, if its own stimuli are the same.
+        """Whether a core prints what it must not.
 
-        Its block is always a prefix of what it prints alone, and all of that if the run ended.
+        By the turns of the default schedule each core prints the same as without a list of turns. What a separate core
+        prints is always a prefix of what it prints alone, and all of that if the run ended; its stimuli are the same.
         """
         default = self.player.default
+        if not changes:
+            return self._differs(core, outcome)
         if self.standings[core] != SEPARATE or _moves(core, changes):
             return False
         if outcome.end == ENDED and default.end == ENDED:

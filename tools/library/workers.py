@@ -3,12 +3,17 @@
 import multiprocessing
 import os
 import signal
+import sys
+import time
 from types import TracebackType
-from typing import Any, Callable, Iterable, List, Optional, Tuple, Type
+from typing import Any, Callable, Iterable, Iterator, List, Optional, Sequence, Tuple, Type
 
 from library.pausing import Changes
 from library.shaking import Look, Shake, Sign
 from library.shrinking import Small, small_of
+
+# How often one who waits sees how far it is.
+_SECONDS = 2
 
 _shake: Optional[Shake] = None  # of this process
 
@@ -36,19 +41,31 @@ class Workers:
             self._pool.terminate()
             self._pool.join()
 
-    def looks(self, numbers: Iterable[int]) -> List[Look]:
+    def looks(self, numbers: Sequence[int]) -> List[Look]:
         """What the schedules of some numbers show."""
-        return self._done(_look, numbers)
+        return self._done(_look, numbers, "schedules")
 
-    def smalls(self, found: Iterable[Tuple[Sign, Changes]]) -> List[Small]:
+    def smalls(self, found: Sequence[Tuple[Sign, Changes]]) -> List[Small]:
         """Small schedules for findings, each with changes that show it."""
-        return self._done(_small, found)
+        return self._done(_small, found, "findings made small")
 
-    def _done(self, work: Callable[[Any], Any], values: Iterable[Any]) -> List[Any]:
+    def _done(self, work: Callable[[Any], Any], values: Sequence[Any], what: str) -> List[Any]:
         """The results of some work for each value, in the order of the values."""
-        if self._pool is None:
-            return [work(value) for value in values]
-        return self._pool.map(work, values, 1)
+        results = map(work, values) if self._pool is None else self._pool.imap(work, values)
+        return list(_watched(results, len(values), what))
+
+
+def _watched(results: Iterable[Any], count: int, what: str) -> Iterator[Any]:
+    """Results as they come. Someone who waits for them at a terminal sees how many there are."""
+    is_seen = sys.stderr is not None and sys.stderr.isatty()
+    last = time.monotonic()
+    for number, result in enumerate(results, 1):
+        if is_seen and time.monotonic() - last >= _SECONDS:
+            print("\r%d of %d %s" % (number, count, what), end="", file=sys.stderr, flush=True)
+            last = time.monotonic()
+        yield result
+    if is_seen:
+        print("\r\033[K", end="", file=sys.stderr, flush=True)
 
 
 def _prepare(shake: Shake) -> None:

@@ -20,7 +20,7 @@ from sample_runs import PROGRAM, TOOLS, called, needs_program  # noqa: E402
 from library import ending, pausing, runs, shake_report, shake_text, shaking, shrinking, stalls  # noqa: E402
 from library.error_lines import ErrorLine, error_lines  # noqa: E402
 from library.pausing import Move, Pause, Rounds  # noqa: E402
-from library.playing import Player  # noqa: E402
+from library.playing import Outcome, Player  # noqa: E402
 from library.stalls import Grip  # noqa: E402
 
 SHAKE = runpy.run_path(os.path.join(TOOLS, "shake"))
@@ -422,6 +422,13 @@ class Stalls(unittest.TestCase):
             self.assertEqual((status, output), (1, ""))
             self.assertEqual(messages, "core 0 would have 100001 stimuli, and at most 100000 are allowed\n")
 
+    def test_a_run_that_goes_on_where_a_schedule_is_full(self):
+        with tempfile.TemporaryDirectory() as folder:
+            player = Player(runs.Source(PROGRAM, *CIRCLE), 0, folder)
+            with mock.patch("library.playing.most_rounds", lambda cores: 130):
+                self.assertEqual(player.outcome((Pause(0, 10, 9),)).end, "ended")
+                self.assertEqual(player.outcome((Pause(0, 10, 90),)).end, "unfinished")
+
     def test_a_run_that_no_schedule_has_room_for(self):
         player = SimpleNamespace(cores=[0, 1], default=SimpleNamespace(rounds=400), spare_rounds=9)
         self.assertEqual(shaking.longest_for(player, 4, None), 2)
@@ -444,10 +451,28 @@ class Mistakes(unittest.TestCase):
             words = ["--schedules", "4", "--processes", "2"]
             status, output, _ = shaken(*words, program=program)
             self.assertEqual(status, 1)
-            self.assertIn("1. MISTAKE OF mcos: core 2 is separate, and its block differs", output)
+            self.assertIn("1. MISTAKE OF mcos: the block of core 2 differs, and must not, in 4 schedules", output)
             found = report(*words, program=program)
         self.assertEqual(told(found)[0], ("mistake", [2], []))
         self.assertEqual(found["cores"][2]["differs"], 4)
+
+    def test_a_separate_core_may_be_cut_short_and_a_bound_one_may_differ(self):
+        with tempfile.TemporaryDirectory() as folder:
+            player = Player(runs.Source(PROGRAM, *CIRCLE), 0, folder)
+            shake = shaking.Shake(player, shaking.Draws(1, 4, 30, 0), ())
+            blocks = dict(player.default.blocks)
+            blocks[1] += ("lost Knock",)
+            blocks[2] = blocks[2][:-9]
+            for changes, end, cores in (
+                ((Pause(0, 1, 1),), "stalled", []),
+                ((Pause(0, 1, 1),), "ended", [2]),
+                ((Pause(0, 1, 1), Move(2, 1, 1)), "ended", []),
+                ((), "ended", [1, 2]),
+            ):
+                with self.subTest(changes=changes, end=end):
+                    signs = shake.signs(changes, Outcome(blocks, end, 9))
+                    found = [sign.cores[0] for sign in signs if sign.kind == shaking.MISTAKE]
+                    self.assertEqual(found, cores)
 
     def test_a_fault(self):
         status, output, messages = shaken(files=[CIRCLE[0], CIRCLE[0]])
