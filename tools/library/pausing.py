@@ -42,6 +42,11 @@ Changes = Tuple[Change, ...]
 Stimuli = Dict[int, Tuple[str, ...]]
 
 
+def size_of(change: Change) -> int:
+    """How much of a run a change affects: the rounds of a pause, or the words of a move."""
+    return abs(change.shift) if isinstance(change, Move) else change.count
+
+
 def pauses_in(changes: Changes) -> List[Pause]:
     """The pauses among some changes."""
     return [change for change in changes if isinstance(change, Pause)]

@@ -10,11 +10,12 @@ from library import ending
 from library.drafts import Draft
 from library.ending import Failed
 from library.formats import MOST_STIMULI
+from library.items import Item
 from library.jobs import Jobs, jobs_of
 from library.pausing import Changes, Rounds, Stimuli, most_rounds, moved, moves_in, pauses_in
 from library.runs import Run, Source, accepted_draft, blocks_of, read_logs
 from library.stalls import Stall, stalls_of
-from library.timeline import timeline_of
+from library.timeline import Timeline, timeline_of
 
 ENDED = "ended"
 STALLED = "stalled"
@@ -77,9 +78,20 @@ class Player:
     @cached_property
     def default(self) -> Outcome:
         """The run of the default schedule, as the program plays it by itself."""
-        run = self._run(self.source)
-        rounds = timeline_of(run).items
-        return Outcome(run.blocks, ENDED if run.has_ended else STALLED, rounds[-1].round if rounds else 0)
+        run = self._default.run
+        items = self._default.items
+        return Outcome(run.blocks, ENDED if run.has_ended else STALLED, items[-1].round if items else 0)
+
+    @cached_property
+    def _default(self) -> Timeline:
+        """The timeline of the default schedule."""
+        return timeline_of(self._run(self.source))
+
+    @cached_property
+    def gets(self) -> List[Item]:
+        """The items by which cores get spinlocks by the default schedule."""
+        items = (item for item in self._default.items if item.words[0] in ("granted", "tried"))
+        return [item for item in items if item.words[-1] != "0"]
 
     @property
     def spare_rounds(self) -> int:

@@ -1,7 +1,7 @@
 """What a shake found, as a plain value: it is printed as JSON or as text, and those of shards are put together.
 
 Everything in it is a count, a least or a greatest of what the schedules show, or belongs to the first of the schedules
-with the fewest changes. So the report of all shards together is the one that is made without shards.
+that change the least. So the report of all shards together is the one that is made without shards.
 """
 
 from collections import Counter
@@ -9,7 +9,7 @@ from dataclasses import asdict
 from typing import Any, Callable, Dict, Iterable, List, Optional, Sequence, Tuple
 
 from library.ending import Failed
-from library.pausing import Change, Move, Pause, interrupts_in, moves_in, pauses_in
+from library.pausing import Change, Move, Pause, interrupts_in, moves_in, pauses_in, size_of
 from library.playing import ENDS
 from library.shaking import KINDS, REQUIREMENT, Look, Shake, Sign
 from library.shrinking import Small
@@ -24,15 +24,20 @@ _COMMON = ("format", "configuration", "stimuli", "seed", "schedules", "pauses", 
 
 
 def signs_in(looks: Sequence[Look]) -> Dict[Sign, Look]:
-    """The findings, each with the schedule of the fewest changes that shows it. What the default one shows is first."""
+    """The findings, each with the schedule that shows it and changes the least; the default one changes nothing."""
     found: Dict[Sign, Look] = {}
     for look in looks:
         for sign in look.signs:
             best = found.setdefault(sign, look)
-            if (len(look.changes), look.number) < (len(best.changes), best.number):
+            if (_changed(look), look.number) < (_changed(best), best.number):
                 found[sign] = look
     # That the default schedule does not meet a requirement stands with the requirements.
     return {sign: look for sign, look in found.items() if sign.kind != REQUIREMENT or look.number}
+
+
+def _changed(look: Look) -> int:
+    """How many rounds and words the changes of a schedule affect."""
+    return sum(size_of(change) for change in look.changes)
 
 
 def report_of(settings: Report, shake: Shake, looks: Sequence[Look], smalls: Sequence[Small]) -> Report:
@@ -102,7 +107,7 @@ def _findings(shake: Shake, looks: Sequence[Look], smalls: Sequence[Small]) -> L
                 **_members(small.sign),
                 "times": times[small.sign],
                 "schedule": look.number,
-                "drawn": len(look.changes),
+                "drawn": _changed(look),
                 "pauses": [pause._asdict() for pause in sorted(pauses_in(small.changes), key=lambda each: each.first)],
                 "moves": [_move(shake, move) for move in moves_in(small.changes)],
                 "rounds": small.rounds,
@@ -213,7 +218,7 @@ def _joined_requirements(parts: Sequence[Report]) -> List[Report]:
 
 
 def _joined_findings(parts: Sequence[Report]) -> List[Report]:
-    """The findings, each as the schedule with the fewest changes shows it."""
+    """The findings, each as the schedule shows it that changes the least."""
     found = []
     for rows in _by_key(parts, "findings", ("kind", "cores", "lines")):
         best = min(rows, key=lambda row: (row["drawn"], row["schedule"]))

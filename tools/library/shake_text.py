@@ -155,8 +155,8 @@ def _finding(report: Report, finding: Report, number: int, saved: Any) -> List[s
 
 def _seen(finding: Report) -> List[str]:
     """How often a finding was seen, who waits for whom, and what has to come together for it."""
-    by = "by the default schedule too" if finding["schedule"] == 0 else "first in %d" % finding["schedule"]
-    lines = ["in %s, %s" % (counted(finding["times"], "schedule"), by)]
+    by = ", by the default schedule too" if finding["schedule"] == 0 else ""
+    lines = ["in %s%s" % (counted(finding["times"], "schedule"), by)]
     if finding["kind"] in (CIRCLE, KEPT):
         lines += finding["lines"]
     words = {(each["core"], each["interrupt"]): each["word"] for each in finding["moves"]}

@@ -4,17 +4,15 @@ What a schedule is depends on the seed and its number alone, and how a finding i
 findings are the same however the schedules are shared among processes and shards.
 """
 
-import random
 from dataclasses import dataclass
-from typing import Any, Dict, List, NamedTuple, Optional, Sequence, Tuple
+from typing import Any, Dict, List, NamedTuple, Sequence, Tuple
 
-from library.ending import Failed
+from library.drawing import Drawing, Draws
 from library.error_lines import ErrorLine, error_lines
 from library.figures import figures_of
-from library.findings import counted
 from library.jobs import Jobs
 from library.model import SEPARATE, model_of
-from library.pausing import Changes, Move, Pause, interrupts_in, most_rounds, moves_in
+from library.pausing import Changes, moves_in
 from library.playing import ENDED, STALLED, Outcome, Player
 from library.requirements import Requirement, Verdict, judge_given
 
@@ -42,16 +40,6 @@ class Sign(NamedTuple):
 
 
 @dataclass(frozen=True)
-class Draws:
-    """How schedules are drawn: the seed, the most pauses and moved interrupts of one, and how far these go."""
-
-    seed: int
-    pauses: int
-    longest: int
-    jitter: int
-
-
-@dataclass(frozen=True)
 class Look:
     """What one schedule shows. The schedule 0 is the default one."""
 
@@ -69,38 +57,16 @@ class Shake:
 
     def __init__(self, player: Player, draws: Draws, wanted: Sequence[Requirement]):
         self.player = player
-        self.draws = draws
+        self.drawing = Drawing(player, draws)
         self.wanted = wanted
         model = model_of(player.draft)
         self.standings = {core: model.standing(core) for core in player.cores}
-        self.started = [core for core in player.cores if core in model.started]
         self.usual = error_lines(player.default.blocks)
         self.has_conflict = any("conflict" in block for block in player.default.blocks.values())
-        self.interrupts = [
-            (core, number)
-            for core in self.started
-            for number in range(1, len(interrupts_in(player.stimuli[core])) + 1)
-        ]
-
-    def changes_of(self, number: int) -> Changes:
-        """The changes of a schedule. Short pauses are as frequent as long ones."""
-        if number == 0:
-            return ()
-        draws = random.Random("%d/%d" % (self.draws.seed, number))
-        found: List[Any] = []
-        for _ in range(draws.randint(1, self.draws.pauses)):
-            most = min(self.draws.longest, 1 << draws.randrange(self.draws.longest.bit_length() + 1))
-            first = draws.randint(1, max(1, self.player.default.rounds))
-            found.append(Pause(draws.choice(self.started), first, draws.randint((most + 1) // 2, most)))
-        if self.draws.jitter and self.interrupts:
-            for _ in range(draws.randint(0, self.draws.pauses)):
-                shift = draws.choice((-1, 1)) * draws.randint(1, self.draws.jitter)
-                found.append(Move(*draws.choice(self.interrupts), shift))
-        return tuple(found)
 
     def look(self, number: int) -> Look:
         """Plays one schedule."""
-        changes = self.changes_of(number)
+        changes = self.drawing.changes_of(number)
         outcome = self.player.outcome(changes)
         verdicts = self.verdicts(changes) if self.wanted else ()
         signs = self.signs(changes, outcome) + [unmet(verdict) for verdict in verdicts if not verdict.is_met]
@@ -171,13 +137,3 @@ def _moves(core: int, changes: Changes) -> bool:
 def unmet(verdict: Verdict) -> Sign:
     """The finding that a requirement is not met."""
     return Sign(REQUIREMENT, (), (verdict.title,))
-
-
-def longest_for(player: Player, pauses: int, given: Optional[int]) -> int:
-    """How many rounds a pause may have, by default a quarter of the default ones; all pauses fit in a schedule."""
-    if player.spare_rounds < pauses:
-        text = "the default schedule has %d rounds, and a schedule of %s at most %d: no pauses fit in"
-        cores = counted(len(player.cores), "core")
-        raise Failed(text % (player.default.rounds, cores, most_rounds(player.cores)))
-    wanted = max(4, player.default.rounds // 4) if given is None else given
-    return max(1, min(wanted, player.spare_rounds // pauses))

@@ -5,12 +5,13 @@ Each small one is written in the shorthand of `tools/expand`, expanded again and
 
 import json
 from dataclasses import dataclass
-from typing import Callable, Iterator, List, Tuple
+from itertools import combinations
+from typing import Callable, Iterator, List, Optional, Tuple
 
 from library import expanding
 from library.error_lines import ErrorLine, error_lines
 from library.jobs import jobs_of
-from library.pausing import Change, Changes, Move, Pause, Rounds
+from library.pausing import Change, Changes, Move, Pause, Rounds, size_of
 from library.places import read_document
 from library.runs import Run
 from library.shaking import CIRCLE, ERROR, KEPT, MISTAKE, REQUIREMENT, STALL, Shake, Sign, unmet
@@ -29,21 +30,35 @@ def smallest(changes: Changes, shows: Shows) -> Changes:
 
 
 def _fewest(changes: List[Change], shows: Shows) -> List[Change]:
-    """Leaves out each change that is not needed, until no more can be left out."""
-    left, before = changes, len(changes) + 1
-    while len(left) < before:
-        before = len(left)
-        for change in list(left):
-            rest = [each for each in left if each is not change]
-            if len(rest) < len(left) and shows(tuple(rest)):
-                left = rest
-    return left
+    """Leaves out each change that is not needed, and makes one pause of two, until nothing of that can be done."""
+    fewer: Optional[List[Change]] = changes
+    while fewer is not None:
+        changes = fewer
+        fewer = next((some for some in _fewer(changes) if shows(tuple(some))), None)
+    return changes
+
+
+def _fewer(changes: List[Change]) -> Iterator[List[Change]]:
+    """Changes without one of them, and with one pause in place of two of one core."""
+    for place in range(len(changes)):
+        yield changes[:place] + changes[place + 1 :]
+    for one, other in combinations([change for change in changes if isinstance(change, Pause)], 2):
+        if one.core == other.core:
+            rest = [change for change in changes if change is not one and change is not other]
+            yield from (rest + [pause] for pause in _joined(*sorted((one, other))))
+
+
+def _joined(one: Pause, other: Pause) -> List[Pause]:
+    """Pauses that may do what two of one core do: as long as both, where one of them is, or from one to the other."""
+    count = one.count + other.count
+    end = max(one.first + one.count, other.first + other.count)
+    return [one._replace(count=count), other._replace(count=count), one._replace(count=end - one.first)]
 
 
 def _shortest(changes: List[Change], place: int, shows: Shows) -> Change:
     """The shortest form of a change, beside the others as they are: by halves, then by less."""
     change = changes[place]
-    step = _size(change) // 2
+    step = size_of(change) // 2
     while step:
         smaller = next((each for each in _smaller(change, step) if shows(_with(changes, place, each))), None)
         if smaller is None:
@@ -58,14 +73,9 @@ def _with(changes: List[Change], place: int, change: Change) -> Changes:
     return tuple(changes[:place] + [change] + changes[place + 1 :])
 
 
-def _size(change: Change) -> int:
-    """How much of the run it changes."""
-    return abs(change.shift) if isinstance(change, Move) else change.count
-
-
 def _smaller(change: Change, step: int) -> Iterator[Change]:
     """A change that goes less far by a step: a pause that ends earlier, or begins later."""
-    if _size(change) <= step:
+    if size_of(change) <= step:
         return
     if isinstance(change, Move):
         yield change._replace(shift=change.shift - step if change.shift > 0 else change.shift + step)

@@ -17,7 +17,7 @@ import documents  # noqa: E402
 import help_texts  # noqa: E402
 import sample_runs  # noqa: E402
 from sample_runs import PROGRAM, TOOLS, called, needs_program  # noqa: E402
-from library import ending, pausing, runs, shake_report, shake_text, shaking, shrinking, stalls  # noqa: E402
+from library import drawing, ending, pausing, runs, shake_report, shake_text, shaking, shrinking, stalls  # noqa: E402
 from library.error_lines import ErrorLine, error_lines  # noqa: E402
 from library.pausing import Move, Pause, Rounds  # noqa: E402
 from library.playing import Outcome, Player  # noqa: E402
@@ -88,8 +88,8 @@ def shaken(*words, files=CIRCLE, program=PROGRAM):
     return called(MAIN, "--mcos", program, *words, *files)
 
 
-# As many as show all that the default number shows.
-FEW = ("--schedules", "70")
+# A seed whose first schedules show all that the default seed shows.
+FEW = ("--seed", "8", "--schedules", "40")
 
 
 def report(*words, **options):
@@ -105,6 +105,16 @@ def told(found):
 def lines_of(*words):
     """The lines that the program prints."""
     return subprocess.run([PROGRAM, *words], capture_output=True, text=True, timeout=60).stdout.splitlines()
+
+
+def enumerate_words(words):
+    """The words, each made another one by its number behind it."""
+    return ["%s_%d" % (word, number) for number, word in enumerate(words)]
+
+
+def interrupt(words, move):
+    """The word of a moved interrupt."""
+    return words[pausing.interrupts_in(words)[move.interrupt - 1]]
 
 
 class Schedules(unittest.TestCase):
@@ -140,6 +150,43 @@ class Schedules(unittest.TestCase):
         self.assertEqual(str(Pause(1, 3, 2)), "core 1 pauses in the rounds 3 to 4")
         self.assertEqual(str(Move(1, 3, 1)), "core 1's interrupt 3 comes 1 word later")
         self.assertEqual(str(Move(1, 3, -2)), "core 1's interrupt 3 comes 2 words earlier")
+
+
+@needs_program
+class Draws(unittest.TestCase):
+    """How the schedules are drawn."""
+
+    def drawn(self, draws, count):
+        """The changes of the first schedules of examples/circle."""
+        with tempfile.TemporaryDirectory() as folder:
+            found = drawing.Drawing(Player(runs.Source(PROGRAM, *CIRCLE), 0, folder), draws)
+            return [found.changes_of(number) for number in range(count)]
+
+    def test_within_the_bounds(self):
+        found = self.drawn(drawing.Draws(3, 2, 30, 5), 200)
+        self.assertEqual(found[0], ())
+        for changes in found[1:]:
+            pauses = pausing.pauses_in(changes)
+            self.assertTrue(1 <= len(pauses) <= 2)
+            self.assertTrue(all(1 <= pause.count <= 30 and 1 <= pause.first <= 120 for pause in pauses))
+            self.assertTrue(all(1 <= abs(move.shift) <= 5 for move in pausing.moves_in(changes)))
+        self.assertEqual(max(pause.count for changes in found for pause in pausing.pauses_in(changes)), 30)
+        self.assertGreater(max(len(pausing.moves_in(changes)) for changes in found), 0)
+
+    def test_without_jitter_nothing_moves(self):
+        found = self.drawn(drawing.Draws(1, 4, 30, 0), 50)
+        self.assertEqual([move for changes in found for move in pausing.moves_in(changes)], [])
+
+    def test_an_interrupt_comes_right_behind_the_call_for_a_spinlock(self):
+        with tempfile.TemporaryDirectory() as folder:
+            found = drawing.Drawing(Player(runs.Source(PROGRAM, *CIRCLE), 0, folder), drawing.Draws(1, 4, 30, 9))
+            gets = [item for item in found.player.gets if item.core == 1]
+            moves = [(item, move) for item in gets for move in found._near(item)]
+            self.assertEqual({move.shift > 0 for _, move in moves}, {True, False})
+            for item, move in moves:
+                stimuli = {1: tuple(enumerate_words(found.player.stimuli[1]))}
+                words = pausing.moved(stimuli, [move])[1]
+                self.assertEqual(words.index(stimuli[1][item.stimulus - 1]) + 1, words.index(interrupt(stimuli[1], move)))
 
 
 class Errors(unittest.TestCase):
@@ -186,6 +233,19 @@ class Smaller(unittest.TestCase):
 
         changes = (Move(0, 1, -9), Pause(1, 10, 64), Move(0, 2, 8), Pause(1, 1, 3))
         self.assertEqual(shrinking.smallest(changes, shows), (Move(0, 1, -3), Pause(1, 10, 5)))
+
+    def test_two_pauses_of_one_core_become_one(self):
+        def shows(changes):
+            return sum(each.count for each in changes if each.core == 1) >= 12
+
+        changes = (Pause(1, 10, 9), Pause(0, 1, 4), Pause(1, 40, 9))
+        self.assertEqual(shrinking.smallest(changes, shows), (Pause(1, 10, 12),))
+
+    def test_a_pause_from_one_to_the_other(self):
+        def shows(changes):
+            return {10, 39} <= {each.first + place for each in changes for place in range(each.count)}
+
+        self.assertEqual(shrinking.smallest((Pause(1, 10, 2), Pause(1, 38, 2)), shows), (Pause(1, 10, 30),))
 
     def test_nothing_is_needed(self):
         self.assertEqual(shrinking.smallest((Pause(0, 1, 9), Pause(0, 1, 9)), lambda changes: True), ())
@@ -237,7 +297,8 @@ class Circle(unittest.TestCase):
 
     @classmethod
     def setUpClass(cls):
-        cls.found = report(*FEW)
+        cls.found = report()
+        cls.few = report(*FEW)
 
     def played(self, finding, stimuli=CIRCLE[1]):
         """The lines that the program prints by the schedule of a finding, expanded by the script for that."""
@@ -252,7 +313,7 @@ class Circle(unittest.TestCase):
         self.assertEqual(told(self.found)[0], ("circle", [0, 1], WAITS))
         self.assertEqual([each["kind"] for each in self.found["findings"]], ["circle", "kept", "error"])
         self.assertEqual(told(self.found)[2], ("error", [1], [LIMIT]))
-        self.assertEqual(self.found["findings"][0]["pauses"], [{"core": 0, "first": 53, "count": 3}])
+        self.assertEqual(self.found["findings"][0]["pauses"], [{"core": 0, "first": 19, "count": 3}])
 
     def test_each_is_played_again_by_the_program(self):
         circle, kept, error = (self.played(each) for each in self.found["findings"])
@@ -281,13 +342,12 @@ class Circle(unittest.TestCase):
         self.assertEqual([each["standing"] for each in self.found["cores"]], ["bound", "bound", "separate"])
 
     def test_the_same_whatever_the_number_of_processes(self):
-        self.assertEqual(report(*FEW, "--processes", "1"), self.found)
-        self.assertEqual(report(*FEW, "--processes", "3"), self.found)
+        self.assertEqual(report(*FEW, "--processes", "1"), self.few)
+        self.assertEqual(report(*FEW, "--processes", "3"), self.few)
 
     def test_another_seed_finds_the_circle_too(self):
-        found = report("--seed", "4", *FEW)
-        self.assertNotEqual(found["ends"], self.found["ends"])
-        self.assertIn(("circle", [0, 1], WAITS), told(found))
+        self.assertNotEqual(self.few["findings"], self.found["findings"])
+        self.assertEqual(told(self.few), told(self.found))
 
     def test_shards(self):
         with tempfile.TemporaryDirectory() as folder:
@@ -295,7 +355,7 @@ class Circle(unittest.TestCase):
             for number, path in enumerate(paths, 1):
                 ending.save(path, shaken("--json", *FEW, "--shard", "%d/3" % number)[1])
             status, output, messages = called(MAIN, "--json", "--merge", paths[1], paths[0], paths[2])
-            self.assertEqual((status, json.loads(output), messages), (1, self.found, ""))
+            self.assertEqual((status, json.loads(output), messages), (1, self.few, ""))
             status, output, messages = called(MAIN, "--merge", *paths[:2])
             self.assertEqual((status, output, messages), (1, "", "missing: 3/3\n"))
             self.assertEqual(called(MAIN, "--merge", paths[0], *paths)[0], 1)
@@ -316,8 +376,8 @@ class Circle(unittest.TestCase):
     def test_without_its_last_pause_it_is_not_shown(self):
         whole = Rounds.shorthand
         with mock.patch.object(Rounds, "shorthand", lambda self, turns: whole(Rounds(self.cores, [], 99), turns)):
-            found = report("--processes", "1", "--schedules", "30")
-        self.assertEqual([each["shown"] for each in found["findings"]], [False])
+            found = report("--processes", "1", "--seed", "8", "--schedules", "32")
+        self.assertEqual([each["shown"] for each in found["findings"]], [False] * 3)
         self.assertIn("NOT SHOWN when it was played again", shake_text.text_of(found))
 
 
@@ -331,11 +391,11 @@ class Requirements(unittest.TestCase):
         self.assertFalse(shake_report.is_clean(found))
         text = shake_text.text_of(found)
         self.assertIn("  met: Brake lost=0 (0 in all of 12 schedules)\n", text)
-        unmet = "(6 to 15 rounds; not met by 2 of 12 schedules, first by 2: 6 to 15 rounds)"
+        unmet = "(6 to 28 rounds; not met by 6 of 12 schedules, first by 1: 6 to 11 rounds)"
         self.assertIn("  not met: Dump response<=9 rounds %s\n" % unmet, text)
 
     def test_verdicts(self):
-        words = ["--schedules", "23", "--require", "Dump lost=0", "--require", "Dump response<=9 rounds"]
+        words = ["--seed", "24", "--schedules", "34", "--require", "Dump lost=0"]
         with tempfile.TemporaryDirectory() as folder:
             path = os.path.join(folder, "requirements.txt")
             ending.save(path, "R-1: Brake lost=0\n")
@@ -343,13 +403,14 @@ class Requirements(unittest.TestCase):
             suite = ElementTree.fromstring(shaken("--format", "junit", *words, "--requirements", path)[1].encode())[0]
         self.assertEqual((status, messages), (1, ""))
         lines = output.splitlines()
-        self.assertEqual(lines[0], "met: Dump lost=0 (0 in all of 23 schedules)")
-        self.assertEqual(lines[2], "met: R-1: Brake lost=0 (0 in all of 23 schedules)")
-        self.assertTrue(lines[1].startswith("not met: Dump response<=9 rounds ("))
-        circle = "; ".join(["in 2 schedules, first in 23", *WAITS, "if core 0 pauses in the rounds 53 to 55"])
-        self.assertEqual(lines[3:], ["not met: no circle of waits (%s)" % circle])
-        self.assertEqual([suite.get(name) for name in ("tests", "failures", "errors")], ["4", "2", "0"])
-        self.assertEqual((suite[2].get("name"), suite[2].get("file")), ("R-1: Brake lost=0", path))
+        self.assertEqual(lines[0], "not met: Dump lost=0 (0 to 1; not met by 2 of 34 schedules, first by 6: 1)")
+        self.assertEqual(lines[1], "met: R-1: Brake lost=0 (0 in all of 34 schedules)")
+        circle = "; ".join(["in 1 schedule", *WAITS, "if core 0 pauses in the rounds 83 to 85"])
+        self.assertEqual(lines[2], "not met: no circle of waits (%s)" % circle)
+        self.assertTrue(lines[3].startswith("not met: no spinlock is kept by a core that has drained (in 1 schedule; "))
+        self.assertTrue(lines[4].startswith("not met: core 1 does not print `%s` (in 2 schedules; if " % LIMIT))
+        self.assertEqual([suite.get(name) for name in ("tests", "failures", "errors")], ["5", "4", "0"])
+        self.assertEqual((suite[1].get("name"), suite[1].get("file")), ("R-1: Brake lost=0", path))
 
     def test_verdicts_on_a_clean_run_and_on_a_fault(self):
         files = [os.path.join(sample_runs.EXAMPLES, "first", name) for name in ("config.json", "stim.json")]
@@ -431,12 +492,12 @@ class Stalls(unittest.TestCase):
 
     def test_a_run_that_no_schedule_has_room_for(self):
         player = SimpleNamespace(cores=[0, 1], default=SimpleNamespace(rounds=400), spare_rounds=9)
-        self.assertEqual(shaking.longest_for(player, 4, None), 2)
-        self.assertEqual(shaking.longest_for(player, 4, 1), 1)
+        self.assertEqual(drawing.longest_for(player, 4, None), 2)
+        self.assertEqual(drawing.longest_for(player, 4, 1), 1)
         player.spare_rounds = 3
         text = "the default schedule has 400 rounds, and a schedule of 2 cores at most 166666: no pauses fit in"
         with self.assertRaisesRegex(ending.Failed, text):
-            shaking.longest_for(player, 4, None)
+            drawing.longest_for(player, 4, None)
 
 
 @needs_program
@@ -459,7 +520,7 @@ class Mistakes(unittest.TestCase):
     def test_a_separate_core_may_be_cut_short_and_a_bound_one_may_differ(self):
         with tempfile.TemporaryDirectory() as folder:
             player = Player(runs.Source(PROGRAM, *CIRCLE), 0, folder)
-            shake = shaking.Shake(player, shaking.Draws(1, 4, 30, 0), ())
+            shake = shaking.Shake(player, drawing.Draws(1, 4, 30, 0), ())
             blocks = dict(player.default.blocks)
             blocks[1] += ("lost Knock",)
             blocks[2] = blocks[2][:-9]
@@ -489,7 +550,7 @@ class Examples(unittest.TestCase):
             if source.schedule is None:
                 with self.subTest(files=[source.configuration, source.stimuli]), tempfile.TemporaryDirectory() as folder:
                     player = Player(runs.Source(PROGRAM, source.configuration, source.stimuli), 0, folder)
-                    draws = shaking.Draws(1, 3, shaking.longest_for(player, 3, None), 0)
+                    draws = drawing.Draws(1, 3, drawing.longest_for(player, 3, None), 0)
                     shake = shaking.Shake(player, draws, ())
                     looks = [shake.look(number) for number in range(6)]
                     for sign, look in shake_report.signs_in(looks).items():
