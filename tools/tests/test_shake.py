@@ -22,6 +22,7 @@ from library.error_lines import ErrorLine, error_lines  # noqa: E402
 from library.pausing import Move, Pause, Rounds  # noqa: E402
 from library.playing import Outcome, Player  # noqa: E402
 from library.stalls import Grip  # noqa: E402
+from library.verdict_formats import FORMATS  # noqa: E402
 
 SHAKE = runpy.run_path(os.path.join(TOOLS, "shake"))
 MAIN = SHAKE["main"]
@@ -399,10 +400,9 @@ class Requirements(unittest.TestCase):
         with tempfile.TemporaryDirectory() as folder:
             path = os.path.join(folder, "requirements.txt")
             ending.save(path, "R-1: Brake lost=0\n")
-            status, output, messages = shaken("--format", "text", *words, "--requirements", path)
-            suite = ElementTree.fromstring(shaken("--format", "junit", *words, "--requirements", path)[1].encode())[0]
-        self.assertEqual((status, messages), (1, ""))
-        lines = output.splitlines()
+            verdicts = shake_text.verdicts_of(report(*words, "--requirements", path))
+        lines = [str(verdict) for verdict in verdicts]
+        suite = ElementTree.fromstring(FORMATS["junit"].of_verdicts("run", verdicts).encode())[0]
         self.assertEqual(lines[0], "not met: Dump lost=0 (0 to 1; not met by 2 of 34 schedules, first by 6: 1)")
         self.assertEqual(lines[1], "met: R-1: Brake lost=0 (0 in all of 34 schedules)")
         circle = "; ".join(["in 1 schedule", *WAITS, "if core 0 pauses in the rounds 83 to 85"])
