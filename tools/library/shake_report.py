@@ -20,7 +20,10 @@ FORMAT = "findings of tools/shake"
 # Of a requirement, before the first schedule is judged.
 _NOT_JUDGED = {"least": None, "greatest": None, "unit": None, "not_met": 0, "schedule": None, "found": None}
 # What the shards of one shake have in common.
-_COMMON = ("format", "configuration", "stimuli", "seed", "schedules", "pauses", "longest", "jitter", "more", "default")
+_COMMON = ("format", "configuration", "stimuli", "digest", "seed", "schedules", "pauses", "longest", "jitter", "more")
+_COMMON += ("default",)
+# What tells requirements apart.
+_REQUIREMENT = ("text", "id", "path", "line")
 
 
 def signs_in(looks: Sequence[Look]) -> Dict[Sign, Look]:
@@ -155,6 +158,8 @@ def merged(reports: Sequence[Tuple[str, Report]]) -> Report:
         for name in _COMMON:
             if report[name] != first[name]:
                 raise Failed("%s: `%s` is not that of %s: they are no shards of one shake" % (other, name, path))
+        if _rows_of(report) != _rows_of(first):
+            raise Failed("%s: its requirements are not those of %s" % (other, path))
     _check_shards([each["shard"] for _, each in reports])
     parts = [report for _, report in reports]
     return {
@@ -166,6 +171,11 @@ def merged(reports: Sequence[Tuple[str, Report]]) -> Report:
         "requirements": _joined_requirements(parts),
         "findings": _joined_findings(parts),
     }
+
+
+def _rows_of(report: Report) -> List[List[Any]]:
+    """What tells the requirements of a report apart."""
+    return [[row[name] for name in _REQUIREMENT] for row in report["requirements"]]
 
 
 def _check_shards(shards: Sequence[Any]) -> None:
@@ -204,7 +214,7 @@ def _joined(
 def _joined_requirements(parts: Sequence[Report]) -> List[Report]:
     """The requirements, each with the first schedule of all that does not meet it."""
     found = []
-    for rows in _by_key(parts, "requirements", ("text", "id", "path", "line")):
+    for rows in _by_key(parts, "requirements", _REQUIREMENT):
         unmet = [row for row in rows if row["schedule"] is not None]
         first = min(unmet, key=lambda row: row["schedule"], default=rows[0])
         joined = {

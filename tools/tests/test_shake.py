@@ -26,7 +26,8 @@ from library.verdict_formats import FORMATS  # noqa: E402
 
 SHAKE = runpy.run_path(os.path.join(TOOLS, "shake"))
 MAIN = SHAKE["main"]
-FOLDER = os.path.join(sample_runs.EXAMPLES, "circle")
+PLACE = ("examples", "circle")
+FOLDER = os.path.join(sample_runs.ROOT, *PLACE)
 CIRCLE = [os.path.join(FOLDER, name) for name in ("config.json", "stimuli.json")]
 # The lines of the circle of examples/circle.
 WAITS = ["core 0: Send holds Signals", "core 0: Send waits for Log", "core 1: Dump holds Log"]
@@ -362,6 +363,13 @@ class Circle(unittest.TestCase):
             self.assertEqual(called(MAIN, "--merge", paths[0], *paths)[0], 1)
             ending.save(paths[2], shaken("--json", *FEW, "--shard", "3/3", "--seed", "2")[1])
             self.assertIn("`seed` is not that of", called(MAIN, "--merge", *paths)[2])
+            ending.save(paths[2], shaken("--json", *FEW, "--shard", "3/3", "--require", "Brake lost=0")[1])
+            self.assertIn("its requirements are not those of", called(MAIN, "--merge", *paths)[2])
+            with sample_runs.written(sample_runs.read(*PLACE, "config.json") + " ", {}) as source:
+                ending.save(paths[1], shaken("--json", *FEW, "--shard", "2/3", files=[source.configuration, CIRCLE[1]])[1])
+            changed = json.loads(sample_runs.read(paths[1]))
+            ending.save(paths[1], json.dumps({**changed, "configuration": CIRCLE[0]}))
+            self.assertIn("`digest` is not that of", called(MAIN, "--merge", *paths)[2])
 
     def test_what_is_saved(self):
         with tempfile.TemporaryDirectory() as folder:
