@@ -68,8 +68,10 @@ class Shake:
         """Plays one schedule."""
         changes = self.drawing.changes_of(number)
         outcome = self.player.outcome(changes)
-        verdicts = self.verdicts(changes) if self.wanted else ()
-        signs = self.signs(changes, outcome) + [unmet(verdict) for verdict in verdicts if not verdict.is_met]
+        signs = self.signs(changes, outcome)
+        is_mistaken = any(sign.kind == MISTAKE for sign in signs)
+        verdicts = self.verdicts(changes) if self.wanted and not is_mistaken else ()
+        signs += [unmet(verdict) for verdict in verdicts if not verdict.is_met]
         return Look(
             number,
             changes,
@@ -81,9 +83,14 @@ class Shake:
         )
 
     def signs(self, changes: Changes, outcome: Outcome) -> List[Sign]:
-        """What a run shows that is a finding, but for requirements that it does not meet."""
-        found = [Sign(MISTAKE, (core,), ()) for core in self.player.cores if self._is_mistaken(core, changes, outcome)]
-        found += [Sign(CIRCLE if stall.is_circle else KEPT, stall.cores, stall.lines) for stall in outcome.stalls]
+        """What a run shows that is a finding, but for requirements that it does not meet.
+
+        What is printed by mistake shows nothing else: it may fit no log.
+        """
+        mistaken = [core for core in self.player.cores if self._is_mistaken(core, changes, outcome)]
+        if mistaken:
+            return [Sign(MISTAKE, (core,), ()) for core in mistaken]
+        found = [Sign(CIRCLE if stall.is_circle else KEPT, stall.cores, stall.lines) for stall in outcome.stalls]
         if outcome.end == STALLED and not outcome.stalls:
             found.append(Sign(STALL, (), ()))
         errors = error_lines(outcome.blocks)

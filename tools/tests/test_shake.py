@@ -367,9 +367,22 @@ class Circle(unittest.TestCase):
             self.assertIn("its requirements are not those of", called(MAIN, "--merge", *paths)[2])
             with sample_runs.written(sample_runs.read(*PLACE, "config.json") + " ", {}) as source:
                 ending.save(paths[1], shaken("--json", *FEW, "--shard", "2/3", files=[source.configuration, CIRCLE[1]])[1])
+            status, output, messages = called(MAIN, "--merge", paths[1], "--save", os.path.join(folder, "a"))
+            self.assertEqual((status, output), (1, ""))
+            self.assertIn("missing: 1/3, 3/3", messages)
             changed = json.loads(sample_runs.read(paths[1]))
             ending.save(paths[1], json.dumps({**changed, "configuration": CIRCLE[0]}))
             self.assertIn("`digest` is not that of", called(MAIN, "--merge", *paths)[2])
+
+    def test_what_is_saved_of_a_report(self):
+        with tempfile.TemporaryDirectory() as folder:
+            path, prefix = os.path.join(folder, "1.json"), os.path.join(folder, "found")
+            for digest in (self.few["digest"], "0"):
+                ending.save(path, json.dumps({**self.few, "shard": [1, 1], "digest": digest}))
+                found = called(MAIN, "--merge", path, "--save", prefix)
+                self.assertEqual(found[0], 1)
+            self.assertEqual(found[1:], ("", "%s, %s: these are not the files that were played\n" % tuple(CIRCLE)))
+            self.assertEqual(lines_of("run", *CIRCLE, "--schedule", prefix + "-1.json")[-1], "stalled")
 
     def test_what_is_saved(self):
         with tempfile.TemporaryDirectory() as folder:
@@ -522,7 +535,9 @@ class Mistakes(unittest.TestCase):
             self.assertEqual(status, 1)
             self.assertIn("1. MISTAKE OF mcos: the block of core 2 differs, and must not, in 4 schedules", output)
             found = report(*words, program=program)
-        self.assertEqual(told(found)[0], ("mistake", [2], []))
+            words += ["--require", "Brake lost=0"]
+            self.assertEqual(told(report(*words, program=program)), told(found))
+        self.assertEqual(told(found), [("mistake", [2], [])])
         self.assertEqual(found["cores"][2]["differs"], 4)
 
     def test_a_separate_core_may_be_cut_short_and_a_bound_one_may_differ(self):
