@@ -13,6 +13,7 @@ from library.formats import MOST_STIMULI
 from library.items import Item
 from library.jobs import Jobs, jobs_of
 from library.pausing import Changes, Rounds, Stimuli, most_rounds, moved, moves_in, pauses_in
+from library.program import printed
 from library.runs import Run, Source, accepted_draft, blocks_of, read_logs
 from library.stalls import Stall, stalls_of
 from library.timeline import Timeline, timeline_of
@@ -93,6 +94,13 @@ class Player:
         items = (item for item in self._default.items if item.words[0] in ("granted", "tried"))
         return [item for item in items if item.words[-1] != "0"]
 
+    def alone(self, core: int) -> Tuple[str, ...]:
+        """What a separate core prints alone: by the configuration that the program cuts, with its own stimuli."""
+        paths = [os.path.join(self.folder, "%s-alone-%d.json" % (name, core)) for name in ("configuration", "stimuli")]
+        ending.save(paths[0], printed(self.source.program, "cut", self.source.configuration, str(core)).text)
+        ending.save(paths[1], stimuli_text({core: self.stimuli[core]}))
+        return blocks_of(Source(self.source.program, *paths).printed().text)[core]
+
     @property
     def spare_rounds(self) -> int:
         """How many rounds of pauses a schedule has room for."""
@@ -153,9 +161,9 @@ class Player:
         pauses = sum(pause.count for pause in pauses_in(changes))
         count = min(self.default.rounds + pauses + _SPARE, most_rounds(self.cores))
         while True:
-            printed = self.source_of(changes, " ".join(self.rounds(changes, count).words)).printed()
-            blocks = blocks_of(printed.text)
-            if not printed.is_stalled:
+            whole = self.source_of(changes, " ".join(self.rounds(changes, count).words)).printed()
+            blocks = blocks_of(whole.text)
+            if not whole.is_stalled:
                 return Outcome(blocks, ENDED, count)
             logs = self._logs(changes, count)
             if count < most_rounds(self.cores) and logs == self._logs(changes, count + 1):

@@ -61,6 +61,7 @@ class Shake:
         self.wanted = wanted
         model = model_of(player.draft)
         self.standings = {core: model.standing(core) for core in player.cores}
+        self.alone = {core: player.alone(core) for core, word in self.standings.items() if word == SEPARATE}
         self.usual = error_lines(player.default.blocks)
         self.has_conflict = any("conflict" in block for block in player.default.blocks.values())
 
@@ -124,16 +125,12 @@ class Shake:
         By the turns of the default schedule each core prints the same as without a list of turns. What a separate core
         prints is always a prefix of what it prints alone, and all of that if the run ended; its stimuli are the same.
         """
-        default = self.player.default
-        if not changes:
-            return self._differs(core, outcome)
-        if self.standings[core] != SEPARATE or _moves(core, changes):
+        if not changes and self._differs(core, outcome):
+            return True
+        if core not in self.alone or _moves(core, changes):
             return False
-        if outcome.end == ENDED and default.end == ENDED:
-            return self._differs(core, outcome)
-        block, alone = outcome.blocks[core], default.blocks[core]
-        common = min(len(block), len(alone))
-        return block[:common] != alone[:common]
+        block, alone = outcome.blocks[core], self.alone[core]
+        return block != (alone if outcome.end == ENDED else alone[: len(block)])
 
 
 def _moves(core: int, changes: Changes) -> bool:

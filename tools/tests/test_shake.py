@@ -34,11 +34,11 @@ WAITS = ["core 0: Send holds Signals", "core 0: Send waits for Log", "core 1: Du
 WAITS += ["core 1: Knock waits for Signals"]
 LIMIT = "in 0 ActivateTask Dump E_OS_LIMIT"
 
-# A program that changes a line of core 2, which is separate, if it plays a listed schedule.
+# A program that changes a line of core 2, which is separate, if some words are among its arguments.
 MISTAKEN = """#!/bin/sh
 case "$*" in
   *--items*) exec %(program)s "$@" ;;
-  *--schedule*) %(program)s "$@" > %(file)s.$$; status=$?; sed 's/^var Brake v0 4$/var Brake v0 5/' %(file)s.$$
+  %(words)s) %(program)s "$@" > %(file)s.$$; status=$?; sed 's/^var Brake v0 4$/var Brake v0 5/' %(file)s.$$
     rm %(file)s.$$; exit $status ;;
   *) exec %(program)s "$@" ;;
 esac
@@ -525,11 +525,23 @@ class Stalls(unittest.TestCase):
 class Mistakes(unittest.TestCase):
     """A program that breaks the promise of a separate core is told."""
 
+    def program(self, folder, words):
+        """A program in a folder that makes mistakes if these words are among its arguments."""
+        program = os.path.join(folder, "mcos")
+        ending.save(program, MISTAKEN % {"program": PROGRAM, "words": words, "file": os.path.join(folder, "out")})
+        os.chmod(program, 0o755)
+        return program
+
+    def test_a_separate_core_that_never_differs_and_prints_another_text_alone(self):
+        with tempfile.TemporaryDirectory() as folder:
+            program = self.program(folder, "*alone*")
+            found = report("--schedules", "2", "--processes", "1", program=program)
+        self.assertEqual(told(found), [("mistake", [2], [])])
+        self.assertEqual(found["cores"][2]["differs"], 0)
+
     def test_a_separate_core_that_differs(self):
         with tempfile.TemporaryDirectory() as folder:
-            program = os.path.join(folder, "mcos")
-            ending.save(program, MISTAKEN % {"program": PROGRAM, "file": os.path.join(folder, "out")})
-            os.chmod(program, 0o755)
+            program = self.program(folder, "*--schedule*")
             words = ["--schedules", "4", "--processes", "2"]
             status, output, _ = shaken(*words, program=program)
             self.assertEqual(status, 1)
