@@ -5,9 +5,12 @@ import os
 import signal
 import sys
 import time
+from concurrent.futures import ProcessPoolExecutor
+from concurrent.futures.process import BrokenProcessPool
 from types import TracebackType
 from typing import Any, Callable, Iterable, Iterator, List, Optional, Sequence, Tuple, Type
 
+from library.ending import Failed
 from library.pausing import Changes
 from library.shaking import Look, Shake, Sign
 from library.shrinking import Small, small_of
@@ -29,7 +32,7 @@ class Workers:
     def __init__(self, shake: Shake, count: int):
         _prepare(shake)
         context = multiprocessing.get_context("fork")
-        self._pool = context.Pool(count, _begin, (shake,)) if count > 1 else None
+        self._pool = ProcessPoolExecutor(count, context, _begin, (shake,)) if count > 1 else None
 
     def __enter__(self) -> "Workers":
         return self
@@ -38,8 +41,7 @@ class Workers:
         self, kind: Optional[Type[BaseException]], error: Optional[BaseException], trace: Optional[TracebackType]
     ) -> None:
         if self._pool is not None:
-            self._pool.terminate()
-            self._pool.join()
+            self._pool.shutdown(cancel_futures=True)
 
     def looks(self, numbers: Sequence[int]) -> List[Look]:
         """What the schedules of some numbers show."""
@@ -51,8 +53,11 @@ class Workers:
 
     def _done(self, work: Callable[[Any], Any], values: Sequence[Any], what: str) -> List[Any]:
         """The results of some work for each value, in the order of the values."""
-        results = map(work, values) if self._pool is None else self._pool.imap(work, values)
-        return list(_watched(results, len(values), what))
+        results = map(work, values) if self._pool is None else self._pool.map(work, values)
+        try:
+            return list(_watched(results, len(values), what))
+        except BrokenProcessPool:
+            raise Failed("a process that played schedules has ended early; is there memory for --processes?") from None
 
 
 def _watched(results: Iterable[Any], count: int, what: str) -> Iterator[Any]:

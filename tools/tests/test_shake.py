@@ -1,5 +1,6 @@
 """What `tools/shake` finds, made small and played again; and that it finds the same however the work is shared."""
 
+import io
 import json
 import os
 import re
@@ -17,7 +18,8 @@ import documents  # noqa: E402
 import help_texts  # noqa: E402
 import sample_runs  # noqa: E402
 from sample_runs import PROGRAM, TOOLS, called, needs_program  # noqa: E402
-from library import drawing, ending, pausing, runs, shake_report, shake_text, shaking, shrinking, stalls  # noqa: E402
+from library import drawing, ending, pausing, runs, shake_report, shake_text  # noqa: E402
+from library import shaking, shrinking, stalls, workers  # noqa: E402
 from library.error_lines import ErrorLine, error_lines  # noqa: E402
 from library.pausing import Move, Pause, Rounds  # noqa: E402
 from library.playing import Outcome, Player  # noqa: E402
@@ -188,7 +190,8 @@ class Draws(unittest.TestCase):
             for item, move in moves:
                 stimuli = {1: tuple(enumerate_words(found.player.stimuli[1]))}
                 words = pausing.moved(stimuli, [move])[1]
-                self.assertEqual(words.index(stimuli[1][item.stimulus - 1]) + 1, words.index(interrupt(stimuli[1], move)))
+                behind = words[words.index(stimuli[1][item.stimulus - 1]) + 1]
+                self.assertEqual(behind, interrupt(stimuli[1], move))
 
 
 class Errors(unittest.TestCase):
@@ -251,6 +254,32 @@ class Smaller(unittest.TestCase):
 
     def test_nothing_is_needed(self):
         self.assertEqual(shrinking.smallest((Pause(0, 1, 9), Pause(0, 1, 9)), lambda changes: True), ())
+
+
+class Processes(unittest.TestCase):
+    def test_the_order_is_that_of_the_values(self):
+        for count in (1, 3):
+            with self.subTest(count=count), workers.Workers(None, count) as some:
+                self.assertEqual(some._done(abs, [-3, 2, -1, 0], "numbers"), [3, 2, 1, 0])
+
+    def test_what_fails_is_reported(self):
+        for count in (1, 3):
+            with self.subTest(count=count), workers.Workers(None, count) as some:
+                with self.assertRaisesRegex(ending.Failed, "^no: cannot be read: No such file or directory$"):
+                    some._done(ending.read, ["no"], "files")
+
+    def test_a_process_that_ends_early(self):
+        with workers.Workers(None, 2) as some, self.assertRaisesRegex(ending.Failed, "has ended early"):
+            some._done(os._exit, [1, 1, 1], "ends")
+
+    def test_how_far_it_is_stands_at_a_terminal(self):
+        terminal = io.StringIO()
+        for is_terminal in (False, True):
+            terminal.isatty = lambda shown=is_terminal: shown
+            with mock.patch("sys.stderr", terminal), mock.patch("library.workers._SECONDS", 0):
+                self.assertEqual(list(workers._watched("ab", 2, "letters")), ["a", "b"])
+            shown = "\r1 of 2 letters\r2 of 2 letters\r\033[K" if is_terminal else ""
+            self.assertEqual(terminal.getvalue(), shown)
 
 
 class WrongUsage(unittest.TestCase):
@@ -366,7 +395,8 @@ class Circle(unittest.TestCase):
             ending.save(paths[2], shaken("--json", *FEW, "--shard", "3/3", "--require", "Brake lost=0")[1])
             self.assertIn("its requirements are not those of", called(MAIN, "--merge", *paths)[2])
             with sample_runs.written(sample_runs.read(*PLACE, "config.json") + " ", {}) as source:
-                ending.save(paths[1], shaken("--json", *FEW, "--shard", "2/3", files=[source.configuration, CIRCLE[1]])[1])
+                files = [source.configuration, CIRCLE[1]]
+                ending.save(paths[1], shaken("--json", *FEW, "--shard", "2/3", files=files)[1])
             status, output, messages = called(MAIN, "--merge", paths[1], "--save", os.path.join(folder, "a"))
             self.assertEqual((status, output), (1, ""))
             self.assertIn("missing: 1/3, 3/3", messages)
@@ -583,8 +613,9 @@ class Examples(unittest.TestCase):
     def test_examples(self):
         for source in sample_runs.sources():
             if source.schedule is None:
-                with self.subTest(files=[source.configuration, source.stimuli]), tempfile.TemporaryDirectory() as folder:
-                    player = Player(runs.Source(PROGRAM, source.configuration, source.stimuli), 0, folder)
+                files = [source.configuration, source.stimuli]
+                with self.subTest(files=files), tempfile.TemporaryDirectory() as folder:
+                    player = Player(runs.Source(PROGRAM, *files), 0, folder)
                     draws = drawing.Draws(1, 3, drawing.longest_for(player, 3, None), 0)
                     shake = shaking.Shake(player, draws, ())
                     looks = [shake.look(number) for number in range(6)]
