@@ -60,7 +60,7 @@ def figures_of(jobs: Jobs) -> Figures:
             "conflict": run.has_conflict,
             "schedule": run.schedule,
             TURNS: last.turn if last else 0,
-            ROUNDS: (last.round if last else 0) if run.turns is None else None,
+            ROUNDS: (last.round if last else 0) if run.has_rounds else None,
         }
     }
     stall = stall_of(jobs)

@@ -49,6 +49,11 @@ def shown(text: str, steps: int = 0) -> Iterator[Work]:
         _line.release()
 
 
+def silence() -> None:
+    """Shows nothing in this process from now on: for one that works for another, which shows what all do."""
+    _line.acquire(blocking=False)
+
+
 def _write_until(is_done: threading.Event, work: Work) -> None:
     """Writes the line again and again until the work is done, and then erases it."""
     width = 0

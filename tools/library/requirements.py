@@ -56,12 +56,17 @@ class Requirement:
 
 @dataclass(frozen=True)
 class Verdict:
-    """Whether a requirement is met, and by what; of one that was given also how."""
+    """Whether a requirement is met, and by what; of one that was given also how.
+
+    `values` are the numbers that were judged, or of several the least and the greatest; a time has a unit.
+    """
 
     text: str
     is_met: bool
     found: str
     requirement: Optional[Requirement] = None
+    values: Tuple[float, ...] = ()
+    unit: Optional[str] = None
 
     @property
     def title(self) -> str:
@@ -122,7 +127,7 @@ def _one_of(wanted: _Wanted, names: Tuple[str, ...]) -> str:
 
 def _count(wanted: _Wanted, value: float) -> Verdict:
     """Judges a single number."""
-    return Verdict(wanted.text, wanted.holds(value), "%g" % value)
+    return Verdict(wanted.text, wanted.holds(value), "%g" % value, values=(value,))
 
 
 def _core(figures: Figures, wanted: _Wanted, words: Tuple[str, ...]) -> Verdict:
@@ -180,9 +185,11 @@ def _times(wanted: _Wanted, times: Figures, units: Tuple[str, ...]) -> Verdict:
     if wanted.sign == "!=":
         raise WrongRequirement("%r: a time has <, <=, =, >= or >" % wanted.text)
     words = "%d to %d %s" % (done[0], done[1], unit) if done else "none is complete"
+    values = list(done)
     if found["open"]:
         words += "; %d still open, for up to %d" % (found["open"], found["open_greatest"])
-    return Verdict(wanted.text, is_met, words)
+        values.append(found["open_greatest"])
+    return Verdict(wanted.text, is_met, words, values=tuple(values), unit=unit)
 
 
 def _still(wanted: _Wanted, found: Figures) -> bool:

@@ -36,18 +36,27 @@ class Source:
 
 @dataclass(frozen=True)
 class Run:
-    """The blocks without their first lines and the logs, by core; the words of a listed schedule."""
+    """The blocks without their first lines and the logs, by core.
+
+    Of a listed schedule also its words, and if it consists of rounds, the number of the round of each.
+    """
 
     draft: Draft
     blocks: Dict[int, Tuple[str, ...]]
     logs: Dict[int, Tuple[str, ...]]
     has_ended: bool
     turns: Optional[Tuple[str, ...]] = None
+    rounds: Optional[Tuple[int, ...]] = None
 
     @property
     def schedule(self) -> str:
         """Which schedule was run: the default one, or a listed one."""
         return "default" if self.turns is None else "listed"
+
+    @property
+    def has_rounds(self) -> bool:
+        """Whether its turns are those of rounds."""
+        return self.turns is None or self.rounds is not None
 
     @property
     def cores(self) -> List[int]:
@@ -75,15 +84,20 @@ def blocks_of(text: str) -> Dict[int, Tuple[str, ...]]:
 
 def read_run(source: Source) -> Run:
     """Runs the program once for the trace, and once for the log of each core."""
-    logs = {}
     with progress.shown("running mcos") as work:
         whole = source.printed()
-        draft = _draft(source.configuration)
+        draft = accepted_draft(source.configuration)
         work.steps = 1 + len(draft.ids)
+        logs = {}
         for work.done, core in enumerate(sorted(draft.ids), 1):
-            logs[core] = tuple(source.printed("--items", str(core)).text.splitlines())
+            logs[core] = read_log(source, core)
     turns = _turns(source.schedule) if source.schedule is not None else None
     return Run(draft, blocks_of(whole.text), logs, not whole.is_stalled, turns)
+
+
+def read_log(source: Source, core: int) -> Tuple[str, ...]:
+    """The log of a core, of a run of the program for it."""
+    return tuple(source.printed("--items", str(core)).text.splitlines())
 
 
 def run_of(configuration: str, blocks: Dict[int, Sequence[str]], logs: Dict[int, Sequence[str]]) -> Run:
@@ -97,7 +111,7 @@ def _tuples(texts: Dict[int, Sequence[str]]) -> Dict[int, Tuple[str, ...]]:
     return {core: tuple(lines) for core, lines in texts.items()}
 
 
-def _draft(path: str) -> Draft:
+def accepted_draft(path: str) -> Draft:
     """The configuration that the program has accepted."""
     judgement = judge_configuration(ending.read(path))
     if judgement.least or judgement.draft is None:

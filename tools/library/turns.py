@@ -80,6 +80,7 @@ def _listed(run: Run, play: "_Play", work: Work) -> List[Item]:
         item = play.taken(turn_of(word))
         if item is not None:
             item.turn = number
+            item.round = run.rounds[number - 1] if run.rounds is not None else None
             found.append(item)
             work.done = len(found)
     play.check_all_taken()

@@ -1,9 +1,11 @@
 """Verdicts on requirements as texts that a CI reads: JUnit's XML, GitHub's commands, TAP."""
 
+import contextlib
 import json
-from typing import Callable, Dict, List, NamedTuple, Sequence
+from typing import Callable, Dict, Iterator, List, NamedTuple, Sequence
 from xml.sax.saxutils import quoteattr
 
+from library import ending
 from library.not_json import printable
 from library.requirements import Verdict
 
@@ -140,3 +142,15 @@ FORMATS: Dict[str, Format] = {
     "github": Format(_github, _github_failure),
     "tap": Format(_tap, _tap_failure),
 }
+
+
+@contextlib.contextmanager
+def failure_written(form: Format, run: str) -> Iterator[None]:
+    """If what is done fails, writes for a CI why there are no verdicts."""
+    try:
+        yield
+    except ending.Failed as failed:
+        report = form.of_failure(run, str(failed))
+        if report:
+            ending.write(report)
+        raise
