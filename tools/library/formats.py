@@ -452,7 +452,8 @@ class Argument:
 IGNORED_IF_SUSPENDED = ("GetNumberOfActivatedCores", "ShutdownOS", "ShutdownAllCores")
 WITHOUT_STATUS = ("SuspendAllInterrupts", "ResumeAllInterrupts") + IGNORED_IF_SUSPENDED
 # Those that act in full while interrupts are suspended. The first two get a spinlock, and the last one gives it back.
-GETS_SPINLOCK = ("GetSpinlock", "TryToGetSpinlock")
+WAITS_FOR_SPINLOCK = "GetSpinlock"
+GETS_SPINLOCK = (WAITS_FOR_SPINLOCK, "TryToGetSpinlock")
 OF_SPINLOCKS = GETS_SPINLOCK + ("ReleaseSpinlock",)
 # What makes a core bound that has it in a script, and what makes all cores bound.
 ASKS_SHARED = ("StartCore", "GetNumberOfActivatedCores")

@@ -3,6 +3,7 @@
 from dataclasses import dataclass
 from typing import Dict, Iterable, Iterator, List, Optional, Set, Tuple
 
+from library.circles import Circle, circles
 from library.drafts import Core, Draft, Named
 from library.findings import Report, listed
 from library.formats import (
@@ -228,6 +229,8 @@ class _Notes:
                 self._note(use, refused.word, refused.text)
         for shared in shared_spinlocks(self.draft, walks):
             self._shared(shared)
+        for circle in circles(self.draft, walks):
+            self._circle(circle)
 
     def _shared(self, shared: Shared) -> None:
         """A spinlock for which other jobs can ask while one holds it."""
@@ -236,6 +239,14 @@ class _Notes:
         verbs = {"interrupt" if each.kind is ISR else "preempt" for each in shared.others}
         text = "the job can hold `%s` here, and %s can %s it and ask for that: E_OS_INTERFERENCE_DEADLOCK"
         self._note(use, 0, text % (shared.spinlock, others, " or ".join(sorted(verbs))))
+
+    def _circle(self, circle: Circle) -> None:
+        """A job can be preempted while it holds a spinlock, and a circle of waits can come of it."""
+        first, others = circle[0], circle[1:]
+        use = _Use(first.holder.spot("script"), first.step, first.holder.core, first.holder)
+        verb = "interrupt" if first.waiter.kind is ISR else "preempt"
+        text = "the job can hold `%s` here, and `%s` can %s it and wait for `%s`; %s: a circle of waits can come"
+        self._note(use, 0, text % (first.held, first.waiter.name, verb, first.wanted, listed(map(str, others))))
 
     def _start(self, use: _Use) -> None:
         """A StartCore in a script, which starts nothing."""

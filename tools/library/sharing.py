@@ -34,7 +34,7 @@ class Shared:
 
 
 @dataclass(frozen=True)
-class _Holding:
+class Holding:
     """A job that holds a spinlock, and the operation before which its priority is least."""
 
     scripted: Named
@@ -57,33 +57,33 @@ def shared_spinlocks(draft: Draft, all_walks: Dict[Named, Walk]) -> Iterator[Sha
 
     The walks are those of the scripts.
     """
-    starts = _Starts(draft)
+    starts = Starts(draft)
     for core in draft.cores:
         walks = {each: all_walks[each] for each in core.scripted if each in all_walks}
         asked = {each: _asked(walk) for each, walk in walks.items()}
         for holder, walk in walks.items():
-            for holding in _holdings(core, holder, walk):
+            for holding in holdings(core, holder, walk):
                 asking = (each for each in walks if each is not holder and holding.spinlock in asked[each])
-                above = (each for each in asking if _priority(each) > holding.priority)
+                above = (each for each in asking if priority_of(each) > holding.priority)
                 others = [each for each in above if starts.can_come(each, holding)]
                 if others:
                     yield Shared(holder, holding.step, holding.spinlock, tuple(others))
 
 
-def _holdings(core: Core, holder: Named, walk: Walk) -> Iterator[_Holding]:
+def holdings(core: Core, holder: Named, walk: Walk) -> Iterator[Holding]:
     """Each spinlock that a job can hold, where its priority is least."""
-    base = _priority(holder)
+    base = priority_of(holder)
     if holder.kind is not ISR and not holder["preemptable"]:
         base = max(task["prio"] for task in core.named["tasks"])
     ceilings = {each.name: each["ceiling"] for each in core.named["resources"]}
-    least: Dict[str, _Holding] = {}
+    least: Dict[str, Holding] = {}
     for step in walk.steps:
         for state in walk.states(step.number):
             ceiling = max([base] + [ceilings[name] for name in state.resources])
             priority = _OF_SUSPENDED if state.suspended else ceiling
             for spinlock in state.spinlocks:
                 if spinlock not in least or priority < least[spinlock].priority:
-                    least[spinlock] = _Holding(holder, walk, spinlock, step, priority)
+                    least[spinlock] = Holding(holder, walk, spinlock, step, priority)
     yield from least.values()
 
 
@@ -93,12 +93,12 @@ def _asked(walk: Walk) -> Set[str]:
     return {step.arguments[0] for step in getting if "" in walk.refusals.get(step.number, {}).values()}
 
 
-def _priority(scripted: Named) -> int:
+def priority_of(scripted: Named) -> int:
     """The priority of a job that holds nothing and does not run yet."""
     return _OF_ISRS + scripted["level"] if scripted.kind is ISR else scripted["prio"]
 
 
-class _Starts:
+class Starts:
     """What can let jobs run, and in which modes."""
 
     def __init__(self, draft: Draft):
@@ -110,11 +110,11 @@ class _Starts:
                     if step.is_in_form and step.operation.name in _ACTIVATES + ("SetEvent",):
                         self.causes.setdefault(step.arguments[0], []).append(_Cause(each, step))
 
-    def can_come(self, other: Named, holding: _Holding) -> bool:
+    def can_come(self, other: Named, holding: Holding) -> bool:
         """Whether in one of the modes a job can begin, or be released, while another one holds a spinlock."""
         return any(holding.scripted in live and self._comes(other, holding, live, set()) for live in self.live)
 
-    def _comes(self, other: Named, holding: _Holding, live: Set[Named], passed: Set[Named]) -> bool:
+    def _comes(self, other: Named, holding: Holding, live: Set[Named], passed: Set[Named]) -> bool:
         """Whether that can be so in a mode. What only autostarts has run before, since its priority is greater."""
         if other not in live or other.kind is ISR:
             return other in live
@@ -128,7 +128,7 @@ class _Starts:
                     return True
             elif source.kind.name in ("alarm", "table") or source.core is not other.core:
                 return True
-            elif source not in passed and _priority(source) > holding.priority:
+            elif source not in passed and priority_of(source) > holding.priority:
                 if self._comes(source, holding, live, passed):
                     return True
         return False
@@ -162,7 +162,7 @@ class _Starts:
                     yield found
 
 
-def _is_done_with(step: Step, holding: _Holding) -> bool:
+def _is_done_with(step: Step, holding: Holding) -> bool:
     """Whether a job does an operation, and goes on behind it, while it holds the spinlock."""
     states = holding.walk.states(step.number)
     return step.operation.name != "ChainTask" and any(holding.spinlock in state.spinlocks for state in states)
