@@ -17,11 +17,13 @@ WORDS = [
     ["explain", "examples/faults/limit.json"],
     ["explain", "--json", "examples/faults/limit.json"],
     ["schemas"],
+    ["import", "--scripts", "examples/import/scripts.json", "examples/import/Os.arxml", "examples/import/EcuC.arxml"],
 ]
 # Those that run the program, and how.
 FIRST = ["examples/first/config.json", "examples/first/stim.json"]
 RUNS = [["timeline"], ["timeline", "--check", "1"], ["stats"], ["stats", "--json"], ["export", "vcd"], ["gantt"]]
 RUNS += [["stats", "--require", "A lost=0"], ["stats", "--format", "junit", "--require", "A lost=0"]]
+RUNS += [["shake", "--schedules", "2", "--processes", "1"], ["shake", "--schedules", "2", "--json"], ["coverage"]]
 
 
 def shell(command, words):
