@@ -151,6 +151,18 @@ class _Notes:
                 text = _end_note(scripted, reached.get(len(steps), set()), shuts_down)
                 if text:
                     self.report.note(scripted.spot("script"), text)
+                self._endless(scripted, steps, reached)
+
+    def _endless(self, scripted: Named, steps: List[Step], reached: Dict[int, Set[int]]) -> None:
+        """A job of a task that goes on for ever, so that no task of a lower priority runs."""
+        if scripted.kind is ISR:
+            return
+        lower = [each.name for each in scripted.core.named["tasks"] if each["prio"] < scripted["prio"]]
+        place = min(_endless_places(scripted, steps, reached), default=None)
+        if lower and place is not None:
+            text = "from here on the job neither waits nor ends, so no task of a lower `prio` runs any more: %s"
+            use = _Use(scripted.spot("script"), steps[place], scripted.core, scripted)
+            self._note(use, 0, text % _first_ones("`%s`" % name for name in lower))
 
     def _ceilings(self) -> None:
         """Resources whose ceiling is too low for a task that takes them."""
@@ -402,6 +414,28 @@ def _behind(scripted: Named, step: Step, suspended: int) -> Iterator[Tuple[int, 
     if name != "jump":
         change = {"SuspendAllInterrupts": 1, "ResumeAllInterrupts": -1}.get(name, 0)
         yield step.number + 1, min(max(suspended + change, 0), MOST_SUSPENDED)
+
+
+def _endless_places(scripted: Named, steps: List[Step], reached: Dict[int, Set[int]]) -> Set[int]:
+    """The places that a job may come to, and from which it neither waits nor ends, whichever way it goes."""
+    following: Dict[int, Set[int]] = {}
+    left = {len(steps)}
+    for place in set(reached) - left:
+        ways = [list(_behind(scripted, steps[place], suspended)) for suspended in reached[place]]
+        following[place] = {behind for way in ways for behind, _ in way}
+        if not all(ways) or _waits(scripted, steps[place], reached[place]):
+            left.add(place)
+    more = True
+    while more:
+        more = {place for place, behind in following.items() if place not in left and behind & left}
+        left |= more
+    return set(reached) - left
+
+
+def _waits(scripted: Named, step: Step, suspended: Set[int]) -> bool:
+    """Whether a job may wait for events by an operation."""
+    is_wait = step.operation.name == "WaitEvent" and scripted["extended"]
+    return is_wait and not _refusal(scripted, step, suspended)
 
 
 def _refusal(scripted: Named, step: Step, suspended: Set[int]) -> str:

@@ -262,7 +262,18 @@ class _ScriptReader(_Reader):
             raise Refused(self.peek().offset, text)
         if self.peek().text == "*":
             raise Refused(self.peek().offset, "a repetition begins with its count, as in `work;3*work`")
+        if self.peek().text == "(":
+            self.refuse_call(arguments[-1].words[-1])
         return Operation(tuple(arguments))
+
+    def refuse_call(self, name: Word) -> None:
+        """Refuses an operation that is written as a call in C."""
+        bracket = self.take()
+        inner = []
+        while self.is_word():
+            inner.append(self.take().text.strip(","))
+        text = "an operation has no parentheses: write `%s`" % " ".join([name.text, *inner])
+        raise Refused(bracket.offset, text + ", or a count before them, as in `3*(work)`")
 
     def refuse_missing(self, has_labels: bool) -> None:
         """Refuses an item without an operation; one with labels may be the last of its kind."""

@@ -322,6 +322,16 @@ CASES = (
         ),
     ),
     Case(
+        "a task that neither waits nor ends",
+        '"script": "GetResource Map;work;ReleaseResource Map;TerminateTask"',
+        '"script": "GetResource Map;ReleaseResource Map;work;jump 2"',
+        "GetResource Map",
+        (
+            "config.json:14:46: note: /cores/0/tasks/0/script: operation 0 `GetResource Map`: from here on the job "
+            "neither waits nor ends, so no task of a lower `prio` runs any more: `T10ms`",
+        ),
+    ),
+    Case(
         "an ISR that never ends",
         '"id": 1,',
         '"id": 1, "isrs": [{"name": "I", "level": 1, "script": "jz v0 0;jump 0"}],',
@@ -1073,6 +1083,19 @@ class Configurations(unittest.TestCase):
                 self.assertEqual(1, BASE.count(case.old), "what is changed stands once")
                 judgement = judge_configuration(case.text.encode())
                 self.assertEqual(list(case.lines), lines_of(judgement, "config.json"))
+
+    def test_what_may_be_meant(self):
+        script = "GetResource Map;work;ReleaseResource Map;TerminateTask"
+        for old, new in (
+            # No task of a lower priority is there; a variable may end the loop; the second task waits.
+            ("add v0 1;TerminateTask", "add v0 1;jump 0"),
+            ('20, "script": "' + script, '20, "script": "GetResource Map;ReleaseResource Map;jz v0 2;TerminateTask'),
+            ('20, "script": "' + script, '20, "extended": true, "auto": ["M"], "script": "WaitEvent 1;jump 0'),
+        ):
+            with self.subTest(new):
+                self.assertEqual(1, BASE.count(old), "what is changed stands once")
+                noted = judge_configuration(BASE.replace(old, new).encode()).findings
+                self.assertEqual([], [each.text for each in noted if "neither waits" in each.text])
 
     def test_each_place(self):
         for case in CASES:
