@@ -298,8 +298,9 @@ class _Importer:
         owners = [each.node for each in self.objects.tasks + self.objects.isrs]
         self.scripts.note_unused(self.notes, owners, self.cores.numbers)
         if self.skeletons:
-            text = "no file has scripts: those of %s are skeletons; --scripts gives others"
-            self.notes.note(self.skeletons[0].spot, text % _first_names(self.skeletons))
+            without = "%s has no scripts of" % self.scripts.path if self.scripts.path else "no file has the scripts of"
+            text = "%s %s: they are skeletons" % (without, listed(node.name for node in self.skeletons))
+            self.notes.note(self.skeletons[0].spot, text if self.scripts.path else text + "; --scripts gives others")
         master, others = self.cores.master, [each for each in self.cores.numbers if each != self.cores.master]
         first = next(iter(self.objects.modes + owners), None)
         if others and not self.are_starts_given and first is not None:
@@ -328,12 +329,6 @@ def _skeleton(events: Sequence[str], resources: Sequence[str]) -> Any:
         return "; ".join(middle + ["TerminateTask"])
     mask = "|".join(events)
     return ["loop: WaitEvent %s; ClearEvent %s" % (mask, mask), "; ".join(middle), "jump loop"]
-
-
-def _first_names(nodes: Sequence[Node], most: int = 4) -> str:
-    """The names of the first containers, and how many more there are."""
-    names = [node.name for node in nodes]
-    return listed(names if len(names) <= most else names[: most - 1] + ["%d more" % (len(names) - most + 1)])
 
 
 def _shown(seconds: Fraction) -> str:

@@ -109,6 +109,9 @@ def judge_files(
     for index, path in enumerate(paths):
         sources = maps[index] if index < len(maps) else None
         judgement = _judge_file(path, index, draft, sources)
+        if sources is not None and judgement.report is not None and not sources.fits(judgement.report.document.root):
+            text = "%s: the map of %s is none of this file: the first map is of CFG, the next ones of STIM and SCHED"
+            raise ending.Failed(text % (path, sources.source))
         if index == 0 and cut is not None and not judgement.least:
             judgement = judge_cut(judgement, cut)
         draft = draft or judgement.draft

@@ -212,9 +212,15 @@ class _Notes:
                 masks[task] = masks.get(task, 0) | value_of(use.words[1])
         for use in self.checked:
             if use.name == "WaitEvent" and use.scripted["extended"]:
-                if not masks.get(use.scripted, 0) & value_of(use.words[0]):
+                wanted = value_of(use.words[0])
+                unset = wanted & ~masks.get(use.scripted, 0)
+                if unset == wanted:
                     text = "nothing sets such an event of `%s`, so the job waits for ever"
                     self._note(use, 1, text % use.scripted.name)
+                elif unset:
+                    bits = [1 << bit for bit in range(unset.bit_length()) if unset >> bit & 1]
+                    events = "the %s %s" % ("event" if len(bits) == 1 else "events", listed(map(str, bits)))
+                    self._note(use, 1, "nothing sets %s of `%s`" % (events, use.scripted.name))
 
     def _refused(self) -> None:
         """Operations that are refused whatever happens, as the configuration is."""

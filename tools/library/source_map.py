@@ -11,7 +11,7 @@ A JSON object with these members:
 import bisect
 import json
 from dataclasses import dataclass
-from typing import Any, List, Mapping, Optional, Sequence, Tuple
+from typing import Any, Iterator, List, Mapping, Optional, Sequence, Tuple
 
 from library.places import Document, Json, JsonList, JsonObject, JsonText, Place, pointer_part
 
@@ -33,6 +33,10 @@ class SourceMap:
             pointer = pointer.rpartition("/")[0]
         return self.values.get(pointer, Place(1, 1))
 
+    def fits(self, root: Json) -> bool:
+        """Whether each value of the map is in a text, so that it may be the map of this text."""
+        return self.values.keys() <= set(_pointers(root, ""))
+
     def text(self) -> str:
         """The map as it stands in its file: a line for each entry."""
         values = ["%s: %s" % (json.dumps(pointer), json.dumps(place)) for pointer, place in self.values.items()]
@@ -52,17 +56,28 @@ def in_source(places: SourceMap, document: Document, pointer: str, place: Place)
     return places.place(pointer, value.text.count(separator, 0, before))
 
 
+def _pointers(value: Json, pointer: str) -> Iterator[str]:
+    """The JSON Pointers of a value and of all in it."""
+    yield pointer
+    for step, inner in _inner(value):
+        yield from _pointers(inner, pointer + step)
+
+
 def value_at(root: Json, pointer: str) -> Optional[Json]:
     """The value of a JSON Pointer; none if there is none."""
     value: Optional[Json] = root
     for step in ["/" + step for step in pointer.split("/")[1:]]:
-        inner: List[Tuple[str, Json]] = []
-        if isinstance(value, JsonObject):
-            inner = [(pointer_part(name), member.value) for name, member in value.members.items()]
-        elif isinstance(value, JsonList):
-            inner = [(pointer_part(index), element) for index, element in enumerate(value.elements)]
-        value = dict(inner).get(step)
+        value = dict(_inner(value)).get(step)
     return value
+
+
+def _inner(value: Optional[Json]) -> List[Tuple[str, Json]]:
+    """The values right in a value, each with its step of a JSON Pointer."""
+    if isinstance(value, JsonObject):
+        return [(pointer_part(name), member.value) for name, member in value.members.items()]
+    if isinstance(value, JsonList):
+        return [(pointer_part(index), element) for index, element in enumerate(value.elements)]
+    return []
 
 
 def _object(name: str, entries: List[str]) -> str:

@@ -1269,6 +1269,12 @@ class Files(unittest.TestCase):
         self.assertEqual((1, expected), (status, lines))
         self.assertEqual(2, explain(self.folder, "--map", "source.json", "config.json")[0])
 
+    def test_a_map_of_another_file(self):
+        self.write("map", '{"source": "stimuli.source.json", "values": {"": [1, 1], "/0": [1, 7]}, "parts": {}}')
+        status, lines, error = explain(self.folder, "--map", "map", "config.json")
+        self.assertEqual((1, []), (status, lines))
+        self.assertIn("config.json: the map of stimuli.source.json is none of this file: ", error)
+
     def test_a_wrong_map(self):
         place = '{"source": "a", "values": {"": %s}, "parts": {}}'
         for text in ("", "[]", "{}", place % "[1]", place % "[1, []]", place % '["a", 1]', place % "[1e999, 1]", "[" * 9999):

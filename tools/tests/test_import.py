@@ -254,6 +254,15 @@ class Imported(InAFolder):
         expected = ["note: no task and no ISR of the import is called `U`", "note: the import has no core 3"]
         self.assertEqual(notes, expected)
 
+    def test_which_scripts_are_skeletons(self):
+        self.write("s.json", '{"T": "work"}')
+        objects = [os_task("T"), os_task("U"), os_task("V")]
+        given = self.of_os(MODE, *objects, words=["--scripts", "s.json"])[1]
+        self.assertEqual(given, ["note: s.json has no scripts of U and V: they are skeletons"])
+        none = self.of_os(MODE, *objects)[1]
+        text = "no file has the scripts of T, U and V: they are skeletons; --scripts gives others"
+        self.assertTrue(none[0].endswith(text), none)
+
     def test_masks(self):
         names = "ABCD"
         masks = {"A": "0x8", "B": "AUTO", "C": "0b1", "D": None}

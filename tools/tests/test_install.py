@@ -40,7 +40,9 @@ class Install(unittest.TestCase):
 
     def test_each_path_that_is_printed_is_a_file(self):
         done = install(self.prefix)
-        self.assertEqual((done.stderr, done.returncode), ("", 0))
+        binaries = os.path.join(self.prefix, "bin")
+        self.assertEqual((done.stderr, done.returncode), ("install: %s is not on the path\n" % binaries, 0))
+        self.assertEqual(install(self.prefix, PATH=binaries + os.pathsep + os.environ["PATH"]).stderr, "")
         printed = done.stdout.splitlines()
         self.assertEqual([path for path in printed if not os.path.isfile(path)], [])
         installed = {os.path.join(folder, name) for folder, _, names in os.walk(self.prefix) for name in names}
