@@ -254,6 +254,19 @@ class Imported(InAFolder):
         expected = ["note: no task and no ISR of the import is called `U`", "note: the import has no core 3"]
         self.assertEqual(notes, expected)
 
+    def test_a_wrong_script_is_said_in_its_file(self):
+        for script, wrong in (
+            ('"work;wrok;TerminateTask"', "operation 1 `wrok`: no operation is called `wrok`; did you mean `work`?"),
+            ('["work", "jump lop"]', "no label `lop` in this script"),
+            ('["work", "2*(work"]', "this `(` has no `)`"),
+        ):
+            with self.subTest(script):
+                self.write("s.json", '{"T": "work",\n "U": %s}' % script)
+                self.write("Os.arxml", arxml(("Os", os_files.OS, [MODE, os_task("T"), os_task("U")])))
+                status, _, messages = called(MAIN, "--scripts", "s.json", "Os.arxml")
+                self.assertEqual(status, 0)
+                self.assertIn("s.json:2:2: note: the script of `U`: " + wrong, messages)
+
     def test_which_scripts_are_skeletons(self):
         self.write("s.json", '{"T": "work"}')
         objects = [os_task("T"), os_task("U"), os_task("V")]
