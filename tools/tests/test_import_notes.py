@@ -64,10 +64,10 @@ NOTES = {
         ["note: OsAlarm A: left out: an alarm increments no counter"],
     ),
     "an alarm whose task is nowhere": (
-        [os_counter(), os_alarm("A", *ACTIVATES_T), os_task("T2")],
+        [os_counter(), os_alarm("A", *ACTIVATES_T), os_task("Tt")],
         [
             "note: OsAlarm A, OsAlarmAction Action, OsAlarmActivateTask Act: OsAlarmActivateTaskRef "
-            "/Project/Config/Os/T leads nowhere: no such OsTask is in the files; did you mean `T2`?",
+            "/Project/Config/Os/T leads nowhere: no such OsTask is in the files; did you mean `Tt`?",
             "note: OsAlarm A: left out: it has no action",
         ],
     ),
