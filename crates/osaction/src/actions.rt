@@ -6,7 +6,8 @@ ghost use Rattle.osbase.specs.History.{same_core};
 ghost use Rattle.osstate.specs.Does.{Effects, HasRoom};
 ghost use Rattle.osact.specs.Terms.{MayBegin};
 ghost use Rattle.osact.specs.Acts.{does};
-ghost use Rattle.oscall.specs.Border.{core_of_call, is_known_call, is_served};
+ghost use Rattle.oscall.specs.Border.{core_of_call, is_known_call};
+ghost use Rattle.osstate.specs.Readings.{is_served};
 ghost use Rattle.osaction.specs.Actions.{acts, acts_here, posts};
 
 use osact::is_ok;

@@ -4,8 +4,8 @@
 //! No function here takes memory. Each asks for room for the entries and marks that it adds, and for places in the outbox.
 #![tactic(auto)]
 
-pub mod actions;
-pub mod points;
+mod actions;
+mod points;
 
 pub use actions::act;
 pub use points::do_point;

@@ -4,8 +4,6 @@ use Rattle.std.specs.List.{list_all}
 use Rattle.std.specs.Option.{option_map_or}
 use Rattle.osbase.specs.declared.statuses.Status.{Status}
 use Rattle.osbase.specs.declared.statuses.Status.TheVariants.{EOk, EOsId, EOsState}
-use Rattle.osbase.specs.declared.statuses.ServiceId.{ServiceId}
-use Rattle.osbase.specs.declared.statuses.ServiceId.TheVariants as Service
 use Rattle.osbase.specs.declared.references.CoreId.{CoreId}
 use Rattle.osbase.specs.declared.references.SpinlockId.{SpinlockId}
 use Rattle.osbase.specs.declared.messages.Message.{Message}
@@ -26,10 +24,8 @@ use Rattle.osplan.specs.Stimuli.{knows_stimulus}
 use Rattle.osplan.specs.View.{View, is_configured}
 use Rattle.osstate.specs.Readings.{is_own, next_start}
 use Rattle.osstate.specs.State.{KernelState}
-use Rattle.osact.specs.Checks.{is_ok_status}
-use Rattle.oscript.specs.Calls.{is_action}
-use Rattle.oscall.specs.Border.{is_served}
-use Rattle.osadmit.specs.Free.{is_settled, may_go_on, may_look_halt}
+use Rattle.osawait.specs.Free.{is_settled, may_go_on, may_look_halt}
+use Rattle.osawait.specs.Messages.{is_awaited}
 
 -- `StartCore` answers E_OS_ID exactly for a core that is not configured, and else E_OK, or E_OS_STATE for one
 -- that was started already. [AUTOSAR SWS OS 4.x, StartCore; E_OS_STATE before StartOS]
@@ -65,28 +61,6 @@ are_started_cores v cores = has_core cores v.core && list_all (λ id. not (has_c
 abbrev pub is_front_for : CoreId → List Sent → Bool
 is_front_for core [] = false
 is_front_for core (s ∷ ss) = same_core s.to core
-
--- The service whose E_OK comes with a value. [OSEK/VDX OS 2.2.3, section 13.6.3.2]
-abbrev pub answers_value : ServiceId → Bool
-answers_value Service.GetAlarm = true
-answers_value s = false
-
--- The reply of this core is awaited, with a value exactly for GetAlarm and E_OK. [own]
-abbrev pub is_reply_for : CoreId → Status → Bool → Awaited → Bool
-is_reply_for from status has_value (Awaited.Reply service core) =
-    same_core core from && (if answers_value service && is_ok_status status then has_value else not has_value)
-is_reply_for from status has_value awaited = false
-
-abbrev pub is_reply_to : CoreId → Status → Bool → OpenCall → Bool
-is_reply_to from status has_value call = is_reply_for from status has_value call.awaits
-
--- A message is expected: a request where the reply to it has a place, an action that an alarm may have, or the reply of the open
--- call. [own]
-abbrev pub is_awaited : ℕ → KernelState → CoreId → Message → Bool
-is_awaited places s from (Message.Request call) = is_served s.view call && nat_lt (length s.border.outbox) places
-is_awaited places s from (Message.Action call) = is_action call && is_served s.view call
-is_awaited places s from (Message.Reply status) = option_map_or (is_reply_to from status false) s.border.open_call false
-is_awaited places s from (Message.Value status n) = option_map_or (is_reply_to from status true) s.border.open_call false
 
 -- An envelope may be taken: its sender was started and is another core, its number is the next from there.
 -- [own]

@@ -7,15 +7,13 @@ ghost use Rattle.osbase.specs.Sets.{core_ids, has_core};
 ghost use Rattle.osbase.specs.Spins.{newest_owed, same_spinlock};
 ghost use Rattle.osplan.specs.View.{is_configured};
 ghost use Rattle.osstate.specs.Readings.{next_start};
-ghost use Rattle.osadmit.specs.Admission.{admits, answers_value, are_started_cores, is_agreement, is_awaited, is_for, is_front_for, is_next_from, is_reply_to, is_start_answer, is_started_now_or_before, is_unknown_core, asks_halt, awaits_get, awaits_try, has_asked_halt, is_get_of, is_next_release, is_release_of, is_try_of, may_halt};
+ghost use Rattle.osadmit.specs.Admission.{admits, are_started_cores, is_agreement, is_for, is_front_for, is_next_from, is_start_answer, is_started_now_or_before, is_unknown_core, asks_halt, awaits_get, awaits_try, has_asked_halt, is_get_of, is_next_release, is_release_of, is_try_of, may_halt};
 
-use crate::free::{is_settled, may_go_on, may_look_halt};
-use osact::is_ok;
+use osawait::{is_awaited, is_settled, may_go_on, may_look_halt};
 use osbase::{
-    Agreement, Awaited, CORE_NUMBERS, CoreId, CoreMode, CoreSet, Item, Message, ModeId, OpenCall,
-    Phase, RemoteCall, ServiceId, SpinlockId, Status,
+    Agreement, Awaited, CORE_NUMBERS, CoreId, CoreMode, CoreSet, Item, Message, ModeId, Phase,
+    SpinlockId, Status,
 };
-use oscript::is_action;
 use osstate::CoreState;
 
 /// Whether an item may be taken, but for how many were taken.
@@ -191,55 +189,6 @@ fn is_next_envelope<const P: usize, const J: usize, const OUT: usize>(
     let is_foreign = !state.is_own(from);
     let is_in_order = number == state.received_from(from);
     is_foreign & is_in_order & is_awaited(state, from, message)
-}
-
-fn is_awaited<const P: usize, const J: usize, const OUT: usize>(
-    state: &CoreState<'_, P, J, OUT>,
-    from: CoreId,
-    message: &Message,
-) -> bool
-    ensures { result ≡ is_awaited OUT state.now from message.now }
-{
-    match message {
-        Message::Request(call) => state.has(call.object()) & state.has_place(),
-        Message::Action(call) => is_action(*call) & state.has(call.object()),
-        Message::Reply(status) => is_awaited_reply(state, from, *status, false),
-        Message::Value(status, _) => is_awaited_reply(state, from, *status, true),
-    }
-}
-
-fn is_awaited_reply<const P: usize, const J: usize, const OUT: usize>(
-    state: &CoreState<'_, P, J, OUT>,
-    from: CoreId,
-    status: Status,
-    has_value: bool,
-) -> bool
-    ensures { result ≡ option_map_or (is_reply_to from status has_value) state.now.border.open_call false }
-{
-    match state.awaited_call() {
-        Some(call) => is_reply(from, status, has_value, call),
-        None => false,
-    }
-}
-
-// A reply of the core that was asked, with a value exactly for GetAlarm and E_OK.
-fn is_reply(from: CoreId, status: Status, has_value: bool, call: OpenCall) -> bool
-    ensures { result ≡ is_reply_to from status has_value call }
-{
-    match call.awaits {
-        Awaited::Reply { service, core } => {
-            let wants_value = gives_value(service) & is_ok(status);
-            let is_wanted = if wants_value { has_value } else { !has_value };
-            (core == from) & is_wanted
-        }
-        _ => false,
-    }
-}
-
-fn gives_value(service: ServiceId) -> bool
-    ensures { result ≡ answers_value service }
-{
-    matches!(service, ServiceId::GetAlarm)
 }
 
 // The open call is GetSpinlock of this spinlock.

@@ -1,10 +1,8 @@
-//! Which item a core may take, and whether it may go on by itself.
+//! Which item a core may take.
 //!
 //! Each function only reads the core's state. None takes memory.
 #![tactic(auto)]
 
-pub mod admission;
-pub mod free;
+mod admission;
 
 pub use admission::is_admitted;
-pub use free::{may_dispatch, may_look_halt};

@@ -4,3 +4,4 @@ pub mod Tables
 pub mod Places
 pub mod StatusNumbers
 pub mod Few
+pub mod Sets

@@ -12,8 +12,7 @@ use Rattle.osbase.specs.declared.messages.RemoteCall.TheVariants.{ActivateTask, 
 use Rattle.osbase.specs.Objects.{object_of_call}
 use Rattle.osbase.specs.Answers.{reply, served}
 use Rattle.osplan.specs.declared.plans.Core.{Core}
-use Rattle.osplan.specs.Objects.{is_own_object, may_name}
-use Rattle.osplan.specs.View.{View}
+use Rattle.osplan.specs.Objects.{may_name}
 use Rattle.osact.specs.declared.returning.Answer.{Answer}
 use Rattle.osact.specs.Acts.{Acts, Sends, both, if_started, look, nothing, one_then, prints, when}
 use Rattle.osact.specs.Returning.{asks, reports, returns}
@@ -35,10 +34,6 @@ service_of (GetAlarm a x) = inquiry a
 -- The core that a call is for.
 abbrev pub core_of_call : RemoteCall → CoreId
 core_of_call call = (object_of_call call).place.core
-
--- A call to an object of this core. [own]
-abbrev pub is_served : View → RemoteCall → Bool
-is_served v call = is_own_object v.own (object_of_call call)
 
 -- What a script or an alarm may call: a call on an object that it may name.
 abbrev pub is_known_call : Core → RemoteCall → Bool

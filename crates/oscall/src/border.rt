@@ -9,7 +9,8 @@ ghost use Rattle.osact.specs.Checks.{is_ok_status};
 ghost use Rattle.osact.specs.Service.{answers_with, carries_out};
 ghost use Rattle.osbase.specs.Answers.{reply, served};
 ghost use Rattle.osjobs.specs.Jobs.{is_plain};
-ghost use Rattle.oscall.specs.Border.{calls, core_of_call, crosses, is_known_call, is_served, serves_action, serves_request, service_of};
+ghost use Rattle.oscall.specs.Border.{calls, core_of_call, crosses, is_known_call, serves_action, serves_request, service_of};
+ghost use Rattle.osstate.specs.Readings.{is_served};
 
 use osact::{Answer, ask, finish, refuse, report};
 use osalarmcall::{ask_left, cancel, set_absolute, set_relative};

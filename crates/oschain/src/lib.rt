@@ -3,6 +3,6 @@
 //! No function here takes memory. Each asks for room for the entries and marks that it adds.
 #![tactic(auto)]
 
-pub mod chaining;
+mod chaining;
 
 pub use chaining::{operate, resume};

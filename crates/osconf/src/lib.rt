@@ -11,6 +11,7 @@ pub use osdraft::read_config;
 pub use osgiven::{read_schedule, read_stimuli};
 pub use osplan::{
     Alarm, AlarmStart, ConfFault, Config, Core, Counter, ExpiryPoint, Isr, Plan, Protection,
-    Resource, Spinlock, Standing, Table, TableStart, Task, cut, is_separate, order_ok, standing_of,
+    Resource, Spinlock, Table, TableStart, Task, order_ok,
 };
+pub use osseparate::{Standing, cut, is_separate, standing_of};
 pub use oswrite::config_text;

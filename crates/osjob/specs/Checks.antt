@@ -6,7 +6,7 @@ use Rattle.osbase.specs.declared.references.CoreId.{CoreId}
 use Rattle.osplan.specs.declared.plans.Plan.{Plan}
 use Rattle.osplan.specs.declared.separate.Standing.{Standing}
 use Rattle.osplan.specs.declared.separate.Standing.TheVariants.{Separate, Bound, Off}
-use Rattle.osplan.specs.Separate.{cut_of, standing_of}
+use Rattle.osseparate.specs.Separate.{cut_of, standing_of}
 use Rattle.osplan.specs.View.{core_of}
 use Rattle.ostext.specs.Trace.{line_end, spaced}
 use Rattle.oswrite.specs.Writing.{config_text}

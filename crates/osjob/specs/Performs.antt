@@ -7,7 +7,7 @@ use Rattle.osbase.specs.declared.turns.CoreStimuli.{CoreStimuli}
 use Rattle.osbase.specs.declared.turns.Report.{Report}
 use Rattle.osplan.specs.declared.plans.Plan.{Plan}
 use Rattle.osplan.specs.declared.faults.ConfFault.TheVariants.{NoMemory, NotSeparate, UnknownName}
-use Rattle.osplan.specs.Separate.{cut_of, is_separate}
+use Rattle.osseparate.specs.Separate.{cut_of, is_separate}
 use Rattle.osdraft.specs.Meaning.{config_of, faults_of}
 use Rattle.osgiven.specs.Given.{schedule_faults, stimuli_faults}
 use Rattle.ostrace.specs.declared.sinks.WriteFailed.{WriteFailed as SinkFailed}

@@ -8,7 +8,7 @@ use Rattle.osbase.specs.Spins.{got_spinlocks}
 use Rattle.osplan.specs.View.{View}
 use Rattle.osact.proofs.Kept.{anybody, is_local, nobody}
 use Rattle.osstate.specs.State.{state_of}
-use Rattle.osadmit.specs.Free.{is_settled}
+use Rattle.osawait.specs.Free.{is_settled}
 use Rattle.oskernel.specs.Step.{after}
 use Rattle.oskernel.proofs.Carried.{is_replied, NamesAllow}
 use Rattle.oskernel.proofs.Holding.{Holds, holds-after, holds-local}

@@ -37,7 +37,7 @@ use Rattle.oscall.proofs.Allowed.{served-ok, service-ok}
 use Rattle.osdue.proofs.Allowed.{ActionsAllow, counts-ok}
 use Rattle.oskernel.proofs.Operated.{IsAllowed, operates-ok}
 use Rattle.ostick.specs.Faults.{answers_fault, fault_of, faults_with, protects}
-use Rattle.osadmit.specs.Free.{may_dispatch}
+use Rattle.osawait.specs.Free.{may_dispatch}
 use Rattle.oskernel.specs.Step.{after, closes, dispatches, effect, enters_from, goes_to, performs, resumes_with, service_awaiting, success_value}
 
 -- A request comes from a core that may be answered; and the call that it brings, an action and an interrupt are for an object that

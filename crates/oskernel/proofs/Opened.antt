@@ -9,7 +9,7 @@ use Rattle.osbase.specs.declared.items.Item.{Item}
 use Rattle.osbase.specs.declared.marks.Mark.{Mark}
 use Rattle.osbase.specs.History.{Entry, History, Took, Printed, Noted, Opened, Queued, Done, closed_by, open_call}
 use Rattle.osplan.specs.declared.plans.Plan.{Plan}
-use Rattle.osplan.specs.Separate.{halts_somewhere}
+use Rattle.osseparate.specs.Separate.{halts_somewhere}
 use Rattle.osplan.specs.View.{View, view_of}
 use Rattle.osact.proofs.Kept.{anybody, is_local, may_open}
 use Rattle.osact.proofs.Partners.{Partner}

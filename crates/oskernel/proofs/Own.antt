@@ -22,7 +22,7 @@ use Rattle.osstate.specs.State.{state_of}
 use Rattle.ostable.proofs.Asked.{dues-own}
 use Rattle.osact.proofs.Kept.{Leave, is_local, nobody}
 use Rattle.osadmit.specs.Admission.{admits}
-use Rattle.osadmit.specs.Free.{may_go_on}
+use Rattle.osawait.specs.Free.{may_go_on}
 use Rattle.oskernel.specs.Step.{after, history_from, outbox_size, solo_from}
 use Rattle.oskernel.proofs.Calm.{Calm, calm-local, calm-took}
 use Rattle.oskernel.proofs.Carried.{NamesActing, NamesAllow, is_replied, passes}

@@ -17,10 +17,11 @@ use Rattle.osplan.specs.declared.plans.Core.{Core}
 use Rattle.osplan.specs.declared.plans.Isr.{Isr}
 use Rattle.osplan.specs.declared.plans.Task.{Task}
 use Rattle.osplan.specs.Objects.{core_actions}
-use Rattle.osplan.specs.Separate.{acts_on, halts_somewhere, has_operation, is_named_elsewhere, is_off, is_on, names_object, op_names}
+use Rattle.osplan.specs.Naming.{acts_on, has_operation, is_off, is_on, names_object, op_names}
+use Rattle.osseparate.specs.Separate.{halts_somewhere, is_named_elsewhere}
 use Rattle.osplan.specs.View.{View, core_of, no_core, view_of}
 use Rattle.osplan.proofs.Scripts.{no-operation}
-use Rattle.osplan.proofs.Separating.{SeparateParts}
+use Rattle.osseparate.proofs.Separating.{SeparateParts}
 use Rattle.osplan.proofs.Tests.{all-not, all-weaker, fails-at, find-fails, find-holds}
 use Rattle.osstate.specs.Readings.{script_of}
 use Rattle.osact.proofs.Kept.{is_within, nobody}

@@ -11,7 +11,7 @@ use Rattle.osplan.specs.View.{View}
 use Rattle.osstate.specs.Readings.{next_start, phase_at}
 use Rattle.osstate.specs.State.{state_of}
 use Rattle.osadmit.specs.Admission.{admits, are_started_cores, awaits_get, awaits_try, is_agreement, is_next_release, is_start_answer, may_halt}
-use Rattle.osadmit.specs.Free.{is_settled, may_go_on}
+use Rattle.osawait.specs.Free.{is_settled, may_go_on}
 use Rattle.oskernel.specs.Step.{after, history_from, outbox_size, solo_from, takes}
 
 -- An envelope goes, or comes.

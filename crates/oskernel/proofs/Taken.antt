@@ -20,9 +20,10 @@ use Rattle.osbase.proofs.Phasing.{in_phase}
 use Rattle.osstate.specs.State.{KernelState}
 use Rattle.osstate.specs.Sound.{is_awaited_known, is_grant_known, is_lock_known, is_posted, is_sender_known}
 use Rattle.oscript.specs.Calls.{is_action}
-use Rattle.oscall.specs.Border.{is_served}
-use Rattle.osadmit.specs.Admission.{admits, awaits_get, awaits_try, is_awaited, is_front_for, is_get_of, is_try_of}
-use Rattle.osadmit.specs.Free.{is_empty, may_go_on}
+use Rattle.osstate.specs.Readings.{is_served}
+use Rattle.osadmit.specs.Admission.{admits, awaits_get, awaits_try, is_front_for, is_get_of, is_try_of}
+use Rattle.osawait.specs.Messages.{is_awaited}
+use Rattle.osawait.specs.Free.{is_empty, may_go_on}
 use Rattle.oskernel.specs.Taking.{is_acting, is_filling, is_for_core, is_going_on, is_known, is_second_gate}
 use Rattle.oskernel.proofs.Phases.{scheduling_past}
 

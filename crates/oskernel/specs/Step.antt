@@ -43,7 +43,7 @@ use Rattle.oscall.specs.Border.{serves_request, serves_action}
 use Rattle.oschain.specs.Chaining.{resumes}
 use Rattle.oskernel.specs.Operations.{operates}
 use Rattle.osadmit.specs.Admission.{serves_in, takes_in}
-use Rattle.osadmit.specs.Free.{may_dispatch}
+use Rattle.osawait.specs.Free.{may_dispatch}
 use Rattle.ostick.specs.Ticks.{ticks}
 
 -- An item may be taken where the state may take it to which the history leads. `places` is how many envelopes the outbox

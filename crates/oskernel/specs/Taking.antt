@@ -7,10 +7,9 @@ use Rattle.osbase.specs.declared.messages.Message.{Message}
 use Rattle.osbase.specs.declared.references.Runner.TheVariants as Runner
 use Rattle.osbase.specs.History.{job_count}
 use Rattle.osplan.specs.Stimuli.{knows_stimulus}
-use Rattle.osstate.specs.Readings.{task_ref}
+use Rattle.osstate.specs.Readings.{is_served, task_ref}
 use Rattle.osstate.specs.Sound.{activation_limit}
 use Rattle.osstate.specs.State.{KernelState}
-use Rattle.oscall.specs.Border.{is_served}
 
 -- One item is taken, and the history grows by at most so many entries. [own]
 pub record TakesItem (most : ℕ) (old new : KernelState) : Type 0 where

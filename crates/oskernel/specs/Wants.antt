@@ -16,7 +16,7 @@ use Rattle.osplan.specs.View.{View}
 use Rattle.osstate.specs.Readings.{next_start}
 use Rattle.osstate.specs.Sound.{is_lock_known}
 use Rattle.osstate.specs.State.{KernelState, state_of}
-use Rattle.osadmit.specs.Free.{may_look_halt}
+use Rattle.osawait.specs.Free.{may_look_halt}
 use Rattle.oskernel.specs.declared.wants.SpinWish.{SpinWish}
 use Rattle.oskernel.specs.declared.wants.SpinWish.TheVariants as Wish
 use Rattle.oskernel.specs.declared.wants.Want.{Want}

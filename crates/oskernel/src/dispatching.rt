@@ -9,7 +9,7 @@ ghost use Rattle.osstate.specs.Queries.{running_in};
 ghost use Rattle.osact.specs.Terms.{MayAct};
 ghost use Rattle.oskernel.specs.Step.{dispatches, enters, goes_to, leaves};
 
-use osadmit::may_dispatch;
+use osawait::may_dispatch;
 use osbase::{Job, Mark, Runner, TaskRef};
 use osstate::CoreState;
 

@@ -11,7 +11,7 @@ ghost use Rattle.osstate.specs.Does.{Adds, Does, Effects, HasRoom, item_entries,
 ghost use Rattle.osstate.specs.Sound.{is_first_gate, is_grant_known, is_posted, is_sender_known};
 ghost use Rattle.osact.specs.Terms.{MayBegin, MayPost, MayServe};
 ghost use Rattle.osact.specs.Acts.{does, look, prints};
-ghost use Rattle.oscall.specs.Border.{is_served};
+ghost use Rattle.osstate.specs.Readings.{is_served};
 ghost use Rattle.osadmit.specs.Admission.{admits};
 ghost use Rattle.oskernel.specs.Bounded.{step_entries};
 ghost use Rattle.oskernel.specs.Step.{calls_shutdown_hook, closes, effect, ends_core, gate_mark, goes_on, receives, service_awaiting, stimulates, success_value};

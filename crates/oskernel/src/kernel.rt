@@ -17,7 +17,8 @@ ghost use Rattle.osadmit.specs.Admission.{serves_in, takes_in};
 
 use crate::wants::{Want, Watch, go_on_by, start_or_enter, want_call, want_owed};
 use crate::{dispatching, effects};
-use osadmit::{is_admitted, may_look_halt};
+use osadmit::is_admitted;
+use osawait::may_look_halt;
 use osbase::{CoreId, Envelope, Item, Mark, Phase};
 use osplan::Config;
 use osstate::CoreState;

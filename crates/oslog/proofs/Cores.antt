@@ -17,7 +17,7 @@ use Rattle.osforms.proofs.Joining.{all-none, has_none}
 use Rattle.osforms.proofs.KindTexts.{number-back}
 use Rattle.osforms.proofs.Numerals.{own}
 use Rattle.osforms.proofs.RoundTrip.{chained}
-use Rattle.osplan.proofs.Starting.{flag-read, has_core-flag, no-flag}
+use Rattle.osbase.proofs.Sets.{flag-read, has_core-flag, no-flag}
 use Rattle.osplan.proofs.Tests.{all-filter, all-weaker}
 use Rattle.oslog.specs.Items.{led}
 use Rattle.oslog.specs.Words.{core_words, cores_from, with_core}

@@ -1,15 +1,12 @@
 pub mod Tests
 pub mod Rounds
-pub mod Distinct
 pub mod Within
+pub mod Numbered
 pub mod Scripts
 pub mod Alarming
 pub mod Clocked
 pub mod Timing
-pub mod Starting
-pub mod Reached
-pub mod Separating
-pub mod Cutting
+pub mod Acting
 pub mod EveryKind
 pub mod Least
 pub mod Counters

@@ -3,7 +3,7 @@ use Rattle.std.proofs.Common.{◌≡◌, ◌&&◌, ◌||◌, Bool, false, List, 
 use Rattle.std.specs.List.{list_all, list_any}
 use Rattle.std.proofs.{lemmas.Bool.or_parts, lemmas.List.Folds.list_all-append, lemmas.List.Folds.list_all-map, lemmas.List.Folds.list_any-append}
 use Rattle.oscript.specs.declared.Op.{Op}
-use Rattle.osplan.specs.{declared.plans.Core.Core, declared.plans.Isr.Isr, declared.plans.Task.Task, Objects.core_scripts, Separate.has_operation}
+use Rattle.osplan.specs.{declared.plans.Core.Core, declared.plans.Isr.Isr, declared.plans.Task.Task, Naming.has_operation, Objects.core_scripts}
 use Rattle.osplan.proofs.Tests.{any-mapped}
 
 pub all_scripts : (p : List Op → Bool) (core : Core) → list_all p (core_scripts core) ≡ (list_all (λ (task : Task). p task.script) core.tasks && list_all (λ (isr : Isr). p isr.script) core.isrs)

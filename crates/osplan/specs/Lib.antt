@@ -7,7 +7,6 @@ pub mod Clocked
 pub mod Names
 pub mod Limits
 pub mod Expressible
-pub mod Separate
+pub mod Naming
 pub mod Fault
-pub mod Flags
 pub mod Counters

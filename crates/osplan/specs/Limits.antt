@@ -31,7 +31,7 @@ use Rattle.osplan.specs.declared.plans.Task.{Task}
 use Rattle.osbase.specs.declared.items.CoreMode.{CoreMode}
 use Rattle.osbase.specs.declared.items.CoreMode.TheVariants.{Named, DontCare}
 use Rattle.osplan.specs.Objects.{alarm_modes, core_scripts, has_index, is_common, posted_at_once, table_actions, table_modes}
-use Rattle.osplan.specs.Separate.{is_on, names_other}
+use Rattle.osplan.specs.Naming.{is_on, names_other}
 use Rattle.osplan.specs.Spinlocks.{are_links_ordered, links_of}
 use Rattle.osplan.specs.View.{core_of, counter_in}
 

@@ -1,10 +1,9 @@
-//! The configuration of an operating system, what one core sees of it, and which cores are separate.
+//! The configuration of an operating system, and what one core sees of it.
 //!
 //! A `Config` is within the limits, every reference in it names an object of it, where it must one of its own
 //! core, and a text can say it: the layers above test none of these again.
 #![tactic(auto)]
 
-mod cuts;
 pub mod faults;
 mod modes;
 mod names;
@@ -12,18 +11,16 @@ mod operations;
 pub mod own;
 pub mod plans;
 mod protection;
-pub mod separate;
 mod sides;
 pub mod spinlocks;
 
-pub use cuts::cut;
 pub use faults::ConfFault;
 pub use modes::{DONT_CARE, is_reserved};
+pub use operations::{OpTest, has_operation};
 pub use plans::{
     Alarm, AlarmStart, COMMON, Config, Core, Counter, ExpiryPoint, Isr, KINDS, Plan, Resource,
     Spinlock, Table, TableStart, Task,
 };
 pub use protection::Protection;
-pub use separate::{Standing, is_separate, standing_of};
-pub use sides::stays_on;
+pub use sides::{Side, stays_on};
 pub use spinlocks::order_ok;

@@ -4,7 +4,7 @@ ghost use Rattle.std.specs.Prelude.{◌≡◌};
 ghost use Rattle.std.specs.List.{list_any};
 ghost use Rattle.osplan.specs.declared.plans.Isr.{Isr as IsrValue};
 ghost use Rattle.osplan.specs.declared.plans.Task.{Task as TaskValue};
-ghost use Rattle.osplan.specs.Separate.{has_operation, passes_test};
+ghost use Rattle.osplan.specs.Naming.{has_operation, passes_test};
 
 use crate::plans::Core;
 use crate::sides::Side;

@@ -8,7 +8,7 @@ ghost use Rattle.osplan.specs.Limits.{stays_on};
 ghost use Rattle.osplan.specs.declared.plans.Alarm.{Alarm as AlarmValue};
 ghost use Rattle.osplan.specs.declared.plans.ExpiryPoint.{ExpiryPoint as PointValue};
 ghost use Rattle.osplan.specs.declared.plans.Table.{Table as TableValue};
-ghost use Rattle.osplan.specs.Separate.{acts_on, is_at, is_on, names_object, op_names};
+ghost use Rattle.osplan.specs.Naming.{acts_on, is_at, is_on, names_object, op_names};
 
 use crate::operations::{OpTest, has_operation};
 use crate::plans::{Core, Table};
@@ -96,7 +96,7 @@ impl Side {
     }
 
     // Whether an alarm or a schedule table acts on such an object.
-    #[tactic(auto, using(crate::proofs::Separating::any_pointed))]
+    #[tactic(auto, using(crate::proofs::Acting::any_pointed))]
     fn is_acted_on(self, core: &Core) -> bool
         ensures { result ≡ acts_on (is_at self) core.now }
     {

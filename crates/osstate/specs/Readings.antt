@@ -10,12 +10,14 @@ use Rattle.osbase.specs.declared.references.TableRef.{TableRef}
 use Rattle.osbase.specs.declared.references.IsrRef.{IsrRef}
 use Rattle.osbase.specs.declared.references.TaskRef.{TaskRef}
 use Rattle.osbase.specs.declared.references.Runner.{Runner}
+use Rattle.osbase.specs.declared.messages.RemoteCall.{RemoteCall}
 use Rattle.osbase.specs.declared.histories.Job.{Job}
 use Rattle.osbase.specs.declared.histories.HeldResource.{HeldResource}
 use Rattle.osbase.specs.declared.histories.Phase.{Phase}
 use Rattle.osbase.specs.declared.histories.TaskEvents.{TaskEvents}
 use Rattle.osbase.specs.History.{History, same_core, current_job, giving_way, live_jobs, first_greatest, started_cores, phase_of}
 use Rattle.osbase.specs.Interrupts.{entered_isrs, is_pending_among, isr_jobs, running_job}
+use Rattle.osbase.specs.Objects.{object_of_call}
 use Rattle.osbase.specs.Sets.{has_core, numbers_from}
 use Rattle.oscript.specs.declared.Op.{Op}
 use Rattle.oscript.specs.declared.Frame.{Frame}
@@ -27,6 +29,7 @@ use Rattle.osplan.specs.declared.plans.Isr.{Isr}
 use Rattle.osplan.specs.declared.plans.Resource.{Resource}
 use Rattle.osplan.specs.declared.plans.Table.{Table}
 use Rattle.osplan.specs.declared.plans.Task.{Task}
+use Rattle.osplan.specs.Objects.{is_own_object}
 use Rattle.osplan.specs.View.{View, own_alarm, own_counter, own_isr, own_resource, own_table, own_task}
 use Rattle.osbase.specs.declared.limits.TheConstants.{RUNNERS, TASKS}
 use Rattle.osclock.specs.Clocks.{alarm_ref, counter_ref}
@@ -38,6 +41,10 @@ use Rattle.osjobs.specs.Priorities.{is_able_in, level_by, priority_by, raised_of
 -- The object is one of this core's.
 abbrev pub is_own : View → CoreId → Bool
 is_own v core = same_core core v.core
+
+-- A call to an object of this core. [own]
+abbrev pub is_served : View → RemoteCall → Bool
+is_served v call = is_own_object v.own (object_of_call call)
 
 -- The script of a task or an ISR of this core.
 abbrev pub script_of : Core → Runner → List Op

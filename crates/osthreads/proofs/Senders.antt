@@ -17,12 +17,13 @@ use Rattle.osplan.specs.declared.plans.Core.{Core}
 use Rattle.osplan.specs.declared.plans.Plan.{Plan}
 use Rattle.osplan.specs.Limits.{is_within_limits}
 use Rattle.osplan.specs.View.{View, core_of, is_configured, view_of}
-use Rattle.osplan.proofs.Starting.{configured-low}
+use Rattle.osplan.proofs.Numbered.{configured-low}
 use Rattle.osbase.proofs.Places.{passes-at}
 use Rattle.osstate.specs.Readings.{phase_at}
 use Rattle.osstate.specs.State.{state_of}
 use Rattle.osstate.proofs.Begun.{is_some-core_of}
-use Rattle.osadmit.specs.Admission.{admits, is_awaited, are_started_cores}
+use Rattle.osadmit.specs.Admission.{admits, are_started_cores}
+use Rattle.osawait.specs.Messages.{is_awaited}
 use Rattle.oskernel.specs.Step.{after, history_from, outbox_size, solo_from}
 use Rattle.oskernel.proofs.Holding.{quiet_after}
 use Rattle.oskernel.proofs.Stages.{solo-parts}

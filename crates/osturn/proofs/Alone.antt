@@ -20,11 +20,11 @@ use Rattle.osbase.specs.declared.items.CoreMode.{CoreMode}
 use Rattle.osbase.specs.declared.items.CoreMode.TheVariants.{Named, DontCare}
 use Rattle.osplan.specs.Limits.{is_within_limits}
 use Rattle.osplan.proofs.Within.{limit-parts}
-use Rattle.osplan.specs.Separate.{alone_of, cut_of, is_agreed_mode, is_named_elsewhere, is_separate_core, names_mode}
+use Rattle.osseparate.specs.Separate.{alone_of, cut_of, is_agreed_mode, is_named_elsewhere, is_separate_core, names_mode}
 use Rattle.osplan.specs.Stimuli.{AreKnown}
 use Rattle.osplan.specs.View.{Around, View, core_of, is_configured, no_core, view_of}
-use Rattle.osplan.proofs.Separating.{SeparateParts, separate-parts}
-use Rattle.osplan.proofs.Starting.{configured-low}
+use Rattle.osseparate.proofs.Separating.{SeparateParts, separate-parts}
+use Rattle.osplan.proofs.Numbered.{configured-low}
 use Rattle.osplan.proofs.Tests.{all-weaker, find-holds}
 use Rattle.osstate.specs.Readings.{is_own}
 use Rattle.osact.proofs.Kept.{nobody}

@@ -13,7 +13,7 @@ use Rattle.osbase.specs.History.{History, Took, began_count, first_phase, same_c
 use Rattle.osbase.specs.Phases.{is_scheduling, place_of}
 use Rattle.osbase.specs.Sets.{has_core}
 use Rattle.osbase.proofs.Same.{same_core-comm, same_core-refl, same_core-true}
-use Rattle.osplan.specs.Separate.{is_among}
+use Rattle.osseparate.specs.Separate.{is_among}
 use Rattle.osplan.specs.View.{View, is_configured}
 use Rattle.osstate.specs.Readings.{next_start, phase_at}
 use Rattle.osstate.specs.State.{state_of}

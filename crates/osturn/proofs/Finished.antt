@@ -17,10 +17,11 @@ use Rattle.osbase.proofs.Tables.{table-at}
 use Rattle.osplan.specs.declared.plans.Plan.{Plan}
 use Rattle.osplan.specs.declared.plans.Core.{Core}
 use Rattle.osplan.specs.Limits.{is_within_limits}
-use Rattle.osplan.specs.Separate.{configured_ids, is_among, is_named_by, is_separate, is_separate_core, is_started, started_within}
+use Rattle.osseparate.specs.Separate.{configured_ids, is_among, is_named_by, is_separate, is_separate_core, is_started, started_within}
 use Rattle.osplan.specs.View.{View, core_of, no_core, view_of}
 use Rattle.osplan.proofs.Found.{IsFound, each-found}
-use Rattle.osplan.proofs.Starting.{among-configured, configured-low, kept}
+use Rattle.osplan.proofs.Numbered.{configured-low}
+use Rattle.osseparate.proofs.Starting.{among-configured, kept}
 use Rattle.osplan.proofs.Tests.{find-holds}
 use Rattle.osplan.proofs.Within.{limit-parts}
 use Rattle.osstate.proofs.Begun.{is_some-core_of}

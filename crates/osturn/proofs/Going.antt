@@ -24,7 +24,7 @@ use Rattle.osstate.specs.State.{KernelState, state_of}
 use Rattle.oskernel.specs.declared.wants.SpinWish.TheVariants as Wish
 use Rattle.oskernel.specs.declared.wants.Want.{Want}
 use Rattle.osadmit.specs.Admission.{admits, asks_halt, has_asked_halt}
-use Rattle.osadmit.specs.Free.{is_free, may_dispatch, may_go_on}
+use Rattle.osawait.specs.Free.{is_free, may_dispatch, may_go_on}
 use Rattle.oskernel.specs.Step.{after, dispatches, enters, goes_to, leaves, outbox_size}
 use Rattle.oskernel.specs.Wants.{go_on_by, post_or, start_or_enter, want_call, want_for, want_from, want_in, want_owed}
 use Rattle.oskernel.proofs.Calm.{Calm}

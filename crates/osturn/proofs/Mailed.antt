@@ -20,7 +20,8 @@ use Rattle.osplan.specs.View.{View}
 use Rattle.osstate.specs.Readings.{is_own, knows_started, phase_at}
 use Rattle.osact.proofs.Kept.{anybody, is_local, nobody}
 use Rattle.osstate.specs.State.{state_of}
-use Rattle.osadmit.specs.Admission.{admits, is_awaited, is_front_for, is_reply_to}
+use Rattle.osadmit.specs.Admission.{admits, is_front_for}
+use Rattle.osawait.specs.Messages.{is_awaited, is_reply_to}
 use Rattle.oskernel.specs.Step.{after, history_from, outbox_size, solo_from}
 use Rattle.oskernel.proofs.Calm.{Calm, calm-after}
 use Rattle.oskernel.proofs.Carried.{replied-anybody, NamesAllow}

@@ -7,7 +7,7 @@ use Rattle.osbase.specs.declared.limits.TheConstants.{CORES}
 use Rattle.osbase.specs.History.{no_cores}
 use Rattle.osbase.specs.Sets.{has_core}
 use Rattle.osbase.proofs.Same.{same_core-refl}
-use Rattle.osplan.proofs.Starting.{flag-read, has_core-flag, no-flag, one-flag}
+use Rattle.osbase.proofs.Sets.{flag-read, has_core-flag, no-flag, one-flag}
 use Rattle.osboard.specs.Boards.{with_core}
 
 -- The one that joined, or one that was there.

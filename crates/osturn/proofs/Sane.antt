@@ -22,10 +22,10 @@ use Rattle.osplan.specs.declared.plans.Plan.{Plan}
 use Rattle.osplan.specs.declared.plans.Core.{Core}
 use Rattle.osbase.specs.declared.items.CoreMode.{CoreMode}
 use Rattle.osbase.specs.declared.items.CoreMode.TheVariants.{Named, DontCare}
-use Rattle.osplan.specs.Separate.{agree, halts_somewhere, is_agreed_mode, is_among, is_started}
+use Rattle.osseparate.specs.Separate.{agree, halts_somewhere, is_agreed_mode, is_among, is_started}
 use Rattle.osplan.specs.View.{View, core_of, is_configured, no_core, view_of}
-use Rattle.osplan.proofs.Reached.{started-master, started-next}
-use Rattle.osplan.proofs.Starting.{no-flag}
+use Rattle.osseparate.proofs.Reached.{started-master, started-next}
+use Rattle.osbase.proofs.Sets.{no-flag}
 use Rattle.osplan.proofs.Tests.{find-holds, find-passes}
 use Rattle.osact.proofs.Kept.{may_open}
 use Rattle.osact.proofs.Partners.{partner_of}

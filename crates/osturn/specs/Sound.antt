@@ -14,7 +14,7 @@ use Rattle.osbase.specs.Runs.{stimuli_of}
 use Rattle.osplan.specs.declared.plans.Plan.{Plan}
 use Rattle.osbase.specs.declared.items.CoreMode.{CoreMode}
 use Rattle.osbase.specs.declared.items.CoreMode.TheVariants.{Named, DontCare}
-use Rattle.osplan.specs.Separate.{cut_of, is_separate}
+use Rattle.osseparate.specs.Separate.{cut_of, is_separate}
 use Rattle.osplan.specs.View.{View, view_of}
 use Rattle.oskernel.specs.Step.{after, solo}
 use Rattle.ostext.specs.Trace.{block_of}

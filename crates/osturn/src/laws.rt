@@ -6,7 +6,7 @@ ghost use Rattle.osbase.specs.declared.turns.CoreStimuli.{CoreStimuli};
 ghost use Rattle.osbase.specs.declared.turns.Report.{Report};
 ghost use Rattle.osplan.specs.declared.plans.Plan.{Plan};
 ghost use Rattle.osplan.specs.Limits.{is_within_limits};
-ghost use Rattle.osplan.specs.Separate.{is_separate};
+ghost use Rattle.osseparate.specs.Separate.{is_separate};
 ghost use Rattle.osturn.specs.Ends.{have_all_ended};
 ghost use Rattle.osturn.specs.Fits.{has_drained, items_of};
 ghost use Rattle.osturn.specs.Sound.{AreSound, lists_in};

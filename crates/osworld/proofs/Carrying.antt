@@ -13,7 +13,7 @@ use Rattle.osbase.specs.History.{front_envelope, outbox, posted, received_count,
 use Rattle.osmail.specs.Mail.{Mail, after_take, box_of, oldest_of, with_box}
 use Rattle.osplan.specs.declared.plans.Plan.{Plan}
 use Rattle.osplan.specs.View.{view_of}
-use Rattle.osplan.proofs.Starting.{and-true}
+use Rattle.std.proofs.Math.Bool.{and-true}
 use Rattle.osbase.proofs.Same.{same_core-true}
 use Rattle.oskernel.specs.Step.{after, history_from}
 use Rattle.oskernel.specs.Wants.{front_of}

@@ -12,7 +12,7 @@ use Rattle.osbase.specs.Runs.{stimuli_of}
 use Rattle.osplan.specs.declared.plans.Plan.{Plan}
 use Rattle.osplan.specs.View.{view_of}
 use Rattle.osstate.specs.State.{state_of}
-use Rattle.osplan.proofs.Starting.{and-true}
+use Rattle.std.proofs.Math.Bool.{and-true}
 use Rattle.osbase.proofs.Same.{same_core-true}
 use Rattle.osseat.specs.Histories.{IsLegal, entry}
 use Rattle.osseat.proofs.Steps.{legal_snoc}

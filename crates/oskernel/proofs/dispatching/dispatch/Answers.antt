@@ -5,7 +5,7 @@ use Rattle.osstate.specs.Does.{Effects}
 use Rattle.osstate.specs.State.{KernelState, state_of}
 use Rattle.osstate.proofs.Effecting.{as_effect}
 use Rattle.osstate.proofs.ReadLemmas.{read}
-use Rattle.osadmit.specs.Free.{may_dispatch}
+use Rattle.osawait.specs.Free.{may_dispatch}
 use Rattle.oskernel.specs.Step.{goes_to}
 use Rattle.oskernel.proofs.dispatching.dispatch.Goals as goal
 

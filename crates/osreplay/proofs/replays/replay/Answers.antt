@@ -2,7 +2,7 @@ use Rattle.std.proofs.Common.{◌+◌, ℕ, List, [], ap, refl, subst}
 use Rattle.std.proofs.lemmas.List.{take_all}
 use Rattle.std.proofs.lemmas.Option.{slice_get-get_or}
 use Rattle.osbase.specs.declared.items.Item.{Item}
-use Rattle.osplan.proofs.Starting.{configured-low}
+use Rattle.osplan.proofs.Numbered.{configured-low}
 use Rattle.osturn.proofs.Seated.{seated-first}
 use Rattle.osreplay.specs.Replays.{IsReplayed}
 use Rattle.osreplay.proofs.Replaying.{cut-short, refuses, reports, takes-on}

@@ -1,7 +1,7 @@
 use Rattle.std.proofs.Common.{◌∙◌, ap}
 use Rattle.std.specs.List.{list_any}
 use Rattle.oscript.proofs.Present.{any_present}
-use Rattle.osplan.specs.Separate.{is_at}
+use Rattle.osplan.specs.Naming.{is_at}
 use Rattle.osplan.proofs.sides.Side.is_named_by_op.Goals as goal
 
 pub returns : goal.returns

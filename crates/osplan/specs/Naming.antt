@@ -1,0 +1,57 @@
+-- What the scripts, alarms and tables of a core name: objects of one core, or of another.
+use Rattle.std.specs.Prelude.{◌||◌, not, Bool}
+use Rattle.std.specs.List.{list_any}
+use Rattle.osbase.specs.declared.references.CoreId.{CoreId}
+use Rattle.osbase.specs.declared.messages.RemoteCall.{RemoteCall}
+use Rattle.osbase.specs.declared.objects.Object.{Object}
+use Rattle.osbase.specs.History.{same_core}
+use Rattle.osbase.specs.Objects.{object_of_call}
+use Rattle.oscript.specs.declared.Op.{Op}
+use Rattle.oscript.specs.Rows.{asks_shared, halts_all, objects_of}
+use Rattle.osplan.specs.declared.plans.Core.{Core}
+use Rattle.osplan.specs.declared.sides.Side.{Side}
+use Rattle.osplan.specs.declared.sides.Side.TheVariants.{On, Off}
+use Rattle.osplan.specs.declared.operations.OpTest.{OpTest}
+use Rattle.osplan.specs.declared.operations.OpTest.TheVariants.{Names, AsksShared, HaltsAll}
+use Rattle.osplan.specs.Objects.{core_actions, core_scripts}
+
+-- The object stands on this core.
+abbrev pub is_on : CoreId → Object → Bool
+is_on id object = same_core object.place.core id
+
+-- It stands on another.
+abbrev pub is_off : CoreId → Object → Bool
+is_off id object = not (is_on id object)
+
+-- It stands on the side that is asked for.
+abbrev pub is_at : Side → Object → Bool
+is_at (On id) object = is_on id object
+is_at (Off id) object = is_off id object
+
+-- The operation names an object that passes the test. The invalid identifier names nothing.
+abbrev pub op_names : (Object → Bool) → Op → Bool
+op_names test op = list_any test (objects_of op)
+
+abbrev pub names_own : CoreId → Op → Bool
+names_own id op = op_names (is_on id) op
+
+abbrev pub names_other : CoreId → Op → Bool
+names_other id op = op_names (is_off id) op
+
+-- The operation names an object on this side, asks for what all cores share, or shuts all cores down.
+abbrev pub passes_test : OpTest → Op → Bool
+passes_test (Names side) = op_names (is_at side)
+passes_test AsksShared = asks_shared
+passes_test HaltsAll = halts_all
+
+-- A script of the core has such an operation.
+abbrev pub has_operation : (Op → Bool) → Core → Bool
+has_operation test core = list_any (list_any test) (core_scripts core)
+
+-- An alarm or a schedule table of the core acts on an object that passes the test.
+abbrev pub acts_on : (Object → Bool) → Core → Bool
+acts_on test core = list_any (λ (action : RemoteCall). test (object_of_call action)) (core_actions core)
+
+-- The core names an object that passes the test, by a script, an alarm or a table. [own]
+abbrev pub names_object : (Object → Bool) → Core → Bool
+names_object test core = has_operation (op_names test) core || acts_on test core

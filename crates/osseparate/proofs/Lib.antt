@@ -1,0 +1,5 @@
+pub mod Starting
+pub mod Reached
+pub mod Distinct
+pub mod Separating
+pub mod Cutting

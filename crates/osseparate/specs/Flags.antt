@@ -1,0 +1,22 @@
+-- The started cores as the code keeps them: a set with a flag for each core number.
+use Rattle.std.specs.Prelude.{◌≡◌, ◌&&◌, ◌||◌, Bool, List, true, is_some}
+use Rattle.std.specs.List.{list_any}
+use Rattle.osbase.specs.declared.references.CoreId.{CoreId}
+use Rattle.osbase.specs.declared.items.CoreSet.{CoreSet}
+use Rattle.osbase.specs.Sets.{has_core}
+use Rattle.osplan.specs.declared.plans.Plan.{Plan}
+use Rattle.osplan.specs.declared.plans.Core.{Core}
+use Rattle.osplan.specs.View.{core_of}
+use Rattle.osseparate.specs.Separate.{is_among, is_started}
+
+-- A core of the set names this one in its start list.
+abbrev pub is_named_by_one_of : List Core → CoreSet → CoreId → Bool
+is_named_by_one_of cores started id = list_any (λ (c : Core). has_core started c.id && is_among c.start id) cores
+
+-- The core is in the set after one more round of start lists.
+abbrev pub is_next : List Core → CoreSet → CoreId → Bool
+is_next cores started id = has_core started id || is_named_by_one_of cores started id
+
+-- Of the configured cores those are in the set that are started.
+abbrev pub AreStarted : Plan → CoreSet → Type 0
+AreStarted plan cores = (id : CoreId) → is_some (core_of plan id) ≡ true → is_started plan id ≡ has_core cores id

@@ -1,0 +1,2 @@
+pub mod Separate
+pub mod Flags
