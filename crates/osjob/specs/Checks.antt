@@ -4,8 +4,8 @@ use Rattle.std.specs.Fmt.{decimal}
 use Rattle.std.specs.List.{flat_map}
 use Rattle.osbase.specs.declared.references.CoreId.{CoreId}
 use Rattle.osplan.specs.declared.plans.Plan.{Plan}
-use Rattle.osplan.specs.declared.separate.Standing.{Standing}
-use Rattle.osplan.specs.declared.separate.Standing.TheVariants.{Separate, Bound, Off}
+use Rattle.osseparate.specs.declared.separate.Standing.{Standing}
+use Rattle.osseparate.specs.declared.separate.Standing.TheVariants.{Separate, Bound, Off}
 use Rattle.osseparate.specs.Separate.{cut_of, standing_of}
 use Rattle.osplan.specs.View.{core_of}
 use Rattle.ostext.specs.Trace.{line_end, spaced}
