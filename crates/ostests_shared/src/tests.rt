@@ -1,4 +1,5 @@
 mod board;
 mod mail;
+mod queue;
 mod spinlocks;
 mod trace;

@@ -1,0 +1,21 @@
+-- Whether a kernel is large enough for a core.
+use Rattle.std.specs.Prelude.{ℕ, ◌&&◌, nat_le, nat_lt, Bool, false, Option, sum_by}
+use Rattle.std.specs.List.{list_all}
+use Rattle.std.specs.Option.{option_map_or}
+use Rattle.osplan.specs.declared.plans.Core.{Core}
+use Rattle.osplan.specs.declared.plans.Resource.{Resource}
+use Rattle.osplan.specs.declared.plans.Task.{Task}
+use Rattle.osplan.specs.Objects.{outbox_needed}
+
+-- The core's priorities and ceilings are below this bound; there is room for as many jobs as its tasks may have, and for as many envelopes
+-- as its outbox needs. [own]
+abbrev pub fits_core : ℕ → ℕ → ℕ → Core → Bool
+fits_core priorities jobs places core =
+    list_all (λ (t : Task). nat_lt t.priority priorities) core.tasks
+    && list_all (λ (r : Resource). nat_lt r.ceiling priorities) core.resources
+    && nat_le (sum_by (λ (t : Task). t.activations) core.tasks) jobs
+    && nat_le (outbox_needed core) places
+
+-- The same of a core that may be configured; one that is not fits nowhere.
+abbrev pub fits_in : ℕ → ℕ → ℕ → Option Core → Bool
+fits_in priorities jobs places core = option_map_or (fits_core priorities jobs places) core false

@@ -1,0 +1,126 @@
+//! Whether a kernel is large enough for a core.
+
+ghost use Rattle.std.specs.Prelude.{◌≡◌, ◌<◌, ◌≤◌, ◌^◌, count_by, nat_lt, sum_by};
+ghost use Rattle.std.specs.List.{list_all};
+ghost use Rattle.osbase.specs.declared.limits.TheConstants.{JOBS, POSTED};
+ghost use Rattle.osplan.specs.declared.plans.Alarm.{Alarm as AlarmValue};
+ghost use Rattle.osplan.specs.declared.plans.Resource.{Resource as ResourceValue};
+ghost use Rattle.osplan.specs.declared.plans.Task.{Task as TaskValue};
+ghost use Rattle.osfit.specs.Fits.{fits_core, fits_in};
+ghost use Rattle.osplan.specs.Objects.{greatest_posted, is_posting, outbox_needed, posted_at, posted_at_once};
+ghost use Rattle.osplan.specs.View.{core_of};
+
+use osbase::{CALLS_AT_ONCE, CoreId, RemoteCall};
+use osplan::{Config, Core, ExpiryPoint, Table, Task};
+
+fn is_posting(core: &Core, action: RemoteCall) -> bool
+    ensures { result ≡ is_posting core.now action }
+{
+    action.object().place.core.number != core.id.number
+}
+
+fn posted_at(core: &Core, point: &ExpiryPoint) -> usize
+    ensures { result ≡ posted_at core.now point.now }
+{
+    point
+        .actions
+        .as_slice()
+        .iter()
+        .filter(|action| is_posting(core, **action))
+        .count()
+}
+
+fn greatest_posted(core: &Core, table: &Table) -> usize
+    ensures { result ≡ greatest_posted core.now table.now }
+{
+    let mut greatest = 0;
+    for point in table.points.as_slice() {
+        let posted = posted_at(core, point);
+        if posted > greatest {
+            greatest = posted;
+        }
+    }
+    greatest
+}
+
+fn posted_by_alarms(core: &Core) -> usize
+    ensures { result ≡ count_by (λ (alarm : AlarmValue). is_posting core.now alarm.action) core.now.alarms }
+{
+    core.alarms
+        .as_slice()
+        .iter()
+        .filter(|alarm| is_posting(core, alarm.action))
+        .count()
+}
+
+fn posted_by_tables(core: &Core) -> usize
+    requires { sum_by (greatest_posted core.now) core.now.tables < 2 ^ 64 }
+    ensures { result ≡ sum_by (greatest_posted core.now) core.now.tables }
+{
+    core.tables
+        .as_slice()
+        .iter()
+        .map(|table| greatest_posted(core, table))
+        .sum()
+}
+
+// How many places the core's outbox needs at least.
+fn outbox_needed(core: &Core) -> usize
+    requires { posted_at_once core.now ≤ POSTED }
+    ensures { result ≡ outbox_needed core.now }
+{
+    CALLS_AT_ONCE + (posted_by_alarms(core) + posted_by_tables(core))
+}
+
+// How many jobs these tasks may have.
+fn jobs_of(tasks: &[Task]) -> usize
+    requires { sum_by (λ (t : TaskValue). t.activations) tasks.now < 2 ^ 64 }
+    ensures { result ≡ sum_by (λ (t : TaskValue). t.activations) tasks.now }
+{
+    let mut jobs = 0;
+    for task in tasks {
+        jobs += usize::from(task.activations);
+    }
+    jobs
+}
+
+fn are_tasks_below(core: &Core, priorities: usize) -> bool
+    ensures { result ≡ list_all (λ (t : TaskValue). nat_lt t.priority priorities) core.now.tasks }
+{
+    core.tasks
+        .as_slice()
+        .iter()
+        .all(|task| usize::from(task.priority) < priorities)
+}
+
+fn are_ceilings_below(core: &Core, priorities: usize) -> bool
+    ensures { result ≡ list_all (λ (r : ResourceValue). nat_lt r.ceiling priorities) core.now.resources }
+{
+    core.resources
+        .as_slice()
+        .iter()
+        .all(|resource| usize::from(resource.ceiling) < priorities)
+}
+
+fn fits_core(core: &Core, priorities: usize, jobs: usize, places: usize) -> bool
+    requires activations { sum_by (λ (t : TaskValue). t.activations) core.now.tasks ≤ JOBS }
+    requires posted { posted_at_once core.now ≤ POSTED }
+    ensures { result ≡ fits_core priorities jobs places core.now }
+{
+    are_tasks_below(core, priorities)
+        && are_ceilings_below(core, priorities)
+        && jobs_of(core.tasks.as_slice()) <= jobs
+        && outbox_needed(core) <= places
+}
+
+/// Whether a kernel whose priorities and ceilings are below this bound, with room for so many jobs and with so many places in its
+/// outbox, is large enough for the core of this number. A core that is not configured fits nowhere.
+pub fn fits(config: &Config, core: CoreId, priorities: usize, jobs: usize, places: usize) -> bool
+    ensures { result ≡ fits_in priorities jobs places (core_of config.now core) }
+{
+    let plan = config.plan();
+    match plan.core(core) {
+        Some(own) => fits_core(own, priorities, jobs, places),
+        None => false,
+    }
+}

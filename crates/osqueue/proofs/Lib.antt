@@ -1,0 +1,5 @@
+pub mod Bits
+pub mod Ordering
+pub mod Linking
+pub mod Pooling
+pub mod Queueing

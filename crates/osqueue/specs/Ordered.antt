@@ -1,0 +1,42 @@
+-- The order in which ready jobs run, and lists of them in that order.
+use Rattle.std.specs.Prelude.{◌≡◌, ◌<◌, ◌≤◌, ◌==◌, ◌&&◌, nat_lt, Bool, if◌then◌else◌, Option, Some, None, List, [], ◌∷◌}
+use Rattle.std.specs.List.{All, Contains}
+use Rattle.osqueue.specs.declared.ready.Ready.{Ready}
+
+-- The first of two jobs runs first: its priority is greater, or is the same, and then its stamp is smaller.
+-- [OSEK/VDX OS 2.2.3, section 4.5]
+unfoldable pub precedes : Ready → Ready → Bool
+precedes x y = if x.priority == y.priority then nat_lt x.job.stamp y.job.stamp else nat_lt y.priority x.priority
+
+-- Both have one priority and one stamp.
+unfoldable pub is_same : Ready → Ready → Bool
+is_same x y = (x.priority == y.priority) && (x.job.stamp == y.job.stamp)
+
+-- The list with one job more, at its place.
+abbrev pub placed : Ready → List Ready → List Ready
+placed x [] = x ∷ []
+placed x (y ∷ ys) = if precedes x y then x ∷ y ∷ ys else y ∷ placed x ys
+
+-- The list without a job.
+abbrev pub without : Ready → List Ready → List Ready
+without x [] = []
+without x (y ∷ ys) = if is_same x y then ys else y ∷ without x ys
+
+-- The jobs of some places, the one to run first in front.
+abbrev pub ordered : List (Option Ready) → List Ready
+ordered [] = []
+ordered (None ∷ places) = ordered places
+ordered (Some x ∷ places) = placed x (ordered places)
+
+-- The second job, if it has the priority of the first, stands before it, or behind it.
+abbrev pub ComesBefore : Ready → Ready → Type 0
+ComesBefore x y = y.priority ≡ x.priority → y.job.stamp < x.job.stamp
+
+abbrev pub ComesAfter : Ready → Ready → Type 0
+ComesAfter x y = y.priority ≡ x.priority → x.job.stamp < y.job.stamp
+
+-- The job is one of these, none has a greater priority, and none of its priority a smaller stamp.
+pub record IsBest (x : Ready) (all : List Ready) : Type 0 where
+  pub there : Contains all x
+  pub greatest : All (λ (y : Ready). y.priority ≤ x.priority) all
+  pub oldest : All (λ (y : Ready). y.priority ≡ x.priority → x.job.stamp ≤ y.job.stamp) all
