@@ -4,6 +4,7 @@ use Rattle.std.specs.List.{slice_index_or, slice_set}
 use Rattle.std.proofs.lemmas.Bool.{eq-eqb, eqb-true, false≢true}
 use Rattle.std.proofs.lemmas.List.{get_or-replicate}
 use Rattle.osbase.specs.declared.references.Runner.{Runner}
+use Rattle.osbase.specs.declared.references.Runner.TheVariants as Runner
 use Rattle.osbase.specs.declared.histories.Job.{Job}
 use Rattle.osbase.specs.History.{job_count, oldest, same_runner, without_oldest}
 use Rattle.osbase.specs.Sets.{slot_of}
@@ -11,7 +12,7 @@ use Rattle.osbase.proofs.Same.{same_runner-true}
 use Rattle.osbase.specs.declared.limits.TheConstants.{RUNNERS}
 use Rattle.osjobs.specs.Live.{AreCounted, place_count}
 
-same-place : (a b : Runner) → same_runner a b ≡ true → nat_eq (slot_of a) (slot_of b) ≡ true
+pub same-place : (a b : Runner) → same_runner a b ≡ true → nat_eq (slot_of a) (slot_of b) ≡ true
 same-place a b same = eq-eqb (slot_of a) (slot_of b) (ap slot_of (same_runner-true a b same))
 
 -- ---- one more, and one fewer
@@ -178,3 +179,7 @@ counted-without jobs counts r j is found out = record { each = λ n h. is.each n
 
 pub none-counted : AreCounted [] (replicate RUNNERS 0)
 none-counted = record { each = λ n h. get_or-replicate RUNNERS n 0 0 h }
+
+-- a job for a place where there is none
+abbrev pub no-job : Job
+no-job = record { runner = Runner.Task (record { core = record { number = 0 }; index = 0 }); stamp = 0 }

@@ -1,7 +1,13 @@
 pub mod Counting
 pub mod Removal
-pub mod Choosing
 pub mod Stamps
 pub mod Running
 pub mod Unlisted
 pub mod Elders
+pub mod Dominating
+pub mod Configured
+pub mod Queued
+pub mod Keeping
+pub mod Covering
+pub mod CurrentJob
+pub mod Owned

@@ -6,8 +6,7 @@ use Rattle.osbase.specs.declared.references.Runner.{Runner}
 use Rattle.osbase.specs.declared.histories.Job.{Job}
 use Rattle.std.proofs.lemmas.List.{get_or_default}
 use Rattle.osbase.specs.History.{job_count, oldest, same_runner, without_oldest}
-use Rattle.osjobs.proofs.Choosing.{no-job}
-use Rattle.osjobs.proofs.Counting.{count-parts, none-oldest, oldest-behind, rest-behind}
+use Rattle.osjobs.proofs.Counting.{count-parts, no-job, none-oldest, oldest-behind, rest-behind}
 
 -- the first job of the runner taken out by its place
 pub remove_first : (r : Runner) (js : List Job) (i : ℕ) (x : Job) → i < length js → x ≡ get_or js i x → same_runner x.runner r ≡ true → without_oldest r js ≡ take i js ++ without_oldest r (drop i js) → remove js i ≡ without_oldest r js

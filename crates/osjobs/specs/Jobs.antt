@@ -13,6 +13,7 @@ use Rattle.oscript.specs.declared.Op.{Op}
 use Rattle.oscript.specs.Runners.{Row, first_row, runner_of}
 use Rattle.osplan.specs.declared.plans.Core.{Core}
 use Rattle.osrunner.specs.Rows.{depth_in, rows_by}
+use Rattle.osjobs.specs.OwnTasks.{OwnTasks, own_tasks}
 use Rattle.osjobs.specs.Priorities.{is_able_in, level_by, priority_by, raised_of}
 
 -- The live jobs of ISRs in the order of their stamps, and the ISRs whose oldest job was entered, the last one first.
@@ -20,9 +21,10 @@ pub record IsrState : Type 0 where
   pub live : List Job
   pub entered : List IsrRef
 
--- The live jobs of tasks in the order of their stamps, the task in the running state, the runner that gives way within the item in
--- hand, the row of each of the core's tasks and ISRs, by their places, and the jobs of ISRs.
+-- The core's tasks, which no entry changes; the live jobs of tasks in the order of their stamps, the task in the running state, the runner
+-- that gives way within the item in hand, the row of each of the core's tasks and ISRs, by their places, and the jobs of ISRs.
 pub record JobState : Type 0 where
+  pub tasks : OwnTasks
   pub jobs : List Job
   pub current : Option TaskRef
   pub giving_way : Option Runner
@@ -59,6 +61,7 @@ isrs_by e stamp s = record { live = isr_jobs_after e stamp s.live; entered = ent
 -- only an operation that is done reads it. [own]
 abbrev pub jobs_by : List Op → Entry → ℕ → JobState → JobState
 jobs_by script e stamp s = record {
+  tasks = s.tasks;
   jobs = jobs_after e stamp s.jobs;
   current = current_after e s.current;
   giving_way = giving_way_after e s.giving_way;
@@ -67,8 +70,8 @@ jobs_by script e stamp s = record {
 }
 
 -- No job yet.
-abbrev pub first_jobs : JobState
-first_jobs = record { jobs = []; current = None; giving_way = None; rows = replicate RUNNERS first_row; isrs = record { live = []; entered = [] } }
+abbrev pub first_jobs : Core → JobState
+first_jobs core = record { tasks = own_tasks core; jobs = []; current = None; giving_way = None; rows = replicate RUNNERS first_row; isrs = record { live = []; entered = [] } }
 
 -- A mark that begins and ends no job, by which no task enters or leaves the running state and no ISR is entered, and that changes no
 -- row.

@@ -1,4 +1,6 @@
+pub mod OwnTasks
 pub mod Priorities
 pub mod Jobs
 pub mod Live
 pub mod Ranking
+pub mod Queue

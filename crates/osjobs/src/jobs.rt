@@ -1,10 +1,12 @@
 //! The live jobs of a core.
 
-ghost use Rattle.std.specs.Prelude.{◌≡◌, ◌<◌, ◌^◌, [], false, length, nat_lt, List, None, IsTrue, IfSome};
-ghost use Rattle.std.specs.List.{All};
+ghost use Rattle.std.specs.Prelude.{◌≡◌, ℕ, ◌<◌, ◌≤◌, ◌^◌, [], true, false, if◌then◌else◌, length, nat_lt, option_map, List, Some, None, IsTrue, IfSome, IfNone};
+ghost use Rattle.std.specs.List.{All, Contains};
 ghost use Rattle.osbase.specs.declared.histories.Job.{Job as JobValue};
 ghost use Rattle.osbase.specs.declared.references.Runner.{Runner as RunnerValue};
-ghost use Rattle.osbase.specs.History.{Took, Printed, Noted, Taken, Given, Locked, Unlocked, Done, giving_way_after, gives_way, job_count, left_by};
+ghost use Rattle.osbase.specs.History.{Took, Printed, Noted, Taken, Given, Locked, Unlocked, Done, giving_way_after, gives_way, job_count};
+ghost use Rattle.std.specs.Int.{bit_at};
+ghost use Rattle.osbase.specs.Sets.{slot_of};
 ghost use Rattle.osbase.specs.Interrupts.{is_pending_among, oldest_entered, without_isr};
 ghost use Rattle.osbudget.specs.Budget.{is_reached};
 ghost use Rattle.oscript.specs.declared.Op.{Op as OpValue};
@@ -12,18 +14,27 @@ ghost use Rattle.oscript.specs.Frames.{action_at};
 ghost use Rattle.osrunner.specs.Rows.{depth_in, events_in, frame_in, held_in, is_occupied, used_in};
 ghost use Rattle.osjobs.specs.Jobs.{Each, best_among, best_task_among, current_among, first_jobs, is_locked_in, is_plain, jobs_by, running_among};
 ghost use Rattle.osjobs.specs.Priorities.{holds_any, is_newest, is_own_runner};
+ghost use Rattle.osjobs.specs.OwnTasks.{are_below, is_own_task, own_tasks};
+ghost use Rattle.osjobs.specs.Queue.{AreHolders, dequeued, enqueued, entry_of, have_queues};
+ghost use Rattle.osjobs.specs.Ranking.{is_awake_in};
+ghost use Rattle.osqueue.specs.Ordered.{ComesBefore, IsBest};
+ghost use Rattle.osqueue.specs.declared.ready.TheConstants.{PRIORITIES};
 
+use crate::current::{job_anew, job_joined, job_left, left_by};
 use crate::live::{self, Counts};
+use crate::own_tasks::OwnTasks;
 use crate::slots::{IsrSlot, JobSlot};
 use crate::{entered, priorities};
 use arrayvec::ArrayVec;
 use osbase::{
     HeldResource, INTERRUPTS, ISRS, IsrRef, Item, Job, Mark, RESOURCES, RUNNERS, Runner, ServiceId,
-    Status, TaskEvents, TaskRef,
+    Status, TASKS, TaskEvents, TaskRef,
 };
 use oscript::{Action, Frame, Op};
 use osevent::{with_awaited, with_cleared, with_none_set, with_set};
 use osplan::Core;
+use osqueue::words::{marked, unmarked};
+use osqueue::{Reads, Ready, ReadyQueue};
 use osrunner::Rows;
 use std::marker::Model;
 
@@ -31,45 +42,59 @@ use std::marker::Model;
 /// task in the running state, who gives way, and what belongs to each task and ISR.
 #[derive(Drop)]
 pub struct Jobs<const P: usize, const J: usize> {
-    // Those of tasks, in the order of their stamps.
-    jobs: ArrayVec<JobSlot, J>,
-    // How many of them each task has.
-    counts: Counts,
-    // Those of ISRs, in the order of their stamps, and how many each ISR has.
+    // The core's tasks, so that a call knows their priorities.
+    tasks: OwnTasks,
+    // The live jobs of ISRs, in the order of their stamps, and how many each ISR has.
     isr_jobs: ArrayVec<JobSlot, INTERRUPTS>,
     isr_counts: Counts,
     // The ISRs whose oldest job was entered, the last one first.
     entered: ArrayVec<IsrSlot, ISRS>,
-    // The task in the running state.
+    // The task in the running state, and the oldest of its jobs.
     current: Option<TaskRef>,
+    current_job: Option<Job>,
     // Who gives way within the item in hand.
     giving_way: Option<Runner>,
     rows: Rows,
+    // A bit for each task whose oldest job holds a resource.
+    holders: u32,
+    // How many live jobs each task has.
+    counts: Counts,
+    // The live jobs of tasks, in the order of their stamps. What has no fixed size comes last, which makes proofs about sizes short.
+    jobs: ArrayVec<JobSlot, J>,
+    // Those of them whose tasks do not wait, each with the priority of its task as it is configured.
+    ready: ReadyQueue<P, J>,
 }
 
 impl<const P: usize, const J: usize> Model for Jobs<P, J> {
     ghost use Rattle.osjobs.specs.Jobs.{JobState};
-    ghost use Rattle.osjobs.specs.Live.{AreInOrder};
+    ghost use Rattle.osjobs.specs.Live.{IsKept};
 
     ghost Value = { JobState };
 
-    ghost view = { λ s. record { jobs = s.jobs.items; current = s.current; giving_way = s.giving_way; rows = s.rows; isrs = record { live = s.isr_jobs.items; entered = s.entered.items } } };
+    ghost view = { λ s. record { tasks = s.tasks; jobs = s.jobs.items; current = s.current; giving_way = s.giving_way; rows = s.rows; isrs = record { live = s.isr_jobs.items; entered = s.entered.items } } };
 
-    ghost invariant = { λ s. AreInOrder s.jobs.items s.counts s.isr_jobs.items s.isr_counts };
+    ghost invariant = { λ s. IsKept P J s.tasks s.jobs.items s.counts s.ready s.holders s.isr_jobs.items s.isr_counts s.rows s.current s.current_job };
 }
 
 impl<const P: usize, const J: usize> Jobs<P, J> {
-    /// No job.
-    pub fn new() -> Self
-        ensures { result ≡ first_jobs }
+    /// No job of this core yet.
+    pub fn new(core: &Core) -> Self
+        requires priorities { have_queues P core.now.tasks ≡ true }
+        requires marked { have_queues PRIORITIES core.now.tasks ≡ true }
+        requires tasks { length core.now.tasks ≤ TASKS }
+        ensures { result ≡ first_jobs core.now }
     {
         Jobs {
+            tasks: OwnTasks::new(core),
             jobs: ArrayVec::new(),
             counts: [0; RUNNERS],
+            ready: ReadyQueue::new(),
+            holders: 0,
             isr_jobs: ArrayVec::new(),
             isr_counts: [0; RUNNERS],
             entered: ArrayVec::new(),
             current: None,
+            current_job: None,
             giving_way: None,
             rows: Rows::new(),
         }
@@ -86,13 +111,18 @@ impl<const P: usize, const J: usize> Jobs<P, J> {
     /// section 4.3 and 13.2.3.1).
     pub fn activate(&mut self, task: TaskRef, stamp: u64)
         requires room { length self.old.jobs < J }
+        requires own { is_own_task self.old.tasks (Runner.Task task) ≡ true }
         requires newest { Each (λ (j : JobValue). j.stamp < stamp) self.old.jobs }
         ensures { self.new ≡ jobs_by [] (Printed (Mark.Activated task)) stamp self.old }
     {
         let runner = Runner::Task(task);
-        live::push(&mut self.jobs, &mut self.counts, Job { runner, stamp });
+        let job = Job { runner, stamp };
+        live::push(&mut self.jobs, &mut self.counts, job);
+        self.current_job = job_joined(self.current, self.current_job, job);
         let events = self.rows.events(runner);
         self.rows.put_events(runner, with_none_set(events));
+        let job = if_awake(&self.rows, job);
+        enqueue(&self.tasks, &mut self.ready, job);
     }
 
     /// The oldest job of a task has ended, if there is one: it gives back all that it holds, resumes interrupts, and runs no
@@ -100,9 +130,13 @@ impl<const P: usize, const J: usize> Jobs<P, J> {
     pub fn end(&mut self, task: TaskRef)
         ensures { self.new ≡ jobs_by [] (Printed (Mark.Terminated task)) 0 self.old }
     {
-        self.leave(task);
-        live::take_oldest(&mut self.jobs, &mut self.counts, Runner::Task(task));
-        self.rows.end(Runner::Task(task));
+        let runner = Runner::Task(task);
+        self.current_job = job_left(task, self.current, self.current_job);
+        self.current = left_by(task, self.current);
+        let job = live::take_oldest(&mut self.jobs, &mut self.counts, runner);
+        dequeue(&self.tasks, &mut self.ready, &self.rows, job);
+        self.rows.end(runner);
+        self.holders = if_holder(&self.rows, self.holders, runner);
     }
 
     /// An interrupt is accepted: a job of the ISR begins, and is pending (AUTOSAR SWS OS 4.x, section 7.6).
@@ -165,6 +199,8 @@ impl<const P: usize, const J: usize> Jobs<P, J> {
     pub fn enter(&mut self, task: TaskRef)
         ensures { self.new ≡ jobs_by [] (Printed (Mark.PreTaskHook task)) 0 self.old }
     {
+        let runner = Runner::Task(task);
+        self.current_job = live::oldest(self.jobs.as_slice(), &self.counts, runner);
         self.current = Some(task);
     }
 
@@ -172,6 +208,7 @@ impl<const P: usize, const J: usize> Jobs<P, J> {
     pub fn leave(&mut self, task: TaskRef)
         ensures { self.new ≡ jobs_by [] (Printed (Mark.PostTaskHook task)) 0 self.old }
     {
+        self.current_job = job_left(task, self.current, self.current_job);
         self.current = left_by(task, self.current);
     }
 
@@ -196,21 +233,37 @@ impl<const P: usize, const J: usize> Jobs<P, J> {
     /// A task waits for one of these events; once it is released, its job has its whole budget (OSEK/VDX OS 2.2.3, section
     /// 13.5.3.4; AUTOSAR SWS OS 4.x, SWS_Os_00473).
     pub fn wait(&mut self, task: TaskRef, mask: u32)
+        requires own { is_own_task self.old.tasks (Runner.Task task) ≡ true }
+        requires single { job_count (Runner.Task task) self.old.jobs ≤ 1 }
         ensures { self.new ≡ jobs_by [] (Printed (Mark.EventAwaited task mask)) 0 self.old }
     {
-        self.rows.wait(Runner::Task(task), mask);
+        let runner = Runner::Task(task);
+        let job = live::oldest(self.jobs.as_slice(), &self.counts, runner);
+        dequeue(&self.tasks, &mut self.ready, &self.rows, job);
+        self.rows.wait(runner, mask);
     }
 
     /// A task is released from waiting: its oldest job gets a stamp greater than all that there are, behind all others
     /// (OSEK/VDX OS 2.2.3, section 4.2.1 and 4.5).
     pub fn release(&mut self, task: TaskRef, stamp: u64)
+        requires own { is_own_task self.old.tasks (Runner.Task task) ≡ true }
+        requires single { job_count (Runner.Task task) self.old.jobs ≤ 1 }
         requires newest { Each (λ (j : JobValue). j.stamp < stamp) self.old.jobs }
         ensures { self.new ≡ jobs_by [] (Printed (Mark.Released task)) stamp self.old }
     {
         let runner = Runner::Task(task);
-        live::stamp_anew(&mut self.jobs, &mut self.counts, runner, stamp);
+        let job = live::stamp_anew(&mut self.jobs, &mut self.counts, runner, stamp);
+        self.current_job = job_anew(
+            self.jobs.as_slice(),
+            &self.counts,
+            task,
+            self.current,
+            self.current_job,
+        );
+        dequeue(&self.tasks, &mut self.ready, &self.rows, job);
         let events = self.rows.events(runner);
         self.rows.put_events(runner, with_awaited(events, None));
+        enqueue(&self.tasks, &mut self.ready, stamped(job, stamp));
     }
 
     /// A mark that begins and ends no job is printed, by which no task enters or leaves the running state, no ISR is entered
@@ -229,6 +282,7 @@ impl<const P: usize, const J: usize> Jobs<P, J> {
         ensures { self.new ≡ jobs_by [] (Noted (Taken runner resource)) 0 self.old }
     {
         self.rows.raise(runner, resource);
+        self.holders = with_holder(self.holders, runner);
     }
 
     /// The oldest job of a runner gives the newest of its resources back (OSEK/VDX OS 2.2.3, section 8.2).
@@ -237,6 +291,7 @@ impl<const P: usize, const J: usize> Jobs<P, J> {
         ensures { self.new ≡ jobs_by [] (Noted (Given runner _index)) 0 self.old }
     {
         self.rows.lower(runner);
+        self.holders = if_holder(&self.rows, self.holders, runner);
     }
 
     /// An operation of the oldest job of a runner is done, with this status and value; the script is the runner's.
@@ -261,7 +316,7 @@ impl<const P: usize, const J: usize> Jobs<P, J> {
     {
         match self.entered_job() {
             Some(job) => Some(job),
-            None => self.current_job(),
+            None => self.current_job,
         }
     }
 
@@ -277,19 +332,15 @@ impl<const P: usize, const J: usize> Jobs<P, J> {
         )
     }
 
-    // The oldest live job of the task in the running state.
-    fn current_job(&self) -> Option<Job>
-        ensures { result ≡ current_among self.now }
-    {
-        let task = self.current?;
-        live::oldest(self.jobs.as_slice(), &self.counts, Runner::Task(task))
-    }
-
-    /// How many jobs of this task are live.
+    /// How many jobs of this task are live. Nobody looks through the jobs: those of each of the core's tasks are counted, and no
+    /// other runner has any here.
     pub fn count(&self, runner: Runner) -> usize
         ensures { result ≡ job_count runner self.now.jobs }
     {
-        live::count(self.jobs.as_slice(), &self.counts, runner)
+        if self.tasks.has(runner) {
+            return self.counts[runner.slot()];
+        }
+        0
     }
 
     /// Whether a job of this ISR is pending: more of its jobs are live than were entered (AUTOSAR SWS OS 4.x, section 7.6).
@@ -305,9 +356,9 @@ impl<const P: usize, const J: usize> Jobs<P, J> {
     /// oldest; else of the able jobs of tasks of greatest current priority the oldest (OSEK/VDX OS 2.2.3, section 4.4, 4.5, 6
     /// and 13.3.2.4). The caller knows which job is running, and nobody looks for it twice.
     pub fn dispatch(&mut self, core: &Core, running: Option<Job>) -> Option<Job>
+        requires tasks { self.old.tasks ≡ own_tasks core.now }
         requires running { running ≡ running_among self.old }
         requires runner { IfSome running (λ j. IsTrue (is_own_runner core.now j.runner)) }
-        requires own { All (λ j. IsTrue (is_own_runner core.now j.runner)) self.old.jobs }
         requires isrs { All (λ j. IsTrue (is_own_runner core.now j.runner)) self.old.isrs.live }
         ensures best { result ≡ best_among core.now self.old }
         ensures own { IfSome result (λ j. IsTrue (is_own_runner core.now j.runner)) }
@@ -333,14 +384,24 @@ impl<const P: usize, const J: usize> Jobs<P, J> {
     }
 
     // Of the able jobs of tasks those of greatest current priority, and of these the oldest.
-    fn best_task(&self, core: &Core, current: Option<Job>) -> Option<Job>
-        requires current { current ≡ current_among self.now }
-        requires own { All (λ j. IsTrue (is_own_runner core.now j.runner)) self.now.jobs }
-        ensures best { result ≡ best_task_among core.now self.now }
+    fn best_task(&mut self, core: &Core, current: Option<Job>) -> Option<Job>
+        requires tasks { self.old.tasks ≡ own_tasks core.now }
+        requires current { current ≡ current_among self.old }
+        ensures best { result ≡ best_task_among core.now self.old }
         ensures own { IfSome result (λ j. IsTrue (is_own_runner core.now j.runner)) }
+        ensures keeps { self.new ≡ self.old }
     {
         let raised = priorities::raised_of(core, self.giving_way, current);
-        priorities::first_greatest(core, &self.rows, raised, self.jobs.as_slice())
+        let first = look_first(&mut self.ready);
+        priorities::best_of(
+            core,
+            &self.rows,
+            raised,
+            first,
+            self.holders,
+            self.jobs.as_slice(),
+            &self.counts,
+        )
     }
 
     /// Whether the oldest job of a runner has suspended interrupts (OSEK/VDX OS 2.2.3, section 13.3.2.4).
@@ -404,16 +465,6 @@ impl<const P: usize, const J: usize> Jobs<P, J> {
     }
 }
 
-// The task in the running state, once this one left it.
-fn left_by(task: TaskRef, current: Option<TaskRef>) -> Option<TaskRef>
-    ensures { result ≡ left_by task current }
-{
-    match current {
-        Some(other) if task == other => None,
-        _ => current,
-    }
-}
-
 // Whether a service that returned so makes its caller give way (OSEK/VDX OS 2.2.3, section 13.2.3.4).
 fn gives_way(service: ServiceId, status: Status) -> bool
     ensures { result ≡ gives_way service status }
@@ -436,4 +487,111 @@ fn giving_way_by(mark: &Mark, giving_way: Option<Runner>) -> Option<Runner>
         }
     }
     giving_way
+}
+
+// The job, if its task does not wait.
+fn if_awake(rows: &Rows, job: Job) -> Option<Job>
+    ensures { result ≡ (if is_awake_in rows.now job then Some job else None) }
+{
+    if rows.is_waiting(job.runner) {
+        None
+    } else {
+        Some(job)
+    }
+}
+
+// The job with this stamp.
+fn stamped(job: Option<Job>, stamp: u64) -> Option<Job>
+    ensures { result ≡ option_map (λ (j : JobValue). record j { stamp = stamp }) job }
+{
+    let job = job?;
+    Some(Job { stamp, ..job })
+}
+
+// A job, if there is one, waits for its turn behind all others of its task's priority.
+fn enqueue<const P: usize, const J: usize>(
+    tasks: &OwnTasks,
+    ready: &mut ReadyQueue<P, J>,
+    job: Option<Job>,
+)
+    requires room { IfSome job (λ j. length ready.old < J) }
+    requires own { IfSome job (λ j. is_own_task tasks.now j.runner ≡ true) }
+    requires newest { IfSome job (λ j. All (ComesBefore (entry_of tasks.now j)) ready.old) }
+    requires low { are_below P tasks.now.priorities ≡ true }
+    requires narrow { are_below PRIORITIES tasks.now.priorities ≡ true }
+    ensures { ready.new ≡ enqueued tasks.now job ready.old }
+{
+    if let Some(job) = job {
+        let mut reads = Reads::new();
+        ready.push_back(ready_of(tasks, job), &mut reads);
+    }
+}
+
+// A job, if there is one and its task does not wait, waits for its turn no longer.
+fn dequeue<const P: usize, const J: usize>(
+    tasks: &OwnTasks,
+    ready: &mut ReadyQueue<P, J>,
+    rows: &Rows,
+    job: Option<Job>,
+)
+    requires there { IfSome job (λ j. is_awake_in rows.now j ≡ true → Contains ready.old (entry_of tasks.now j)) }
+    ensures { ready.new ≡ dequeued tasks.now (is_awake_in rows.now) job ready.old }
+{
+    if let Some(job) = job {
+        if priorities::is_awake(rows, job) {
+            let mut reads = Reads::new();
+            ready.remove(ready_of(tasks, job), &mut reads);
+        }
+    }
+}
+
+// A job of one of the core's tasks with that task's priority.
+fn ready_of(tasks: &OwnTasks, job: Job) -> Ready
+    ensures { result ≡ entry_of tasks.now job }
+{
+    Ready {
+        priority: tasks.priority(job.runner),
+        job,
+    }
+}
+
+// The job that waits first for its turn. It is taken out and put back in front.
+fn look_first<const P: usize, const J: usize>(ready: &mut ReadyQueue<P, J>) -> Option<Ready>
+    requires room { length ready.old ≤ J }
+    requires low { All (λ x. x.priority < P) ready.old }
+    requires narrow { All (λ x. x.priority < PRIORITIES) ready.old }
+    ensures best { IfSome result (λ x. IsBest x ready.old) }
+    ensures none { IfNone result (ready.old ≡ []) }
+    ensures same { ready.new ≡ ready.old }
+{
+    let mut reads = Reads::new();
+    let first = ready.pop_best(&mut reads)?;
+    ready.push_front(first, &mut reads);
+    Some(first)
+}
+
+// The tasks that hold a resource, once this runner holds one, if it is a task.
+fn with_holder(holders: u32, runner: Runner) -> u32
+    ensures here { slot_of runner < TASKS → bit_at result (slot_of runner) ≡ 1 }
+    ensures others { (k : ℕ) → bit_at holders k ≡ 1 → bit_at result k ≡ 1 }
+{
+    let place = runner.slot();
+    if place < TASKS {
+        marked(holders, place as u8)
+    } else {
+        holders
+    }
+}
+
+// The tasks that hold a resource, without this runner, unless it holds one still.
+fn if_holder(rows: &Rows, holders: u32, runner: Runner) -> u32
+    requires { AreHolders rows.now holders }
+    ensures { AreHolders rows.now result }
+{
+    let place = runner.slot();
+    if place < TASKS && rows.is_free(runner) {
+        unmarked(holders, place as u8)
+    } else {
+        holders
+    }
 }

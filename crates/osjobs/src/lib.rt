@@ -3,9 +3,11 @@
 //! Nothing here takes memory.
 #![tactic(auto)]
 
+mod current;
 mod entered;
 pub mod jobs;
 mod live;
+mod own_tasks;
 mod priorities;
 mod slots;
 

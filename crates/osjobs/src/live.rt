@@ -50,20 +50,21 @@ pub(crate) fn take_oldest<const J: usize>(
     Some(slot.job)
 }
 
-/// Gives the oldest job of this runner, if it has one, this stamp, and a place behind all others.
+/// Gives the oldest job of this runner, if it has one, this stamp, and a place behind all others; and what it was before.
 pub(crate) fn stamp_anew<const J: usize>(
     jobs: &mut ArrayVec<JobSlot, J>,
     counts: &mut Counts,
     runner: Runner,
     stamp: u64,
-)
+) -> Option<Job>
     requires counted { AreCounted jobs.old.items counts.old }
+    ensures job { result ≡ oldest runner jobs.old.items }
     ensures jobs { jobs.new.items ≡ stamped_anew runner stamp jobs.old.items }
     ensures counted { AreCounted jobs.new.items counts.new }
 {
-    if let Some(job) = take_oldest(jobs, counts, runner) {
-        push(jobs, counts, Job { stamp, ..job });
-    }
+    let job = take_oldest(jobs, counts, runner)?;
+    push(jobs, counts, Job { stamp, ..job });
+    Some(job)
 }
 
 /// The oldest job of this runner.

@@ -1,17 +1,25 @@
 //! A job's priority, and the first of the jobs of greatest priority.
 
-ghost use Rattle.std.specs.Prelude.{◌≡◌, ◌≤◌, ◌&&◌, not, Some, false, filter, if◌then◌else◌, length, nat_lt, IsTrue, IsSome, IfSome};
+ghost use Rattle.std.specs.Prelude.{◌≡◌, ◌≤◌, [], true, false, filter, length, IsTrue, IsSome, IfSome, IfNone};
 ghost use Rattle.std.specs.List.{All};
 ghost use Rattle.std.specs.Option.{option_map_or};
 ghost use Rattle.osbase.specs.History.{better_of as better_job, first_greatest as greatest_job, same_runner};
 ghost use Rattle.osplan.specs.View.{own_task};
 ghost use Rattle.osjobs.specs.Priorities.{highest_of, is_extended, is_own_runner, is_preemptable, level_by, level_of, raised_of, static_priority};
 ghost use Rattle.osjobs.specs.Ranking.{is_awake_in, rank_by};
+ghost use Rattle.osjobs.specs.Jobs.{Ascending, Each};
+ghost use Rattle.osjobs.specs.Live.{AreCounted};
+ghost use Rattle.osjobs.specs.OwnTasks.{is_own_task, own_tasks};
+ghost use Rattle.osjobs.specs.Queue.{AreHolders, IsBestSoFar, IsBetter, OneOf, queued};
+ghost use Rattle.osqueue.specs.Ordered.{IsBest};
 
+use crate::live::{self, Counts};
 use crate::slots::JobSlot;
-use osbase::{Job, Runner, TaskRef};
+use osbase::{Job, Runner, TASKS, TaskRef};
 use osplan::own::{isr_of, task_of};
 use osplan::{Core, Task};
+use osqueue::Ready;
+use osqueue::words::{greatest, unmarked};
 use osres::greater;
 use osrunner::Rows;
 
@@ -64,68 +72,106 @@ pub(crate) fn raised_of(
     Some(job)
 }
 
-// A place of the live jobs, with the rank of the job there.
+// A job with its rank.
 #[derive(Clone, Copy)]
 struct Ranked {
-    place: usize,
+    job: Job,
     priority: u8,
 }
 
-/// Of the jobs of greatest rank whose tasks do not wait the first, where these are the runners' rows and this job is raised (OSEK/VDX OS 2.2.3, section 4.4
-/// and 4.5).
-pub(crate) fn first_greatest(
+/// Of the jobs of greatest rank whose tasks do not wait the first, where these are the runners' rows, this job is raised, and this one
+/// is the first by the priorities that are configured (OSEK/VDX OS 2.2.3, section 4.4 and 4.5). Nobody else can be the best but the
+/// raised one and the oldest jobs of tasks that hold resources.
+pub(crate) fn best_of(
     core: &Core,
     rows: &Rows,
     raised: Option<Job>,
+    first: Option<Ready>,
+    holders: u32,
     jobs: &[JobSlot],
+    counts: &Counts,
 ) -> Option<Job>
-    requires own { All (λ j. IsTrue (is_own_runner core.now j.runner)) jobs.now }
+    requires counted { AreCounted jobs.now counts.now }
+    requires own { Each (λ j. is_own_task (own_tasks core.now) j.runner ≡ true) jobs.now }
+    requires ascending { Ascending jobs.now }
+    requires tasks { length (own_tasks core.now).priorities ≤ TASKS }
+    requires holders { AreHolders rows.now holders }
+    requires first { IfSome first (λ x. IsBest x (queued (own_tasks core.now) (is_awake_in rows.now) jobs.now)) }
+    requires none { IfNone first (queued (own_tasks core.now) (is_awake_in rows.now) jobs.now ≡ []) }
+    requires raised { IfSome raised (λ j. OneOf j jobs.now) }
     ensures greatest { result ≡ greatest_job (rank_by core.now rows.now raised) (filter (is_awake_in rows.now) jobs.now) }
     ensures own { IfSome result (λ j. IsTrue (is_own_runner core.now j.runner)) }
 {
-    let mut best: Option<Ranked> = None;
-    let mut place = jobs.len();
-    while place > 0 {
-        place -= 1;
-        let slot = &jobs[place];
-        let priority = rank_of(core, rows, raised, slot.job);
-        best = better_of(rows, slot.job, Ranked { place, priority }, best);
+    let front = first?.job;
+    let job = front;
+    let priority = rank_of(core, rows, raised, job);
+    let start = Ranked { job, priority };
+    let best = consider(core, rows, raised, raised, start);
+    let best = best_holder(core, rows, raised, holders, jobs, counts, front, best);
+    Some(best.job)
+}
+
+// The best of this one, which is the best of the front of the queue and the raised job, and of the oldest jobs of tasks that
+// hold resources.
+fn best_holder(
+    core: &Core,
+    rows: &Rows,
+    raised: Option<Job>,
+    holders: u32,
+    jobs: &[JobSlot],
+    counts: &Counts,
+    _front: Job,
+    best: Ranked,
+) -> Ranked
+    requires counted { AreCounted jobs.now counts.now }
+    requires own { Each (λ j. is_own_task (own_tasks core.now) j.runner ≡ true) jobs.now }
+    requires ranked { best.priority ≡ rank_by core.now rows.now raised best.job }
+    requires so_far { IsBestSoFar core.now rows.now raised holders jobs.now _front best.job holders }
+    ensures { IsBestSoFar core.now rows.now raised holders jobs.now _front result.job 0 }
+{
+    let mut best = best;
+    let mut left = holders;
+    while left != 0 {
+        let index = greatest(left);
+        left = unmarked(left, index);
+        let task = TaskRef {
+            core: core.id,
+            index,
+        };
+        let holder = live::oldest(jobs, counts, Runner::Task(task));
+        best = consider(core, rows, raised, holder, best);
     }
-    let best = best?;
-    let slot = &jobs[best.place];
-    Some(slot.job)
+    best
+}
+
+// The better of the best so far and one more job, if there is one and its task does not wait.
+fn consider(core: &Core, rows: &Rows, raised: Option<Job>, job: Option<Job>, best: Ranked) -> Ranked
+    requires own { IfSome job (λ j. is_own_task (own_tasks core.now) j.runner ≡ true) }
+    requires ranked { best.priority ≡ rank_by core.now rows.now raised best.job }
+    ensures ranked { result.priority ≡ rank_by core.now rows.now raised result.job }
+    ensures better { IsBetter (rank_by core.now rows.now raised) (is_awake_in rows.now) best.job job result.job }
+{
+    let Some(job) = job else {
+        return best;
+    };
+    if !is_awake(rows, job) {
+        return best;
+    }
+    let priority = rank_of(core, rows, raised, job);
+    if priority < best.priority {
+        return best;
+    }
+    if priority == best.priority && best.job.stamp <= job.stamp {
+        return best;
+    }
+    Ranked { job, priority }
 }
 
 // Whether the job's task does not wait (OSEK/VDX OS 2.2.3, section 4.2.1).
-fn is_awake(rows: &Rows, job: Job) -> bool
+pub(crate) fn is_awake(rows: &Rows, job: Job) -> bool
     ensures { result ≡ is_awake_in rows.now job }
 {
     !rows.is_waiting(job.runner)
-}
-
-fn is_beaten(priority: u8, best: Option<Ranked>) -> bool
-    ensures { result ≡ option_map_or (λ other. nat_lt priority other.priority) best false }
-{
-    match best {
-        Some(other) => priority < other.priority,
-        None => false,
-    }
-}
-
-// The better of a job at its place and the best of those behind it: of two jobs of equal rank the first. Whether
-// the job's task waits is asked only where it would be the better one.
-#[inline(always)]
-fn better_of(rows: &Rows, job: Job, ranked: Ranked, best: Option<Ranked>) -> Option<Ranked>
-    ensures { result ≡ (if not (option_map_or (λ other. nat_lt ranked.priority other.priority) best false) && is_awake_in rows.now job then Some ranked else best) }
-{
-    if is_beaten(ranked.priority, best) {
-        return best;
-    }
-    if is_awake(rows, job) {
-        Some(ranked)
-    } else {
-        best
-    }
 }
 
 // The rank of a job, where these are the runners' rows and this job is raised.

@@ -10,6 +10,7 @@ ghost use Rattle.osstate.specs.Readings.{phase_at};
 ghost use Rattle.osstate.specs.State.{state_of};
 ghost use Rattle.osstate.specs.Does.{Adds, Does, Reads};
 ghost use Rattle.oskernel.specs.declared.kernel.TheConstants.{STEP_MARKS};
+ghost use Rattle.osfit.specs.Fits.{fits_in};
 ghost use Rattle.osplan.specs.Objects.{outbox_needed};
 ghost use Rattle.oskernel.specs.Step.{after, serves, takes};
 ghost use Rattle.oskernel.specs.Wants.{front_of, go_on_by as go_on_want, post_or as front_or, is_want_known, want_call as call_or_want, want_in, want_of, want_owed as owed_or_want, watch_halt, watch_in, watch_of};
@@ -62,6 +63,19 @@ impl<'a, const P: usize, const J: usize, const OUT: usize> Kernel<'a, P, J, OUT>
         Kernel {
             state: CoreState::new(config, core),
         }
+    }
+
+    /// Whether a kernel of this size is large enough for a core: exactly where `new` may be called. A core that is not configured
+    /// fits nowhere.
+    pub fn fits(config: &Config, core: CoreId) -> bool
+        ensures value { result ≡ fits_in P J OUT (core_of config.now core) }
+        ensures configured { IsTrue result → IsSome (core_of config.now core) }
+        ensures priorities { IsTrue result → IsTrue (list_all (λ (t : TaskValue). nat_lt t.priority P) (view_of config.now core).own.tasks) }
+        ensures ceilings { IsTrue result → IsTrue (list_all (λ (r : ResourceValue). nat_lt r.ceiling P) (view_of config.now core).own.resources) }
+        ensures activations { IsTrue result → sum_by (λ (t : TaskValue). t.activations) (view_of config.now core).own.tasks ≤ J }
+        ensures outbox { IsTrue result → outbox_needed (view_of config.now core).own ≤ OUT }
+    {
+        osfit::fits(config, core, P, J, OUT)
     }
 
     /// Where the core stands between off and ended.

@@ -6,9 +6,9 @@
 
 mod fronts;
 mod pool;
-pub mod queue;
-pub mod reads;
-pub mod ready;
+mod queue;
+mod reads;
+mod ready;
 pub mod words;
 
 pub use queue::ReadyQueue;

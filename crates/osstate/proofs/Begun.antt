@@ -1,8 +1,10 @@
 -- The state of a core that took no item.
-use Rattle.std.proofs.Common.{◌≡◌, ℕ, zero, suc, ◌+◌, ◌≤◌, Bool, true, false, cond, IsTrue, Option, Some, None, is_some, List, [], ◌∷◌, map, refl, ap, sym, subst, ◌∙◌, arith, replicate, nat_lt, sum_by, get_or, unwrap_or}
+use Rattle.std.proofs.Common.{◌≡◌, ℕ, zero, suc, ◌+◌, ◌≤◌, Bool, true, false, cond, IsTrue, Option, Some, None, is_some, List, [], ◌∷◌, map, refl, ap, sym, subst, ◌∙◌, arith, replicate, nat_le, nat_lt, sum_by, get_or, unwrap_or}
 use Rattle.std.specs.List.{find, list_all, slice_get}
 use Rattle.std.specs.Option.{option_map_or}
 use Rattle.std.proofs.lemmas.Bool.{false≢true, and_parts}
+use Rattle.std.proofs.lemmas.Bool.Decides.{nat_tests}
+use Rattle.std.proofs.lemmas.List.Folds.{list_all-map}
 use Rattle.osbase.specs.declared.references.CoreId.{CoreId}
 use Rattle.osbase.specs.declared.references.Runner.{Runner}
 use Rattle.osbase.specs.declared.histories.GotSpinlock.{GotSpinlock}
@@ -20,7 +22,7 @@ use Rattle.osplan.specs.declared.plans.Isr.{Isr}
 use Rattle.osplan.specs.declared.plans.Resource.{Resource}
 use Rattle.osplan.specs.declared.plans.Task.{Task}
 use Rattle.osplan.specs.View.{View, core_of, no_core, own_isr, own_task, view_from, view_of}
-use Rattle.osplan.specs.Limits.{is_within_limits, is_core_known, is_script_known, is_object, is_op_known}
+use Rattle.osplan.specs.Limits.{core_sizes, is_core_within, is_task_within, is_within_limits, is_core_known, is_script_known, is_object, is_op_known, most_activations, task_sizes}
 use Rattle.osplan.specs.Expressible.{is_expressible}
 use Rattle.osplan.specs.Objects.{core_scripts, may_name}
 use Rattle.osclock.specs.Clocks.{ClockState, clocks_of}
@@ -65,7 +67,7 @@ all-begun x first (suc count) = ap (λ xs. x ∷ xs) (all-begun x (first + 1) co
 -- The state before any item stands for the empty history.
 pub state-begun : (plan : Plan) (id : CoreId) (core : Core) → core_of plan id ≡ Some core → first_state plan core (same_core core.id plan.master) ≡ state_of (view_of plan id) []
 state-begun plan id core found =
-    ap (λ (rows : List Row). state_from plan core (first_progress (same_core core.id plan.master)) (record first_jobs { rows = rows }) (clocks_of core []) (tables_of core []) first_border) (sym (all-begun first_row 0 RUNNERS))
+    ap (λ (rows : List Row). state_from plan core (first_progress (same_core core.id plan.master)) (record (first_jobs core) { rows = rows }) (clocks_of core []) (tables_of core []) first_border) (sym (all-begun first_row 0 RUNNERS))
     ∙ ap (λ (v : View). state_of v []) (view-own plan id core found)
 
 -- Whatever a runner's script names on this core is there.
@@ -94,6 +96,16 @@ unused zero place = omega arith
 unused (suc n) zero = omega arith
 unused (suc n) (suc place) = unused n place
 
+-- A task that can wait for events has one job at a time.
+single-task : (task : Task) → is_task_within (task_sizes task) ≡ true → nat_le task.activations (most_activations task.extended) ≡ true
+single-task task h = grind (arith, nat_tests)
+
+single-jobs : (plan : Plan) (core : Core) → is_core_within (core_sizes plan core) ≡ true → list_all (λ (t : Task). nat_le t.activations (most_activations t.extended)) core.tasks ≡ true
+single-jobs plan core h =
+    let told = simp (list_all-map is_task_within) at h in
+    let tasks : list_all (λ (t : Task). is_task_within (task_sizes t)) core.tasks ≡ true = grind arith in
+    all-weaker _ _ single-task core.tasks tasks
+
 -- And it is sound.
 pub sound-begun : (priorities room : ℕ) (plan : Plan) (id : CoreId) (core : Core) (master : Bool) → IsTrue (is_within_limits plan) → IsTrue (is_expressible plan) → core_of plan id ≡ Some core
     → list_all (λ (t : Task). nat_lt t.priority priorities) (view_of plan id).own.tasks ≡ true
@@ -106,6 +118,8 @@ sound-begun priorities room plan id core master limits text found below ceilings
     bounded = subst (λ (v : View). list_all (λ (t : Task). nat_lt t.priority priorities) v.own.tasks ≡ true) (sym (view-own plan id core found)) below;
     limits = subst (λ (v : View). sum_by (λ (t : Task). t.activations) v.own.tasks ≤ room) (sym (view-own plan id core found)) sum;
     some = fits.some;
+    narrow = fits.priorities;
+    single = single-jobs plan core within;
   };
   objects = record {
     scripts = scripts-known core (known_scripts plan core known mine);
@@ -113,7 +127,7 @@ sound-begun priorities room plan id core master limits text found below ceilings
     resources = fits.resources;
     ceilings = subst (λ (v : View). list_all (λ (r : Resource). nat_lt r.ceiling priorities) v.own.resources ≡ true) (sym (view-own plan id core found)) ceilings;
   };
-  jobs = record { within = (λ r. omega arith); stamps = tt; idle = (λ e. refl); interrupts = (λ r. omega arith); entered = (λ i. omega arith); used = unused RUNNERS };
+  jobs = record { within = (λ r. omega arith); stamps = tt; idle = (λ e. refl); interrupts = (λ r. omega arith); entered = (λ i. omega arith); used = unused RUNNERS; tasks = refl };
   progress = record { agreed = before_gate master; began = omega arith; items = omega arith };
   border = record { caller = tt; awaited = tt; queued = zeros_low CORES; received = zeros_low CORES };
   times = record {
@@ -136,16 +150,19 @@ sound-begun priorities room plan id core master limits text found below ceilings
     fits : FitsKernel core
     fits = core-fits plan id core limits found
 
+    within : is_core_within (core_sizes plan core) ≡ true
+    within = find-passes (λ (c : Core). same_core c.id id) (λ (c : Core). is_core_within (core_sizes plan c)) plan.cores core (limit-parts plan limits).cores found
+
 -- The parts of a state before any item, each with what it is.
-pub parts-begun : (plan : Plan) (core : Core) (b : Bool) (p : Progress) (jobs : JobState) (clocks : ClockState) (tables : TableStates) (outbox : List Sent) (got : List GotSpinlock) → p ≡ first_progress b → jobs ≡ first_jobs → clocks ≡ clocks_of core [] → tables ≡ tables_of core [] → outbox ≡ [] → got ≡ []
+pub parts-begun : (plan : Plan) (core : Core) (b : Bool) (p : Progress) (jobs : JobState) (clocks : ClockState) (tables : TableStates) (outbox : List Sent) (got : List GotSpinlock) → p ≡ first_progress b → jobs ≡ first_jobs core → clocks ≡ clocks_of core [] → tables ≡ tables_of core [] → outbox ≡ [] → got ≡ []
     → state_from plan core p jobs clocks tables (record first_border { outbox = outbox; spins = got }) ≡ first_state plan core b
 parts-begun plan core b p jobs clocks tables outbox got progress no_jobs no_counts none_started no_outbox none_got =
     ap (λ (q : Progress). state_from plan core q jobs clocks tables (record first_border { outbox = outbox; spins = got })) progress
     ∙ ap (λ (js : JobState). state_from plan core (first_progress b) js clocks tables (record first_border { outbox = outbox; spins = got })) no_jobs
-    ∙ ap (λ (k : ClockState). state_from plan core (first_progress b) first_jobs k tables (record first_border { outbox = outbox; spins = got })) no_counts
-    ∙ ap (λ (x : TableStates). state_from plan core (first_progress b) first_jobs (clocks_of core []) x (record first_border { outbox = outbox; spins = got })) none_started
-    ∙ ap (λ (out : List Sent). state_from plan core (first_progress b) first_jobs (clocks_of core []) (tables_of core []) (record first_border { outbox = out; spins = got })) no_outbox
-    ∙ ap (λ (xs : List GotSpinlock). state_from plan core (first_progress b) first_jobs (clocks_of core []) (tables_of core []) (record first_border { spins = xs })) none_got
+    ∙ ap (λ (k : ClockState). state_from plan core (first_progress b) (first_jobs core) k tables (record first_border { outbox = outbox; spins = got })) no_counts
+    ∙ ap (λ (x : TableStates). state_from plan core (first_progress b) (first_jobs core) (clocks_of core []) x (record first_border { outbox = outbox; spins = got })) none_started
+    ∙ ap (λ (out : List Sent). state_from plan core (first_progress b) (first_jobs core) (clocks_of core []) (tables_of core []) (record first_border { outbox = out; spins = got })) no_outbox
+    ∙ ap (λ (xs : List GotSpinlock). state_from plan core (first_progress b) (first_jobs core) (clocks_of core []) (tables_of core []) (record first_border { spins = xs })) none_got
 
 -- A configured core's number is among those that a core sees.
 pub is_some-core_of : (id : CoreId) (cores : List Core) → is_some (find (λ (c : Core). same_core c.id id) cores) ≡ is_some (find (same_core id) (map (λ (c : Core). c.id) cores))

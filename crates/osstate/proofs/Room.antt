@@ -1,8 +1,8 @@
 -- The live jobs of a core that keeps its tasks' limits are at most as many as the limits sum to; and how many there are of its ISRs.
-use Rattle.std.proofs.Common.{◌≡◌, ℕ, zero, suc, ◌+◌, ◌≤◌, ◌<◌, nat_lt, Bool, true, false, cond, Option, Some, None, List, [], ◌∷◌, ◌++◌, length, length-append, refl, ap, sym, subst, ◌∙◌, arith, sum_by, is_some, IfSome}
-use Rattle.std.specs.List.{slice_get, All}
+use Rattle.std.proofs.Common.{◌≡◌, ℕ, zero, suc, ◌+◌, ◌≤◌, ◌<◌, nat_le, nat_lt, Bool, true, false, cond, Option, Some, None, List, [], ◌∷◌, ◌++◌, length, length-append, refl, ap, sym, subst, ◌∙◌, arith, sum_by, is_some, IfSome}
+use Rattle.std.specs.List.{list_all, slice_get, All}
 use Rattle.std.specs.Option.{option_map_or, option_or}
-use Rattle.std.proofs.lemmas.Bool.{ltb-false, ltb-true}
+use Rattle.std.proofs.lemmas.Bool.{false≢true, leb-true, ltb-false, ltb-true}
 use Rattle.std.proofs.lemmas.Bool.Decides.{nat_tests}
 use Rattle.std.proofs.lemmas.List.Sums.{sum_by-cons}
 use Rattle.std.proofs.lemmas.List.Elements.{All-nil, All-cons}
@@ -16,11 +16,13 @@ use Rattle.osbase.specs.History.{same_core, same_isr, same_runner, job_count, ol
 use Rattle.osbase.specs.Interrupts.{is_pending_among, isr_count, oldest_entered, runner_of_job, without_isr}
 use Rattle.osplan.specs.declared.plans.Core.{Core}
 use Rattle.osplan.specs.declared.plans.Task.{Task}
+use Rattle.osplan.specs.Limits.{most_activations}
 use Rattle.osplan.specs.View.{own_isr, own_task}
 use Rattle.osjobs.specs.Jobs.{IsrState, JobState, running_among}
-use Rattle.osjobs.specs.Priorities.{is_own_runner}
+use Rattle.osjobs.specs.Priorities.{is_extended, is_own_runner}
 use Rattle.osstate.specs.Readings.{isr_ref}
 use Rattle.osstate.specs.Sound.{activation_limit, entered_limit, interrupt_limit, isr_limit}
+use Rattle.osbase.proofs.Places.{passes-at}
 use Rattle.osbase.proofs.Same.{same_core-true, same_core-refl, same_isr-true, same_runner-refl, same_runner-true, same_task-refl}
 use Rattle.osstate.proofs.Histories.{own_isr_place}
 use Rattle.osstate.proofs.JobLists.{job_count-rest, within_append}
@@ -111,15 +113,28 @@ own_from_place core (Runner.Task t) h = cases (own_task core t) h
     cases None h = absurd (omega (arith, h))
     cases (Some x) h = refl
 
+-- an extended task has one job at a time
+pub one-job : (core : Core) (t : TaskRef) (jobs : List Job) → list_all (λ (u : Task). nat_le u.activations (most_activations u.extended)) core.tasks ≡ true → ((r : Runner) → job_count r jobs ≤ activation_limit core r)
+    → is_extended core (Runner.Task t) ≡ true → job_count (Runner.Task t) jobs ≤ 1
+one-job core t jobs single within extended = by (own_task core t) refl extended (within (Runner.Task t))
+  where
+    listed : (u : Task) (b : Bool) → cond b (slice_get core.tasks t.index) None ≡ Some u → nat_le u.activations (most_activations u.extended) ≡ true
+    listed u true e = passes-at (λ (w : Task). nat_le w.activations (most_activations w.extended)) core.tasks t.index u single e
+    listed u false e = cc
+
+    few : (u : Task) → u.extended ≡ true → nat_le u.activations (most_activations u.extended) ≡ true → u.activations ≤ 1
+    few u is fits = leb-true u.activations 1 (subst (λ (b : Bool). nat_le u.activations (most_activations b) ≡ true) is fits)
+
+    by : (o : Option Task) → own_task core t ≡ o → option_map_or (λ (u : Task). u.extended) o false ≡ true → job_count (Runner.Task t) jobs ≤ option_map_or (λ (u : Task). u.activations) o 0 → job_count (Runner.Task t) jobs ≤ 1
+    by None e is n = absurd (false≢true is)
+    by (Some u) e is n = omega (arith, n, few u is (listed u (same_core t.core core.id) e))
+
 -- each live job within such limits is one of the core's own
 all_by : (core : Core) (limit : Runner → ℕ) → ((r : Runner) → 0 < limit r → is_own_runner core r ≡ true) → (js : List Job) → ((r : Runner) → job_count r js ≤ limit r) → All (λ (j : Job). is_own_runner core j.runner ≡ true) js
 all_by core limit own [] within = All-nil (λ (j : Job). is_own_runner core j.runner ≡ true)
 all_by core limit own (j ∷ js) within =
     let some : 0 < limit j.runner = omega (arith, within j.runner, job_count-same j.runner j js (same_runner-refl j.runner)) in
     All-cons (λ (j : Job). is_own_runner core j.runner ≡ true) j js (own j.runner some) (all_by core limit own js (λ r. omega (arith, within r, job_count-rest r j js)))
-
-pub all_own : (core : Core) (js : List Job) → ((r : Runner) → job_count r js ≤ activation_limit core r) → All (λ (j : Job). is_own_runner core j.runner ≡ true) js
-all_own core js within = all_by core (activation_limit core) (own_from_place core) js within
 
 -- the oldest job of a runner is live
 oldest_counted : (r : Runner) (js : List Job) (j : Job) → oldest r js ≡ Some j → 0 < job_count j.runner js

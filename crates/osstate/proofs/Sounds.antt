@@ -59,6 +59,7 @@ jobs-later {entries = entries} {s = s} sound = record {
   interrupts = sound.interrupts;
   entered = sound.entered;
   used = (λ place. omega (arith, sound.used place));
+  tasks = sound.tasks;
 }
 
 -- an entry charges a job with one tick at most
@@ -93,6 +94,7 @@ jobs-on {entries = entries} {s = s} script e stamp sound within stamps idle inte
   interrupts = interrupts;
   entered = entered;
   used = used-by script e (runner_by e s) s.rows entries sound.used;
+  tasks = sound.tasks;
 }
 
 pub border-later : {core : Core} {entries : ℕ} {border : BorderState} {got : List GotSpinlock} → HasBorder core entries border → HasBorder core (entries + 1) (record border { spins = got })
@@ -270,6 +272,7 @@ taken priorities room item outbox got s sound forward onward = record {
     interrupts = sound.jobs.interrupts;
     entered = sound.jobs.entered;
     used = (λ place. omega (arith, sound.jobs.used place));
+    tasks = sound.jobs.tasks;
   };
   progress = record {
     agreed = agreed-on item s.progress.phase s.progress.agreement onward sound.progress.agreed;

@@ -21,11 +21,14 @@ use Rattle.oscript.specs.declared.Action.TheVariants.{Perform, End}
 use Rattle.osplan.specs.declared.plans.Core.{Core}
 use Rattle.osplan.specs.declared.plans.Resource.{Resource}
 use Rattle.osplan.specs.declared.plans.Task.{Task}
+use Rattle.osplan.specs.Limits.{most_activations}
 use Rattle.osplan.specs.Objects.{core_actions, may_act, may_name}
+use Rattle.osqueue.specs.declared.ready.TheConstants.{PRIORITIES}
 use Rattle.osplan.specs.View.{own_isr, own_task}
 use Rattle.osbase.specs.declared.limits.TheConstants.{RESOURCES}
 use Rattle.osrunner.specs.Rows.{row_at}
 use Rattle.osjobs.specs.Jobs.{Each, JobState}
+use Rattle.osjobs.specs.OwnTasks.{own_tasks}
 use Rattle.osjobs.specs.Priorities.{is_own_runner}
 use Rattle.osclock.specs.Clocks.{AreClocks, ClockState}
 use Rattle.ostable.specs.Tables.{AreTables, TableStates}
@@ -99,13 +102,15 @@ is_awaited_known awaited = true
 -- ---- in parts: what the configuration says, which no entry changes, and what the jobs, the progress, the border and the clocks say
 
 -- At most as many tasks and ISRs as there are places for. Each task has a priority below the bound and an activation limit of at least 1;
--- the limits sum to at most the places for jobs.
+-- the limits sum to at most the places for jobs. An extended task has one job at a time.
 pub record HasTasks (priorities room : ℕ) (core : Core) : Type 0 where
   pub tasks : length core.tasks ≤ TASKS
   pub isrs : length core.isrs ≤ ISRS
   pub bounded : IsTrue (list_all (λ (t : Task). nat_lt t.priority priorities) core.tasks)
   pub limits : sum_by (λ (t : Task). t.activations) core.tasks ≤ room
   pub some : IsTrue (list_all (λ (t : Task). nat_le 1 t.activations) core.tasks)
+  pub narrow : IsTrue (list_all (λ (t : Task). nat_lt t.priority PRIORITIES) core.tasks)
+  pub single : IsTrue (list_all (λ (t : Task). nat_le t.activations (most_activations t.extended)) core.tasks)
 
 -- Scripts name on this core only its own objects, as do the actions of its alarms and tables. There are at most as many resources as
 -- there are places for, each with a ceiling below the bound.
@@ -117,7 +122,8 @@ pub record HasObjects (priorities : ℕ) (core : Core) : Type 0 where
 
 -- No task has more live jobs than it may have, and none before the core schedules. Each began or was released at an entry that the
 -- history has, so the stamp of the next entry is greater than theirs. No ISR has more live jobs than it may have, and at most one of
--- them was entered. No job has used more ticks than the history has entries.
+-- them was entered. No job has used more ticks than the history has entries. The tasks are
+-- those of this core.
 pub record HasJobs (core : Core) (phase : Phase) (entries : ℕ) (s : JobState) : Type 0 where
   pub within : (r : Runner) → job_count r s.jobs ≤ activation_limit core r
   pub stamps : Each (λ (j : Job). j.stamp < entries) s.jobs
@@ -125,6 +131,7 @@ pub record HasJobs (core : Core) (phase : Phase) (entries : ℕ) (s : JobState) 
   pub interrupts : (r : Runner) → job_count r s.isrs.live ≤ interrupt_limit core r
   pub entered : (i : IsrRef) → isr_count i s.isrs.entered ≤ entered_limit core i
   pub used : (place : ℕ) → (row_at place s.rows).used ≤ entries
+  pub tasks : s.tasks ≡ own_tasks core
 
 -- A core that goes on past the first gate met no conflict of modes there. Nothing is counted more often than the history has entries.
 pub record IsUnderWay (p : Progress) : Type 0 where

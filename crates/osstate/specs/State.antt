@@ -10,6 +10,7 @@ use Rattle.osbase.specs.Sets.{core_ids}
 use Rattle.osbase.specs.Spins.{got_spinlocks}
 use Rattle.osplan.specs.View.{View}
 use Rattle.osjobs.specs.Jobs.{IsrState, JobState}
+use Rattle.osjobs.specs.OwnTasks.{own_tasks}
 use Rattle.osclock.specs.Clocks.{ClockState, are_settings_granted, clocks_of}
 use Rattle.ostable.specs.Tables.{TableStates, tables_of}
 use Rattle.osstate.specs.declared.progress.Progress.{Progress}
@@ -49,7 +50,7 @@ abbrev pub isrs_of : History → IsrState
 isrs_of h = record { live = isr_jobs h; entered = entered_isrs h }
 
 abbrev pub tasks_of : View → History → JobState
-tasks_of v h = record { jobs = live_jobs h; current = current_task h; giving_way = giving_way h; rows = rows_of v.own h; isrs = isrs_of h }
+tasks_of v h = record { tasks = own_tasks v.own; jobs = live_jobs h; current = current_task h; giving_way = giving_way h; rows = rows_of v.own h; isrs = isrs_of h }
 
 abbrev pub border_of : History → BorderState
 border_of h = record {

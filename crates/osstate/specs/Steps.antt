@@ -119,4 +119,4 @@ state_from plan core progress tasks clocks tables border =
     record { view = view_from plan core.id core; progress = progress; tasks = tasks; clocks = clocks; tables = tables; border = border }
 
 abbrev pub first_state : Plan → Core → Bool → KernelState
-first_state plan core is_master = state_from plan core (first_progress is_master) first_jobs (clocks_of core []) (tables_of core []) first_border
+first_state plan core is_master = state_from plan core (first_progress is_master) (first_jobs core) (clocks_of core []) (tables_of core []) first_border

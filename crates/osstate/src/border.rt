@@ -17,11 +17,11 @@ use osgrant::Grants;
 pub(crate) struct Border<const OUT: usize> {
     // The service that awaits another core's reply.
     pub(crate) open_call: Option<OpenCall>,
-    pub(crate) outbox: ArrayVec<SentSlot, OUT>,
     // How many envelopes were queued for each core, and received from it.
     pub(crate) queued: [u64; CORES],
     pub(crate) received: [u64; CORES],
     pub(crate) spins: Grants,
+    pub(crate) outbox: ArrayVec<SentSlot, OUT>,
 }
 
 /// The call that is still open once an operation of this runner is done, or its job has ended.

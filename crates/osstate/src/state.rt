@@ -53,9 +53,10 @@ pub struct CoreState<'a, const P: usize, const J: usize, const OUT: usize> {
     // The core's own part of the configuration, so that no step looks it up.
     core: &'a Core,
     progress: Progress,
-    jobs: Jobs<P, J>,
     clocks: Clocks,
     tables: Tables,
+    // What has no fixed size comes last, which makes proofs about sizes short.
+    jobs: Jobs<P, J>,
     border: Border<OUT>,
 }
 
@@ -90,7 +91,7 @@ impl<'a, const P: usize, const J: usize, const OUT: usize> CoreState<'a, P, J, O
             config,
             core,
             progress: Progress::new(core.id == plan.master),
-            jobs: Jobs::new(),
+            jobs: Jobs::new(core),
             clocks: Clocks::new(core),
             tables: Tables::new(core),
             border: Border {
@@ -277,6 +278,7 @@ impl<'a, const P: usize, const J: usize, const OUT: usize> CoreState<'a, P, J, O
     /// whole budget (OSEK/VDX OS 2.2.3, section 4.2.1 and 13.5.3.4; AUTOSAR SWS OS 4.x, SWS_Os_00473).
     pub fn wait(&mut self, task: TaskRef, mask: u32, marks: &mut Vec<Mark>)
         requires own { IsTrue (is_own_runner self.old.view.own (Runner.Task task)) }
+        requires extended { is_extended self.old.view.own (Runner.Task task) ≡ true }
         requires room { HasRoom 1 1 self.old marks.old }
         ensures state { self.new ≡ state_after (Printed (Mark.EventAwaited task mask)) self.old }
         ensures effects { Effects 1 1 (λ v h. Printed (Mark.EventAwaited task mask) ∷ h) self.old self.new marks.old marks.new }
@@ -290,6 +292,7 @@ impl<'a, const P: usize, const J: usize, const OUT: usize> CoreState<'a, P, J, O
     /// (OSEK/VDX OS 2.2.3, section 4.2.1 and 4.5).
     pub fn release(&mut self, task: TaskRef, marks: &mut Vec<Mark>)
         requires own { IsTrue (is_own_runner self.old.view.own (Runner.Task task)) }
+        requires extended { is_extended self.old.view.own (Runner.Task task) ≡ true }
         requires room { HasRoom 1 1 self.old marks.old }
         ensures state { self.new ≡ state_after (Printed (Mark.Released task)) self.old }
         ensures effects { Effects 1 1 (λ v h. Printed (Mark.Released task) ∷ h) self.old self.new marks.old marks.new }

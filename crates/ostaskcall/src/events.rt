@@ -1,7 +1,7 @@
 //! The services of events.
 
-ghost use Rattle.std.specs.Prelude.{◌≡◌, IsTrue, false};
-ghost use Rattle.osjobs.specs.Priorities.{is_own_runner};
+ghost use Rattle.std.specs.Prelude.{◌≡◌, IsTrue, true, false};
+ghost use Rattle.osjobs.specs.Priorities.{is_extended, is_own_runner};
 ghost use Rattle.osstate.specs.Does.{Effects, Reads, service_entries, service_marks};
 ghost use Rattle.osact.specs.Terms.{MayAct};
 ghost use Rattle.osact.specs.Acts.{does};
@@ -21,7 +21,8 @@ fn status_of_events<const P: usize, const J: usize, const OUT: usize>(
     task: TaskRef,
 ) -> Status
     requires own { IsTrue (is_own_runner state.now.view.own (Runner.Task task)) }
-    ensures { Reads (λ v h. first_failing (event_checks (seen_of v h) task)) state.now result }
+    ensures reads { Reads (λ v h. first_failing (event_checks (seen_of v h) task)) state.now result }
+    ensures extended { IsTrue (is_ok_status result) → is_extended state.now.view.own (Runner.Task task) ≡ true }
 {
     if !state.is_extended(Runner::Task(task)) {
         Status::EOsAccess
@@ -61,7 +62,8 @@ fn set_and_release<const P: usize, const J: usize, const OUT: usize>(
     mask: u32,
     marks: &mut Vec<Mark>,
 )
-    requires { MayAct 2 2 state.old (Runner.Task task) marks.old }
+    requires act { MayAct 2 2 state.old (Runner.Task task) marks.old }
+    requires extended { is_extended state.old.view.own (Runner.Task task) ≡ true }
     ensures effects { Effects 2 2 (does (sets_events task mask)) state.old state.new marks.old marks.new }
     ensures border { state.new.border ≡ state.old.border }
 {
@@ -76,7 +78,8 @@ fn release_from<const P: usize, const J: usize, const OUT: usize>(
     mask: u32,
     marks: &mut Vec<Mark>,
 )
-    requires { MayAct 1 1 state.old (Runner.Task task) marks.old }
+    requires act { MayAct 1 1 state.old (Runner.Task task) marks.old }
+    requires extended { is_extended state.old.view.own (Runner.Task task) ≡ true }
     ensures effects { Effects 1 1 (does (releases task mask)) state.old state.new marks.old marks.new }
     ensures border { state.new.border ≡ state.old.border }
 {
@@ -128,7 +131,8 @@ fn status_of_caller<const P: usize, const J: usize, const OUT: usize>(
     state: &CoreState<'_, P, J, OUT>,
     runner: Runner,
 ) -> Status
-    ensures { Reads (λ v h. first_failing (clearing_checks (seen_of v h) runner)) state.now result }
+    ensures reads { Reads (λ v h. first_failing (clearing_checks (seen_of v h) runner)) state.now result }
+    ensures extended { IsTrue (is_ok_status result) → is_extended state.now.view.own runner ≡ true }
 {
     match runner {
         Runner::Task(_) => {
@@ -186,7 +190,8 @@ fn status_of_waiting<const P: usize, const J: usize, const OUT: usize>(
     runner: Runner,
 ) -> Status
     requires own { IsTrue (is_own_runner state.now.view.own runner) }
-    ensures { Reads (λ v h. first_failing (waiting_checks (seen_of v h) runner)) state.now result }
+    ensures reads { Reads (λ v h. first_failing (waiting_checks (seen_of v h) runner)) state.now result }
+    ensures extended { IsTrue (is_ok_status result) → is_extended state.now.view.own runner ≡ true }
 {
     let status = status_of_caller(state, runner);
     if !is_ok(status) {
@@ -222,7 +227,8 @@ fn go_on_or_wait<const P: usize, const J: usize, const OUT: usize>(
     mask: u32,
     marks: &mut Vec<Mark>,
 )
-    requires { MayAct service_entries service_marks state.old runner marks.old }
+    requires act { MayAct service_entries service_marks state.old runner marks.old }
+    requires extended { is_extended state.old.view.own runner ≡ true }
     ensures { Effects service_entries service_marks (does (goes_on_or_waits runner mask)) state.old state.new marks.old marks.new }
 {
     let events = state.events(runner);
@@ -241,7 +247,8 @@ fn begin_to_wait<const P: usize, const J: usize, const OUT: usize>(
     mask: u32,
     marks: &mut Vec<Mark>,
 )
-    requires { MayAct service_entries service_marks state.old runner marks.old }
+    requires act { MayAct service_entries service_marks state.old runner marks.old }
+    requires extended { is_extended state.old.view.own runner ≡ true }
     ensures { Effects service_entries service_marks (does (begins_to_wait runner mask)) state.old state.new marks.old marks.new }
 {
     match runner {

@@ -13,6 +13,7 @@ mod program;
 mod runs;
 mod schedules;
 mod shutdown;
+mod small;
 mod spinlock_ends;
 mod spinlock_logs;
 mod spinlocks;

@@ -1,6 +1,6 @@
 use Rattle.std.proofs.Common.{◌≡◌, ◌+◌, ◌<◌, ◌≤◌, true, IfSome, IfNone, drop, get_or, length}
 use Rattle.osbase.specs.History.{job_count, same_runner}
-use Rattle.osjobs.proofs.Choosing.{no-job}
+use Rattle.osjobs.proofs.Counting.{no-job}
 use Rattle.osjobs.proofs.live.oldest_place.Given as goal
 
 -- from this place on nobody has one before the one that was found

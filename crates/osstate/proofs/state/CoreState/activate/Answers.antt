@@ -2,6 +2,7 @@ use Rattle.std.proofs.Common.{◌≡◌, ◌<◌, false, rules, arith, sym, subs
 use Rattle.osbase.specs.declared.references.Runner.TheVariants as Runner
 use Rattle.osbase.specs.History.{job_count}
 use Rattle.osbase.specs.Phases.{is_before_live}
+use Rattle.osjobs.proofs.Configured.{own-listed}
 use Rattle.osstate.specs.Sound.{IsSound, activation_limit}
 use Rattle.osstate.specs.State.{KernelState}
 use Rattle.osstate.proofs.Sounds.{activated, place}
@@ -11,7 +12,9 @@ use Rattle.osstate.proofs.state.CoreState.activate.Goals as goal
 
 pub activate-requires : goal.activate-requires
 activate-requires g c =
-    (search rules, (place g.row.P g.row.J c.args.task _ c.self.invariant (subst (λ (s : KernelState). job_count (Runner.Task c.args.task) s.tasks.jobs < activation_limit s.view.own (Runner.Task c.args.task)) (sym c.self.view_is) c.requires.limit), c.self.invariant.jobs.stamps))
+    let below : job_count (Runner.Task c.args.task) c.self.inside.jobs.jobs < activation_limit c.self.inside.core.now (Runner.Task c.args.task)
+    = subst (λ (s : KernelState). job_count (Runner.Task c.args.task) s.tasks.jobs < activation_limit s.view.own (Runner.Task c.args.task)) (sym c.self.view_is) c.requires.limit in
+    (search rules, (place g.row.P g.row.J c.args.task _ c.self.invariant below, (rw c.self.invariant.jobs.tasks (own-listed c.self.inside.core.now c.args.task (own_from_place c.self.inside.core.now (Runner.Task c.args.task) (omega (arith, below)))), c.self.invariant.jobs.stamps)))
 
 pub invariant_of-self : goal.invariant_of-self
 invariant_of-self g c =

@@ -1,12 +1,14 @@
-use Rattle.std.proofs.Common.{◌≡◌, Some, ap, sym, subst, ◌∙◌}
+use Rattle.std.proofs.Common.{◌≡◌, true, Some, ap, rules, sym, subst, ◌∙◌}
 use Rattle.osbase.specs.History.{same_core}
 use Rattle.osplan.specs.declared.plans.Plan.{Plan}
-use Rattle.osplan.specs.View.{core_of}
+use Rattle.osplan.specs.View.{View, core_of}
+use Rattle.osjobs.specs.Queue.{have_queues}
 use Rattle.osstate.specs.State.{KernelState}
 use Rattle.osstate.specs.Steps.{first_progress}
 use Rattle.osstate.specs.Sound.{IsSound}
 use Rattle.osplan.proofs.Clocked.{clocks_within}
-use Rattle.osstate.proofs.Begun.{state-begun, sound-begun, parts-begun}
+use Rattle.osplan.proofs.Within.{core-fits}
+use Rattle.osstate.proofs.Begun.{state-begun, sound-begun, parts-begun, view-own}
 use Rattle.osstate.proofs.state.CoreState.new.Goals as goal
 
 pub invariant_of-result : goal.invariant_of-result
@@ -23,6 +25,12 @@ returns g c =
     (c.new.ensures ∙ ap first_progress (c.eq.ensures ∙ ap (λ (p : Plan). same_core c.in-Some.core.now.id p.master) c.plan-plan.ensures.value))
     c.new-2.ensures c.new-3.ensures c.new-4.ensures c.new-5.ensures c.new-6.ensures
     ∙ state-begun c.args.config.now c.args.id c.in-Some.core.now found
+
+pub new-requires-2 : goal.new-requires-2
+new-requires-2 g c =
+    let found : core_of c.args.config.now c.args.id ≡ Some c.in-Some.core.now = sym (c.in-Some.ensures ∙ ap (λ (p : Plan). core_of p c.args.id) c.plan-plan.ensures.value) in
+    let fits = core-fits c.args.config.now c.args.id c.in-Some.core.now c.plan-plan.ensures.limits found in
+    (search rules, (subst (λ (v : View). have_queues g.row.P v.own.tasks ≡ true) (sym (view-own c.args.config.now c.args.id c.in-Some.core.now found)) c.requires.priorities, (fits.priorities, fits.tasks)))
 
 pub new-requires-3 : goal.new-requires-3
 new-requires-3 g c =

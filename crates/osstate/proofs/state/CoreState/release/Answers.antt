@@ -1,8 +1,20 @@
-use Rattle.std.proofs.Common.{subst, rules}
+use Rattle.std.proofs.Common.{subst, rules, ◌≡◌, true, sym}
+use Rattle.osbase.specs.declared.references.Runner.TheVariants as Runner
+use Rattle.osjobs.specs.Priorities.{is_extended, is_own_runner}
+use Rattle.osjobs.proofs.Configured.{own-listed}
 use Rattle.osstate.specs.Sound.{IsSound}
+use Rattle.osstate.specs.State.{KernelState}
+use Rattle.osstate.proofs.Room.{one-job}
 use Rattle.osstate.proofs.Effecting.{printing}
 use Rattle.osstate.proofs.Sounds.{released}
 use Rattle.osstate.proofs.state.CoreState.release.Goals as goal
+
+pub release-requires : goal.release-requires
+release-requires g c =
+    let own : is_own_runner c.self.inside.core.now (Runner.Task c.args.task) ≡ true = subst (λ (s : KernelState). is_own_runner s.view.own (Runner.Task c.args.task) ≡ true) (sym c.self.view_is) c.requires.own in
+    let extended : is_extended c.self.inside.core.now (Runner.Task c.args.task) ≡ true = subst (λ (s : KernelState). is_extended s.view.own (Runner.Task c.args.task) ≡ true) (sym c.self.view_is) c.requires.extended in
+    let single = one-job c.self.inside.core.now c.args.task c.self.inside.jobs.jobs c.self.invariant.tasks.single c.self.invariant.jobs.within extended in
+    (search rules, (rw c.self.invariant.jobs.tasks (own-listed c.self.inside.core.now c.args.task own), (single, c.self.invariant.jobs.stamps)))
 
 pub invariant_of-self : goal.invariant_of-self
 invariant_of-self g c = rw (c.release.ensures, c.record.ensures.progress) (released g.row.P g.row.J c.args.task _ c.self.invariant)

@@ -1,0 +1,82 @@
+-- The ready queue that the live jobs make: those whose tasks do not wait, each with the priority of its task as it is configured. And which
+-- jobs have to be compared to find the best one. All of it is this project's own.
+use Rattle.std.specs.Prelude.{◌≡◌, ◌⊎◌, ℕ, ◌<◌, ◌≤◌, nat_lt, Bool, true, if◌then◌else◌, Option, Some, None, List, [], ◌∷◌, length}
+use Rattle.std.specs.Int.{bit_at}
+use Rattle.std.specs.List.{list_all}
+use Rattle.osbase.specs.declared.histories.Job.{Job}
+use Rattle.osbase.specs.declared.references.Runner.{Runner}
+use Rattle.osbase.specs.declared.limits.TheConstants.{RUNNERS, TASKS}
+use Rattle.osbase.specs.History.{oldest}
+use Rattle.oscript.specs.Runners.{Row}
+use Rattle.osplan.specs.declared.plans.Core.{Core}
+use Rattle.osplan.specs.declared.plans.Task.{Task}
+use Rattle.osqueue.specs.declared.ready.Ready.{Ready}
+use Rattle.osqueue.specs.declared.ready.TheConstants.{PRIORITIES}
+use Rattle.osqueue.specs.Ordered.{placed, without}
+use Rattle.osrunner.specs.Rows.{row_at}
+use Rattle.osjobs.specs.Jobs.{Each}
+use Rattle.osjobs.specs.OwnTasks.{OwnTasks, are_below, is_own_task, priority_of}
+use Rattle.osjobs.specs.Priorities.{holds_any}
+use Rattle.osjobs.specs.Ranking.{is_awake_in, rank_by}
+
+-- The job is one of the list.
+abbrev pub OneOf : Job → List Job → Type 0
+OneOf b [] = ⊥
+OneOf b (j ∷ js) = (j ≡ b) ⊎ OneOf b js
+
+-- The first job has a greater rank than the second, or the same and no greater stamp.
+abbrev pub Beats : (Job → ℕ) → Job → Job → Type 0
+Beats rank b j = (rank j < rank b) ⊎ ((rank j ≡ rank b) × (b.stamp ≤ j.stamp))
+
+-- A job as it stands in the queue, and the queue of those jobs of a list that may stand in it.
+abbrev pub entry_of : OwnTasks → Job → Ready
+entry_of tasks j = record { priority = priority_of tasks j.runner; job = j }
+
+abbrev pub queued : OwnTasks → (Job → Bool) → List Job → List Ready
+queued tasks able [] = []
+queued tasks able (j ∷ js) = if able j then placed (entry_of tasks j) (queued tasks able js) else queued tasks able js
+
+-- The queue without a job, if there is one and it stands there; and with one more, if there is one.
+abbrev pub dequeued : OwnTasks → (Job → Bool) → Option Job → List Ready → List Ready
+dequeued tasks able None q = q
+dequeued tasks able (Some j) q = if able j then without (entry_of tasks j) q else q
+
+abbrev pub enqueued : OwnTasks → Option Job → List Ready → List Ready
+enqueued tasks None q = q
+enqueued tasks (Some j) q = placed (entry_of tasks j) q
+
+-- The priorities of these tasks have queues.
+abbrev pub have_queues : ℕ → List Task → Bool
+have_queues priorities tasks = list_all (λ (t : Task). nat_lt t.priority priorities) tasks
+
+-- The word has a bit for each task whose oldest job holds a resource.
+pub record AreHolders (rows : List Row) (word : ℕ) : Type 0 where
+  pub each : (k : ℕ) → k < TASKS → holds_any (row_at k rows).held ≡ true → bit_at word k ≡ 1
+
+-- What holds of the queue of a core's jobs.
+pub record AreReady (priorities room : ℕ) (tasks : OwnTasks) (jobs : List Job) (rows : List Row) (ready : List Ready) : Type 0 where
+  pub few : length jobs ≤ room
+  pub own : Each (λ (j : Job). is_own_task tasks j.runner ≡ true) jobs
+  pub low : are_below priorities tasks.priorities ≡ true
+  pub narrow : are_below PRIORITIES tasks.priorities ≡ true
+  pub within : length tasks.priorities ≤ TASKS
+  pub places : length rows ≡ RUNNERS
+  pub queue : ready ≡ queued tasks (is_awake_in rows) jobs
+
+-- The oldest job of the task of this index.
+abbrev pub oldest_at : Core → List Job → ℕ → Option Job
+oldest_at core jobs index = oldest (Runner.Task (record { core = core.id; index = index })) jobs
+
+-- A job that was compared with the best so far: the better of both, of which the second counts only if its task does not wait.
+pub record IsBetter (rank : Job → ℕ) (able : Job → Bool) (best : Job) (job : Option Job) (chosen : Job) : Type 0 where
+  pub one : (chosen ≡ best) ⊎ ((job ≡ Some chosen) × (able chosen ≡ true))
+  pub beats : Beats rank chosen best
+  pub also : (j : Job) → job ≡ Some j → able j ≡ true → Beats rank chosen j
+
+-- The best of the front of the queue, of the raised job, and of the oldest jobs of those holders that are not left.
+pub record IsBestSoFar (core : Core) (rows : List Row) (raised : Option Job) (holders : ℕ) (jobs : List Job) (front best : Job) (left : ℕ) : Type 0 where
+  pub one : OneOf best jobs
+  pub able : is_awake_in rows best ≡ true
+  pub first : Beats (rank_by core rows raised) best front
+  pub lifted : (j : Job) → raised ≡ Some j → is_awake_in rows j ≡ true → Beats (rank_by core rows raised) best j
+  pub passed : (k : ℕ) (j : Job) → bit_at holders k ≡ 1 → bit_at left k ≡ 0 → oldest_at core jobs k ≡ Some j → is_awake_in rows j ≡ true → Beats (rank_by core rows raised) best j
