@@ -73,6 +73,7 @@ def configurations():
     yield from words()
     yield from actions()
     yield from names()
+    yield from versions()
     yield from words_of_cores()
     yield from swapped()
 
@@ -329,6 +330,18 @@ def names():
     for name in ("priority", "autostart", "isrs", "spinlocks", "events", "", "\u00e9", "a/b~c"):
         for path in ([], ["cores", 0], ["cores", 0, "tasks", 0], ["cores", 0, "alarms", 0, "auto"]):
             yield "member %r at %r" % (name, path), changed((path + [name], []))
+
+
+def versions():
+    """Numbers and counts of cores by the version."""
+    for version in (0, 1, 2, 3):
+        for number in (7, 8, 15, 16):
+            yield "version %d, id %d" % (version, number), changed((["version"], version), (["cores", 1, "id"], number))
+        for count in (8, 9, 16, 17):
+            for first in (0, 1):
+                cores = [{"id": first * at} for at in range(count)]
+                title = "version %d, %d cores, %s" % (version, count, "apart" if first else "alike")
+                yield title, data({"version": version, "cores": cores})
 
 
 def words_of_cores():

@@ -22,7 +22,7 @@ SCHEDULE = "schedule"
 EVENTS = "events"
 EXTENDED = "extended"
 MOST_EVENTS = 32
-CORES = tuple(str(number) for number in range(8))
+CORES = tuple(str(number) for number in range(formats.MOST_CORES[2]))
 
 _NAME_LITERAL = re.compile(r'"(?:[^"\\]|\\.)*"')
 
@@ -319,7 +319,7 @@ _TURNS = _Words(
     formats.MOST_TURNS,
     "0o",
     re.compile(TURN),
-    "turns are `Ko`, `KsD` and `Kl` of different cores K and D, 0 to 7",
+    "turns are `Ko`, `KsD` and `Kl` of different cores K and D, 0 to 15",
 )
 
 

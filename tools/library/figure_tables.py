@@ -26,6 +26,7 @@ def tables(figures: Figures) -> str:
         ("Preemptions", _plain(("core", "task", "by", "times"), figures["preemptions"], 3)),
         ("Interruptions", _plain(("core", "who", "by", "times"), figures["interruptions"], 3)),
         ("Budgets", _budgets(figures)),
+        ("Lock budgets", _lock_budgets(figures)),
         ("Resources held: least, mean, greatest", _resources(figures, units)),
         ("Spinlocks, waited for: least, mean, greatest", _spinlocks(figures, "waited", units)),
         ("Spinlocks, held: least, mean, greatest", _spinlocks(figures, "held", units)),
@@ -94,6 +95,12 @@ def _budgets(figures: Figures) -> List[str]:
         if each["budget"]:
             rows.append([str(each["core"]), owner, *(str(each[name]) for name in ("budget", "used", "reached"))])
     return _table(("core", "who", "budget", "used", "reached"), rows, 2)
+
+
+def _lock_budgets(figures: Figures) -> List[str]:
+    """What was used of each lock budget at most, and how often it was reached."""
+    rows = [{**each, "task": each["task"] or "-"} for each in figures["lock_budgets"] if each["lock"]]
+    return _plain(("core", "resource", "task", "lock", "used", "reached"), rows, 3)
 
 
 def _refused(figures: Figures) -> List[str]:

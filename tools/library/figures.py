@@ -8,6 +8,7 @@ from library.items import START, Deed, Item
 from library.jobs import (
     LOST,
     PROTECTION,
+    PROTECTION_TIME,
     RESOURCE,
     SHUTDOWN,
     SPINLOCK,
@@ -74,6 +75,7 @@ def figures_of(jobs: Jobs) -> Figures:
     found["refused"] = refusals
     found["preemptions"] = _preemptions(jobs.preemptions, "task")
     found["interruptions"] = _preemptions(jobs.interruptions, "who")
+    found["lock_budgets"] = _lock_budgets(with_jobs)
     found["resources"] = _resources(jobs, units_of(found))
     found["spinlocks"] = _spinlocks(jobs, units_of(found))
     found["chains"] = _chains(jobs, units_of(found))
@@ -196,9 +198,12 @@ class _Owners:
         self.op = {core: _op(jobs, core) for core in jobs.timeline.run.cores}
         self.interrupted = Counter(each.job.name for each in jobs.interruptions)
         self.marks = _marks(jobs, lambda mark: mark.name)
+        # ProtectionHook is called for lock budgets too.
+        hooks = (mark for mark in jobs.marks if mark.kind == PROTECTION)
+        self.reached = Counter(mark.name for mark in hooks if mark.text.endswith(PROTECTION_TIME))
 
     def configured(self, kind: str) -> Iterator[Tuple[Core, Named]]:
-        """The tasks or the ISRs, by the name of their list, with their cores, by ascending core."""
+        """The tasks, the ISRs or the resources, by the name of their list, with their cores, by ascending core."""
         for core in sorted(self.whole.timeline.run.draft.cores, key=lambda core: core.id):
             for each in core.named[kind]:
                 yield core, each
@@ -221,10 +226,29 @@ class _Owners:
             "load": percent(self.operations[owner.name], self.op[core.id]),
             "budget": owner["budget"],
             "used": max((part.used for part in parts), default=0),
-            "reached": self.marks[owner.name, PROTECTION],
+            "reached": self.reached[owner.name],
             "waiting": _times(self.whole, parts, self.units, lambda part: part.start),
             "response": _times(self.whole, parts, self.units, lambda part: part.finish),
         }
+
+
+def _lock_budgets(owners: "_Owners") -> List[Figures]:
+    """How long tasks held each resource while they ran; of one that none took without a task."""
+    taken: Dict[str, List[Tuple[Optional[str], List[Hold]]]] = {}
+    for (_, name, task), holds in _holds(owners.whole, RESOURCE):
+        taken.setdefault(name, []).append((task, holds))
+    return [
+        {
+            "core": core.id,
+            "resource": resource.name,
+            "task": task,
+            "lock": resource["lock"],
+            "used": max((hold.used for hold in holds), default=0),
+            "reached": sum(hold.reached for hold in holds),
+        }
+        for core, resource in owners.configured("resources")
+        for task, holds in taken.get(resource.name, [(None, [])])
+    ]
 
 
 def _preemptions(found: Sequence[Preemption], name: str) -> List[Figures]:

@@ -86,9 +86,9 @@ GREATEST_NUMBER = 2**64 - 1
 GREATEST_SIGNED = 2**63 - 1
 GREATEST_WORD = 4294967295  # masks, and the numbers of alarms and tables
 GREATEST_COUNT = 1000000000  # a counter's `max`, a table's `duration`
-GREATEST_BUDGET = 1000000000  # in ticks
+GREATEST_BUDGET = 1000000000  # in ticks: of a job, and of a resource
 GREATEST_CORE_NUMBER = 255  # of a `StartCore`
-GREATEST_STATUS = 15  # of a shutdown
+GREATEST_STATUS = 16  # of a shutdown
 
 MOST_LEVELS = 127  # of a JSON text
 MOST_BYTES = 2**30  # of a file
@@ -98,6 +98,7 @@ MOST_ACTIVATIONS = 64  # of the tasks of a core together
 MOST_ACTIONS_ABROAD = 56  # what a core may do on other cores at once
 MOST_STIMULI = 100000  # of a core
 MOST_TURNS = 1000000  # of a schedule
+MOST_CORES = {1: 8, 2: 16}  # by the `version` of a configuration; their numbers begin with 0
 
 NAME = re.compile(r"[A-Za-z][A-Za-z0-9_]{0,127}")
 DECIMAL = re.compile(r"0|[1-9][0-9]*")
@@ -287,12 +288,12 @@ class Object:
 CONFIGURATION = Object(
     "configuration",
     (
-        Member("version", Number(1, 1), 1),
+        Member("version", Number(1, 2), 1),
         Member("cap", Number(1, 16), 16),
-        Member("master", Number(0, 7, alone=False), 0),
+        Member("master", Number(0, MOST_CORES[2] - 1, alone=False), 0),
         Member("modes", ListOf(NewModeName(), 1, 8), (MODE,)),
         Member("spinlocks", ListOf(ObjectOf("spinlock"), 0, 16), ()),
-        Member("cores", ListOf(ObjectOf("core"), 1, 8)),
+        Member("cores", ListOf(ObjectOf("core"), 1, MOST_CORES[2])),
     ),
 )
 SPINLOCK = Object("spinlock", (Member("name", NewName()), Member("next", SpinlockName(), None)))
@@ -305,7 +306,7 @@ PROTECTIONS = OneOf(
 CORE = Object(
     "core",
     (
-        Member("id", Number(0, 7)),
+        Member("id", Number(0, MOST_CORES[2] - 1)),
         Member("mode", CoreMode(), FIRST_MODE),
         Member("start", ListOf(Number(0, 255)), ()),
         Member("protection", PROTECTIONS, "PRO_SHUTDOWN"),
@@ -339,7 +340,14 @@ ISR = Object(
         Member("script", Script(NOT_IN_ISRS)),
     ),
 )
-RESOURCE = Object("resource", (Member("name", NewName()), Member("ceiling", Number(0, 31))))
+RESOURCE = Object(
+    "resource",
+    (
+        Member("name", NewName()),
+        Member("ceiling", Number(0, 31)),
+        Member("lock", Number(0, GREATEST_BUDGET), 0),
+    ),
+)
 COUNTER = Object(
     "counter",
     (

@@ -43,6 +43,8 @@ _EVENTS_OF_TASK = Hint('events have no names here: write `"extended": true`, and
 _EVENTS_OF_CORE = Hint('events have no names here: a task with `"extended": true` has 32')
 _SCHEDULE = _is("preemptable", ": `true` for FULL, `false` for NON")
 _RESOURCES = Hint("it is not written here: each task of the core may take each of its resources")
+_LOCK_AT_RESOURCE = Hint("it is `lock` here, in ticks, and stands at the resource, for all its holders")
+_NO_LOCK = Hint("it is not written here: an ISR takes no resource")
 _CATEGORY = Hint("it is not written here: each ISR is of category 2")
 _STANDARD = Hint("it is not written here: each resource is STANDARD")
 _LOCK_METHOD = Hint("it is not written here: each spinlock is LOCK_NOTHING")
@@ -94,6 +96,9 @@ STANDARD_NAMES: Dict[str, Dict[str, Hint]] = {
         "resources": _RESOURCES,
         "executionbudget": _is("budget", ", in ticks"),
         "ostaskexecutionbudget": _is("budget", ", in ticks"),
+        "resourcelock": _LOCK_AT_RESOURCE,
+        "ostaskresourcelock": _LOCK_AT_RESOURCE,
+        "ostaskresourcelockbudget": _LOCK_AT_RESOURCE,
     },
     "ISR": {
         "priority": _is("level"),
@@ -102,6 +107,9 @@ STANDARD_NAMES: Dict[str, Dict[str, Hint]] = {
         "osisrcategory": _CATEGORY,
         "executionbudget": _is("budget", ", in ticks"),
         "osisrexecutionbudget": _is("budget", ", in ticks"),
+        "resourcelock": _NO_LOCK,
+        "osisrresourcelock": _NO_LOCK,
+        "osisrresourcelockbudget": _NO_LOCK,
     },
     "resource": {
         "ceilingpriority": _is("ceiling"),
@@ -109,6 +117,8 @@ STANDARD_NAMES: Dict[str, Dict[str, Hint]] = {
         "prio": _is("ceiling"),
         "resourceproperty": _STANDARD,
         "osresourceproperty": _STANDARD,
+        "budget": _is("lock", ", in ticks"),
+        "lockbudget": _is("lock", ", in ticks"),
     },
     "counter": {
         "maxallowedvalue": _is("max"),

@@ -4,6 +4,7 @@ Whatever nobody asked a container for is named here, so nothing is dropped witho
 kind of which the same is to be said, the first one is shown, and the others are counted.
 """
 
+import re
 from dataclasses import dataclass
 from typing import Dict, Iterable, Iterator, List, Optional, Tuple, Union
 
@@ -28,7 +29,8 @@ AS_HERE = {
     "OsUseResScheduler": (True, False),
 }
 _NO_ACCESS = "each object may be used by each task and ISR"
-_NO_LOCK_BUDGET = "there are no time limits on locks and resources"
+_NO_INTERRUPT_LOCK = "there are no time limits on suspended interrupts"
+_LOCK_AT_RESOURCE = "a lock budget stands at the resource here, for all tasks that take it: write `lock` there"
 _HOOK = "this hook is always called"
 # Why a parameter, a reference or a container has no place.
 REASONS = {
@@ -69,14 +71,19 @@ REASONS = {
     "OsTrusted": "there is no memory protection",
     "OsTrustedApplicationWithProtection": "there is no memory protection",
 }
-_LOCKS = ("LockBudget", "ResourceLock", "ResourceLockBudget")
+# The time limits on locks that tasks and ISRs have, in the words of ARXML and of OIL.
+_LOCKS = (
+    (re.compile(r"LOCKINGTIME|\w*ResourceLock(Budget|Time)?", re.IGNORECASE), _LOCK_AT_RESOURCE),
+    (re.compile(r"\w*Lock(Budget|Time)", re.IGNORECASE), _NO_INTERRUPT_LOCK),
+)
 NO_PLACE = "no place in the configuration"
 NO_NAME = "a name is a letter, and up to 127 letters, digits and underscores"
 
 
 def reason_of(key: str) -> str:
     """Why a parameter, a reference or a container has no place."""
-    return _NO_LOCK_BUDGET if key.endswith(_LOCKS) else REASONS.get(key, NO_PLACE)
+    lock = next((reason for pattern, reason in _LOCKS if pattern.fullmatch(key)), NO_PLACE)
+    return REASONS.get(key, lock)
 
 
 @dataclass

@@ -10,7 +10,7 @@ from typing import Any, Callable, Dict, List, Optional, Sequence
 
 from library.ecuc import Ecuc, Node, Value, fraction, whole
 from library.findings import counted, listed
-from library.formats import GREATEST_BUDGET, MODE, OBJECTS, Number
+from library.formats import GREATEST_BUDGET, MODE, MOST_CORES, OBJECTS, Number
 from library.import_cores import Cores
 from library.import_events import Events
 from library.import_limits import note_limits
@@ -121,7 +121,8 @@ class _Importer:
     def source(self) -> Source:
         """The members of the configuration, those with a default left out if they have it."""
         modes = [mode.name for mode in self.objects.modes]
-        head: Source = {"master": self.cores.master} if self.cores.master else {}
+        head: Source = {"version": 2} if max(self.cores.numbers, default=0) >= MOST_CORES[1] else {}
+        head.update({"master": self.cores.master} if self.cores.master else {})
         head["modes"] = modes or [MODE]
         if self.objects.spinlocks:
             head["spinlocks"] = [spinlock.members for spinlock in self.objects.spinlocks]

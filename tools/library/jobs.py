@@ -14,6 +14,7 @@ from dataclasses import dataclass, field
 from typing import Deque, Dict, List, NamedTuple, Optional, Tuple
 
 from library import progress
+from library.findings import listed
 from library.formats import GETS_SPINLOCK, NO_OBJECT
 from library.items import CORE, DROPPED, OK, START, Deed, Item
 from library.model import ISR, TASK
@@ -49,6 +50,9 @@ ERROR = "error"
 PROTECTION = "protection"
 SHUTDOWN = "shutdown"
 LOST = "lost"
+# With which status ProtectionHook is called for a job's own budget, and for those of resources.
+PROTECTION_TIME = "E_OS_PROTECTION_TIME"
+PROTECTION_LOCKED = "E_OS_PROTECTION_LOCKED"
 # What is done with events.
 SET_EVENT = "set_event"
 CLEAR_EVENT = "clear_event"
@@ -106,7 +110,10 @@ class Part(Cause):
 
 @dataclass(eq=False)
 class Job:
-    """A job with its events: whose it is, a task's or an ISR's; `number` counts the jobs of that one from 0."""
+    """A job with its events: whose it is, a task's or an ISR's; `number` counts the jobs of that one from 0.
+
+    `holds` are all that it held, `resources` those that it holds now, the newest last.
+    """
 
     core: int
     kind: str
@@ -115,18 +122,27 @@ class Job:
     changes: List[Change] = field(default_factory=list)
     parts: List[Part] = field(default_factory=list)
     holds: List["Hold"] = field(default_factory=list)
+    resources: List["Hold"] = field(default_factory=list)
 
     @property
     def has_run(self) -> bool:
         """Whether it has run before."""
         return self.parts[0].start is not None
 
+    def charge(self) -> None:
+        """A tick is taken while it runs."""
+        self.parts[-1].used += 1
+        for hold in self.resources:
+            hold.used += 1
+
 
 @dataclass(eq=False)
 class Hold:
     """A resource or a spinlock, from the item in which a job takes it to that in which it is given back.
 
-    It asks for a spinlock in an item before, `called`, and may never get it.
+    It asks for a spinlock in an item before, `called`, and may never get it. Of a resource `used` is how many ticks
+    were taken while the job held it and ran: what its lock budget counts. If ProtectionHook was called for that budget,
+    it is `reached`.
     """
 
     kind: str
@@ -134,6 +150,8 @@ class Hold:
     called: Item
     taken: Optional[Item] = None
     given: Optional[Item] = None
+    used: int = 0
+    reached: bool = False
 
     @property
     def is_kept(self) -> bool:
@@ -176,7 +194,7 @@ class Preemption(NamedTuple):
 class Mark(NamedTuple):
     """What is marked where it happens: a call of ErrorHook, ProtectionHook or ShutdownHook, or a lost interrupt.
 
-    `name` is who was refused something, whose job reached its budget, or which ISR lost it; of ShutdownHook it is empty.
+    `name` is who was refused something, whose job reached a budget, or which ISR lost it; of ShutdownHook it is empty.
     `before` says how many jobs the one of this name had before.
     """
 
@@ -272,12 +290,14 @@ class _Walk:
         self.requests: Dict[int, Envelope] = {}  # of each core the one whose reply is awaited
         self.asked: Dict[int, Hold] = {}  # of each core the spinlock for which a job waits
         self.spinlocks: Dict[str, Hold] = {}  # those that are taken
+        resources = timeline.run.draft.objects("resource")
+        self.locks: Dict[str, int] = {each.name: each["lock"] for each in resources}
 
     def item(self, item: Item) -> None:
         """Follows the lines of one item."""
         running = self.running[item.core]
         if item.is_tick and running:
-            running[-1].parts[-1].used += 1
+            running[-1].charge()
         # Who does something is asked before the lines, among which its job may end.
         causes = [self._cause(item, deed) for deed in item.deeds]
         for index in range(len(item.lines)):
@@ -363,7 +383,7 @@ class _Walk:
             self.found.preemptions.append(Preemption(job, behind[1], item))
 
     def _end(self, item: Item, job: Job) -> None:
-        """A job ends. One of an ISR, or one that has reached its budget, runs until then."""
+        """A job ends. One of an ISR, or one that has reached a budget, runs until then."""
         self._finish(item, job, TERMINATE)
         running = self.running[job.core]
         if running and running[-1] is job:
@@ -376,9 +396,8 @@ class _Walk:
         self._change(job, event, item)
         job.parts[-1].finish = item
         if event == TERMINATE:
-            for hold in job.holds:
-                if hold.kind == RESOURCE:
-                    hold.given = hold.given or item
+            while job.resources:
+                job.resources.pop().given = item
 
     def _hook(self, item: Item, index: int, words: List[str]) -> None:
         """A hook is called."""
@@ -386,9 +405,19 @@ class _Walk:
             deed = item.deed_at(index)
             self._mark(ERROR, item, deed.name if deed is not None else "", words[2])
         elif words[1] == "Protection":
-            self._mark(PROTECTION, item, self.running[item.core][-1].name, " ".join(words[1:]))
+            self._protect(item, words[2], self.running[item.core][-1])
         elif words[1] == "Shutdown":
             self._mark(SHUTDOWN, item, "", " ".join(words[1:]))
+
+    def _protect(self, item: Item, status: str, job: Job) -> None:
+        """ProtectionHook is called: the job has reached its own budget, or those of resources that it holds."""
+        text = "Protection %s" % status
+        if status == PROTECTION_LOCKED:
+            reached = [hold for hold in job.resources if 0 < self.locks[hold.name] <= hold.used]
+            for hold in reached:
+                hold.reached = True
+            text += ": %s" % listed("%s %d of %d" % (hold.name, hold.used, self.locks[hold.name]) for hold in reached)
+        self._mark(PROTECTION, item, job.name, text)
 
     def _mark(self, kind: str, item: Item, name: str, text: str) -> None:
         """Marks what happens in an item."""
@@ -465,10 +494,11 @@ class _Walk:
     def _hold(self, item: Item, deed: Deed) -> None:
         """A job takes a resource, or gives the newest one back."""
         if deed.service == "GetResource":
-            self.live[deed.name][0].holds.append(Hold(RESOURCE, deed.operation.split(" ")[1], item, item))
+            job = self.live[deed.name][0]
+            job.resources.append(Hold(RESOURCE, deed.operation.split(" ")[1], item, item))
+            job.holds.append(job.resources[-1])
         elif deed.service == "ReleaseResource":
-            holds = (hold for hold in reversed(self.live[deed.name][0].holds) if hold.kind == RESOURCE)
-            next(hold for hold in holds if hold.given is None).given = item
+            self.live[deed.name][0].resources.pop().given = item
 
     def _spinlock(self, item: Item) -> None:
         """A job asks for a spinlock, or gets the answer; or a spinlock is given back."""

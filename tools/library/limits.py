@@ -10,6 +10,7 @@ from library.formats import (
     LIMIT,
     MOST_ACTIONS_ABROAD,
     MOST_ACTIVATIONS,
+    MOST_CORES,
     MOST_OPERATIONS,
     OBJECTS,
     ListOf,
@@ -26,6 +27,7 @@ from library.steps import acts_on
 def judge_limits(report: Report, draft: Draft) -> None:
     """Judges all numbers and counts of a configuration."""
     _judge_members(report, draft)
+    _judge_cores(report, draft)
     for core in draft.cores:
         _judge_activations(report, core)
         for scripted in core.scripted:
@@ -67,12 +69,8 @@ def _judge_members(report: Report, part: Part) -> None:
 def _judge_number(report: Report, node: JsonNumber, value: Number, title: str) -> None:
     """Judges a number by its own bounds."""
     if value.alone and not is_within(node.number, value):
-        report.fault(LIMIT, node, "%s is %d: %s" % (title, node.number, _allowed(value.least, value.greatest)))
-
-
-def _allowed(least: int, greatest: int) -> str:
-    """What numbers are allowed."""
-    return "only %d is allowed" % least if least == greatest else "%d to %d are allowed" % (least, greatest)
+        text = "%s is %d: %d to %d are allowed"
+        report.fault(LIMIT, node, text % (title, node.number, value.least, value.greatest))
 
 
 def _judge_length(report: Report, part: Part, name: str, value: ListOf) -> None:
@@ -92,6 +90,20 @@ def _thing(value: ListOf) -> str:
     if isinstance(value.element, NewModeName):
         return "mode"
     return value.element.name if isinstance(value.element, ObjectOf) else "action"
+
+
+def _judge_cores(report: Report, draft: Draft) -> None:
+    """Judges the cores of version 1, which may be fewer than those of version 2."""
+    most, more = MOST_CORES[1], MOST_CORES[2]
+    if draft["version"] != 1:
+        return
+    for core in draft.cores:
+        if most <= core.id < more:
+            text = "`id` is %d: 0 to %d are allowed; with `\"version\": 2`, 0 to %d"
+            report.fault(LIMIT, core.spot("id"), text % (core.id, most - 1, more - 1))
+    if most < len(draft.cores) <= more:
+        text = "%d cores: a configuration has at most %d; with `\"version\": 2`, %d"
+        report.fault(LIMIT, draft.cores[most].node, text % (len(draft.cores), most, more))
 
 
 def _judge_activations(report: Report, core: Core) -> None:

@@ -93,6 +93,7 @@ class _Notes:
             self._starts()
         if not self._has(LIMIT):
             self._ceilings()
+            self._lock_budgets()
         if not self._has(LIMIT, BAD_SCRIPT):
             self._refused()
         if not self._has(DUPLICATE_NAME, UNKNOWN_NAME, BAD_MASK, BAD_SCRIPT):
@@ -164,19 +165,32 @@ class _Notes:
             use = _Use(scripted.spot("script"), steps[place], scripted.core, scripted)
             self._note(use, 0, text % _first_ones("`%s`" % name for name in lower))
 
-    def _ceilings(self) -> None:
-        """Resources whose ceiling is too low for a task that takes them."""
-        users: Dict[Named, Dict[str, int]] = {}
+    def _takers(self, member: str) -> Iterator[Tuple[Named, Dict[str, int]]]:
+        """Each resource that tasks take, with the names of these, and with a member of theirs."""
+        takers: Dict[Named, Dict[str, int]] = {}
         for use in self.checked:
             resource = self.draft.find_alone("resource", use.words[0]) if use.name == "GetResource" else None
-            if resource is None or resource.core is not use.core or use.scripted.kind is ISR:
-                continue
-            if use.scripted["prio"] > resource["ceiling"]:
-                users.setdefault(resource, {})[use.scripted.name] = use.scripted["prio"]
-        for resource, prios in users.items():
-            tasks = _first_ones("`%s` (%d)" % pair for pair in prios.items())
-            text = "`ceiling` is %d, below the `prio` of %s: GetResource `%s` is answered E_OS_ACCESS there"
-            self.report.note(resource.spot("ceiling"), text % (resource["ceiling"], tasks, resource.name))
+            if resource is not None and resource.core is use.core and use.scripted.kind is not ISR:
+                takers.setdefault(resource, {})[use.scripted.name] = use.scripted[member]
+        yield from takers.items()
+
+    def _ceilings(self) -> None:
+        """Resources whose ceiling is too low for a task that takes them."""
+        for resource, prios in self._takers("prio"):
+            ceiling = resource["ceiling"]
+            above = ["`%s` (%d)" % pair for pair in prios.items() if pair[1] > ceiling]
+            if above:
+                text = "`ceiling` is %d, below the `prio` of %s: GetResource `%s` is answered E_OS_ACCESS there"
+                self.report.note(resource.spot("ceiling"), text % (ceiling, _first_ones(above), resource.name))
+
+    def _lock_budgets(self) -> None:
+        """Lock budgets that a job cannot reach, since it reaches its execution budget first."""
+        for resource, budgets in self._takers("budget"):
+            lock = resource["lock"]
+            first = ["`%s` (%d)" % pair for pair in budgets.items() if 0 < pair[1] <= lock]
+            if first:
+                text = "`lock` is %d, not below the `budget` of %s: a job there reaches that first: E_OS_PROTECTION_TIME"
+                self.report.note(resource.spot("lock"), text % (lock, _first_ones(first)))
 
     def _events(self) -> None:
         """Tasks that have no events, and are used as if they had."""
@@ -486,6 +500,19 @@ def note_stimuli(report: Report, draft: Draft) -> None:
             report.note(member.value, text)
 
 
+def _needs_tick(core: Core) -> str:
+    """What comes of a core that gets no `tick`; nothing if it needs none."""
+    counters = [each for each in core.named["counters"] if not each["software"]]
+    if counters:
+        stand = "stands" if len(counters) == 1 else "stand"
+        return "%s %s still" % (listed("`%s`" % each.name for each in counters), stand)
+    if any(scripted["budget"] for scripted in core.scripted):
+        return "no job uses its `budget`"
+    if any(resource["lock"] for resource in core.named["resources"]):
+        return "no job reaches the `lock` of a resource"
+    return ""
+
+
 def _note_core(report: Report, core: Core, node: Json, words: Set[str]) -> None:
     """Notes on the stimuli of a started core."""
     has_ticked = any(not counter["software"] for counter in core.named["counters"])
@@ -495,13 +522,8 @@ def _note_core(report: Report, core: Core, node: Json, words: Set[str]) -> None:
         return
     if "op" not in words and core.scripted:
         report.note(node, "the stimuli of core %d have no `op`: none of its jobs does an operation" % core.id)
-    elif "tick" not in words and has_ticked:
-        counters = [each for each in core.named["counters"] if not each["software"]]
-        names = listed("`%s`" % each.name for each in counters)
-        stand = "stands" if len(counters) == 1 else "stand"
-        report.note(node, "the stimuli of core %d have no `tick`: %s %s still" % (core.id, names, stand))
-    elif "tick" not in words and any(scripted["budget"] for scripted in core.scripted):
-        report.note(node, "the stimuli of core %d have no `tick`: no job uses its `budget`" % core.id)
+    elif "tick" not in words and _needs_tick(core):
+        report.note(node, "the stimuli of core %d have no `tick`: %s" % (core.id, _needs_tick(core)))
     for isr in core.named["isrs"]:
         if INTERRUPT + isr.name not in words:
             text = "the stimuli of core %d have no `%s%s`: no job of this ISR is made"

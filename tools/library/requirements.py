@@ -3,7 +3,7 @@
 import operator
 import re
 from dataclasses import dataclass, replace
-from typing import Any, Callable, Dict, List, Optional, Sequence, Tuple
+from typing import Any, Callable, Dict, Iterable, List, Optional, Sequence, Tuple
 
 from library.figures import Figures, tasks_and_isrs, units_of
 from library.findings import did_you_mean, listed
@@ -28,6 +28,8 @@ _COUNTS_BY_KIND = {"task": ("activations", "preempted") + _COUNTS, "isr": ("inte
 _TIMES = ("waiting", "response")
 _CHAIN_COUNTS = ("complete", "open", "broken")
 _MAILBOX_FIGURES = ("envelopes", "fullest")
+# What a resource has, over all tasks that took it.
+_RESOURCE_FIGURES: Dict[str, Callable[[Iterable[int]], int]] = {"used": max, "reached": sum}
 
 
 class WrongRequirement(ValueError):
@@ -108,7 +110,7 @@ def _judge(figures: Figures, wanted: _Wanted) -> Verdict:
     if wanted.subject == ALL:
         name = _one_of(wanted, _ALL_FIGURES)
         return _count(wanted, sum(core[name] for core in figures["cores"]))
-    for pattern, judged in ((r"core (\d+)", _core), (r"mailbox (\d+) to (\d+)", _mailbox), (r"chain (.+)", _chain)):
+    for pattern, judged in _SUBJECTS.items():
         found = re.fullmatch(pattern, wanted.subject)
         if found is not None:
             return judged(figures, wanted, found.groups())
@@ -149,6 +151,16 @@ def _mailbox(figures: Figures, wanted: _Wanted, words: Tuple[str, ...]) -> Verdi
     return _count(wanted, pairs.get((sender, receiver), 0))
 
 
+def _resource(figures: Figures, wanted: _Wanted, words: Tuple[str, ...]) -> Verdict:
+    """Judges a figure of a resource."""
+    rows = [each for each in figures["lock_budgets"] if each["resource"] == words[0]]
+    if not rows:
+        hint = did_you_mean(words[0], [each["resource"] for each in figures["lock_budgets"]])
+        raise WrongRequirement("%r: no resource is called `%s`%s" % (wanted.text, words[0], hint))
+    name = _one_of(wanted, tuple(_RESOURCE_FIGURES))
+    return _count(wanted, _RESOURCE_FIGURES[name](row[name] for row in rows))
+
+
 def _owner(figures: Figures, wanted: _Wanted) -> Verdict:
     """Judges a figure of a task or an ISR."""
     found = dict(tasks_and_isrs(figures))
@@ -172,6 +184,15 @@ def _chain(figures: Figures, wanted: _Wanted, words: Tuple[str, ...]) -> Verdict
     if is_length:
         return _times(wanted, chain, tuple(unit for unit in units_of(figures) if chain[unit] is not None))
     return _count(wanted, sum(chain["lost"].values()) if name == "broken" else chain[name])
+
+
+# What a subject of two words or more is, and how it is judged.
+_SUBJECTS: Dict[str, Callable[[Figures, _Wanted, Tuple[str, ...]], Verdict]] = {
+    r"core (\d+)": _core,
+    r"mailbox (\d+) to (\d+)": _mailbox,
+    r"resource (\S+)": _resource,
+    r"chain (.+)": _chain,
+}
 
 
 def _times(wanted: _Wanted, times: Figures, units: Tuple[str, ...]) -> Verdict:

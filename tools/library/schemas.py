@@ -58,6 +58,7 @@ def divided(part: str, separator: str, most: int) -> str:
 
 
 NAME = formats.NAME.pattern
+CORE = any_of(["0", up_to(formats.MOST_CORES[2] - 1)])
 OBJECT = any_of([NAME, r"\?"])
 MASK = up_to(formats.GREATEST_WORD)
 NUMBER = any_of(["0", MASK])
@@ -91,7 +92,7 @@ def action_pattern() -> str:
 
 
 # A turn: `o`, `l`, or `s` and the number of another core.
-TURN = r"([0-7])(?:[ol]|s(?!\1)[0-7])"
+TURN = r"(%s)(?:[ol]|s(?!\1(?![0-9]))%s)" % (CORE, CORE)
 
 
 # ---------------------------------------------------------------------------------------------------------------------
@@ -115,8 +116,6 @@ def descriptions(document: str) -> Dict[Tuple[str, str], str]:
 
 def sentence(text: str) -> str:
     """A description as a sentence of its own."""
-    if formats.is_decimal(text):
-        return "Always %s." % text
     return text[:1].upper() + text[1:] + ("" if text.endswith(".") else ".")
 
 
@@ -232,7 +231,19 @@ def _object(each: formats.Object, described: Dict[Tuple[str, str], str], may_be_
     schema["properties"] = properties
     if each is formats.TASK:
         schema.update(_one_activation())
+    if each is formats.CONFIGURATION:
+        schema.update(_cores_of_version_1())
     return schema
+
+
+def _cores_of_version_1() -> Schema:
+    """A configuration that is not of version 2 may have fewer cores, and lesser numbers of them."""
+    most = formats.MOST_CORES[1]
+    core = {"properties": {"id": {"maximum": most - 1}}}
+    return {
+        "if": {"properties": {"version": {"const": 2}}, "required": ["version"]},
+        "else": {"properties": {"master": {"maximum": most - 1}, "cores": {"maxItems": most, "items": core}}},
+    }
 
 
 def _one_activation() -> Schema:
@@ -282,6 +293,7 @@ def stimuli_schema() -> Schema:
         listed("`%s`" % word for word in words),
     )
     text = _text(divided(any_of(formats.STIMULUS_WORDS + (formats.INTERRUPT + NAME,)), " ", formats.MOST_STIMULI), message)
+    core = "^" + CORE + _END
     return {
         "$schema": DRAFT,
         "title": "Stimuli of mcos",
@@ -289,8 +301,7 @@ def stimuli_schema() -> Schema:
         "type": "object",
         "additionalProperties": False,
         "patternProperties": {
-            "^[0-7]"
-            + _END: dict(
+            core: dict(
                 {
                     "description": "The stimuli of one core: `op`, the next operation of the running job, "
                     "`tick`, one count of each of its counters, but for those with `software`, or `irq=I`, an interrupt "

@@ -164,8 +164,6 @@ def _words(value: OneOf) -> str:
 
 def _wanted_number(value: Number) -> str:
     """What a number is to be."""
-    if value.least == value.greatest:
-        return "the number %d" % value.least
     return "a whole number, %d to %d" % (value.least, value.greatest) if value.alone else "a whole number"
 
 

@@ -4,6 +4,7 @@ What they cannot say, the scripts and what the code of a core says, is what `--s
 """
 
 import json
+import string
 from dataclasses import dataclass, field
 from decimal import Decimal
 from xml.sax.saxutils import escape
@@ -57,6 +58,8 @@ def os_file(configuration):
     if configuration.get("cap", 16) != 16:
         raise CannotBeSaid("`cap` has another value")
     found = OsFile(configuration)
+    if any(resource.get("lock") for _, resource in found.objects("resources")):
+        raise CannotBeSaid("a lock budget is that of a task and a resource")
     actions = [alarm["action"] for _, alarm in found.objects("alarms")]
     actions += [a for _, table in found.objects("tables") for point in table["points"] for a in point["actions"]]
     for _, task in found.objects("tasks"):
@@ -153,7 +156,7 @@ def hardware_arxml(configuration):
     """The file of the module EcuC: the cores."""
     way = "EcucHardware/EcucCoreDefinition"
     cores = [
-        container(way, "Core_%s" % "abcdefgh"[core["id"]], [("EcucCoreId", core["id"])], root=HARDWARE)
+        container(way, "Core_%s" % string.ascii_lowercase[core["id"]], [("EcucCoreId", core["id"])], root=HARDWARE)
         for core in configuration["cores"]
     ]
     return arxml(("EcuC", HARDWARE, [container("EcucHardware", "Hardware", parts=cores, root=HARDWARE)]))
@@ -180,7 +183,7 @@ def os_containers(file):
 
 def core_application(core):
     keys = {"tasks": "Task", "isrs": "Isr", "alarms": "Alarm", "counters": "Counter", "tables": "ScheduleTable"}
-    path = "%s/EcuC/Hardware/Core_%s" % (PACKAGE, "abcdefgh"[core["id"]])
+    path = "%s/EcuC/Hardware/Core_%s" % (PACKAGE, string.ascii_lowercase[core["id"]])
     references = [("OsApplicationCoreRef", path)]
     references += [("OsApp%sRef" % keys[name], reference(each["name"])) for name in keys for each in core.get(name, [])]
     return container("OsApplication", "Application_%d" % core["id"], [("OsTrusted", True)], references)
@@ -312,6 +315,14 @@ def budget(kind, seconds):
     """The time protection of a task or an ISR."""
     parameters = [("%sExecutionBudget" % kind, seconds)]
     return [container("%s/%sTimingProtection" % (kind, kind), "TimingProtection", parameters)]
+
+
+def lock_budgets(kind, seconds):
+    """The time protection of a task or an ISR that limits how long it locks a resource and all interrupts."""
+    way = "%s/%sTimingProtection" % (kind, kind)
+    limit = [("%sResourceLockBudget" % kind, seconds)]
+    lock = container("%s/%sResourceLock" % (way, kind), "Lock", limit)
+    return [container(way, "TimingProtection", [("%sAllInterruptLockBudget" % kind, seconds)], parts=[lock])]
 
 
 def alarm_start(**parameters):

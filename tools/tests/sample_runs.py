@@ -72,6 +72,21 @@ def first_timeline():
     return timeline.timeline_of(first_run())
 
 
+def locks_timeline():
+    """The timeline of examples/locks. Its cores send nothing, so its logs follow from its stimuli: core 1 goes down."""
+    stimuli = json.loads(read("examples", "locks", "stimuli.json"))
+    starts = {"0": ["began 1 E_OK", "began 2 E_OK"]}
+    taken = {"1": 6}
+    logs = {}
+    for core, words in stimuli.items():
+        log = starts.get(core, ["on"]) + ["entered", "pass1 M", "readied", "pass2 0 1 2"]
+        log += ["stim " + word for word in words.split(" ")[: taken.get(core)]]
+        logs[int(core)] = log + ["drained", "passend", "last"]
+    block = next(lines[:-1] for words, lines in sessions("locks"))
+    configuration = read("examples", "locks", "config.json")
+    return timeline.timeline_of(runs.run_of(configuration, runs.blocks_of("\n".join(block)), logs))
+
+
 def point_run():
     """A run of one core, by hand: its last item is a `tick` at which a point expires, with four actions."""
     log = ["entered", "pass1 M", "readied", "pass2 0"]

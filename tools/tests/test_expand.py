@@ -233,7 +233,7 @@ class Cases(unittest.TestCase):
     def test_stimuli(self):
         for text, expected in STIMULI:
             with self.subTest(stimuli=str(text)[:60]):
-                self.assertEqual(value_of({"0": text, "3": "op"}), {"0": expected, "3": "op"})
+                self.assertEqual(value_of({"0": text, "15": "op"}), {"0": expected, "15": "op"})
 
     def test_wrong_stimuli(self):
         for text, index, message in WRONG_STIMULI:
@@ -243,8 +243,9 @@ class Cases(unittest.TestCase):
     def test_schedules(self):
         self.assertEqual(value_of("2*(0o 0s1) 1l"), "0o 0s1 0o 0s1 1l")
         self.assertEqual(value_of(["2*0o", "1l"]), "0o 0o 1l")
-        for word in ("8o", "0s0", "00o", "0x", "op"):
-            message = "turns are `Ko`, `KsD` and `Kl` of different cores K and D, 0 to 7, not `%s`" % word
+        self.assertEqual(value_of("2*(15o 1s15) 15s1"), "15o 1s15 15o 1s15 15s1")
+        for word in ("16o", "0s0", "15s15", "00o", "0x", "op"):
+            message = "turns are `Ko`, `KsD` and `Kl` of different cores K and D, 0 to 15, not `%s`" % word
             self.refused("0o " + word, "0o " + word, 3, message)
         most = "with this there are 1000001 turns, and at most 1000000 are allowed"
         self.refused("1000000*0o 0o", "1000000*0o 0o", 11, most)
@@ -483,7 +484,7 @@ class Whole(unittest.TestCase):
         self.assertEqual(called(MAIN, "--cut", "0", "c.json"), (1, "", message))
 
     def test_wrong_usage(self):
-        for words in ((), ("a", "b"), ("--cut", "8", "a"), ("--cut",), ("--frob", "a")):
+        for words in ((), ("a", "b"), ("--cut", "16", "a"), ("--cut",), ("--frob", "a")):
             with self.subTest(words=words):
                 status, output, _ = called(MAIN, *words)
                 self.assertEqual((status, output), (2, ""))

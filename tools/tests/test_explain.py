@@ -170,7 +170,19 @@ CASES = (
         '"1"',
         (
             "config.json:16:10: fault 2 Shape: /cores/1/id: "
-            '`id` is a whole number, 0 to 7, not `"1"`: remove the quotes',
+            '`id` is a whole number, 0 to 15, not `"1"`: remove the quotes',
+        ),
+    ),
+    Case(
+        "a core's number of version 2",
+        '"id": 2',
+        '"id": 9',
+        "9",
+        (
+            "config.json:20:10: fault 3 Limit: /cores/2/id: "
+            '`id` is 9: 0 to 7 are allowed; with `"version": 2`, 0 to 15',
+            "config.json:2:26: note: /cores/0/start/1: no core 2 is configured: its start is answered E_OS_ID",
+            "config.json:20:10: note: /cores/2/id: core 9 is off: no `start` leads to it from the master, core 0",
         ),
     ),
     Case(
@@ -282,11 +294,11 @@ CASES = (
     Case(
         "a status above the greatest",
         "add v0 1;",
-        "ShutdownOS 16;",
-        "16;",
+        "ShutdownOS 17;",
+        "17;",
         (
-            "config.json:22:73: fault 10 BadScript: /cores/2/tasks/0/script: operation 0 `ShutdownOS 16`: "
-            "`16` is no number of a status: that is 0 to 15",
+            "config.json:22:73: fault 10 BadScript: /cores/2/tasks/0/script: operation 0 `ShutdownOS 17`: "
+            "`17` is no number of a status: that is 0 to 16",
         ),
     ),
     Case(
@@ -296,7 +308,7 @@ CASES = (
         "E_OK",
         (
             "config.json:22:79: fault 10 BadScript: /cores/2/tasks/0/script: operation 0 `ShutdownAllCores E_OK`: "
-            "`E_OK` is no number of a status: write 0 to 15, as docs/FORMATS.md counts them",
+            "`E_OK` is no number of a status: write 0 to 16, as docs/FORMATS.md counts them",
         ),
     ),
     Case(
@@ -836,6 +848,47 @@ CASES = (
         ),
     ),
     Case(
+        "a lock budget that is not below an execution budget",
+        '"ceiling": 20}],\n   "tasks": [\n     {"name": "T1ms",',
+        '"ceiling": 20, "lock": 5}],\n   "tasks": [\n     {"name": "T1ms", "budget": 5,',
+        "5}],",
+        (
+            "config.json:12:57: note: /cores/0/resources/0/lock: "
+            "`lock` is 5, not below the `budget` of `T1ms` (5): a job there reaches that first: E_OS_PROTECTION_TIME",
+        ),
+    ),
+    Case(
+        "a budget of a resource",
+        '"ceiling": 20}',
+        '"ceiling": 20, "budget": 5}',
+        '"budget"',
+        (
+            "config.json:12:49: fault 2 Shape: /cores/0/resources/0/budget: "
+            "a resource has no member `budget`: it is `lock` here, in ticks",
+        ),
+    ),
+    Case(
+        "a lock budget of a task",
+        '"prio": 10, "script"',
+        '"prio": 10, "ResourceLock": 5, "script"',
+        '"ResourceLock"',
+        (
+            "config.json:15:36: fault 2 Shape: /cores/0/tasks/1/ResourceLock: "
+            "a task has no member `ResourceLock`: "
+            "it is `lock` here, in ticks, and stands at the resource, for all its holders",
+        ),
+    ),
+    Case(
+        "a lock budget beyond the greatest",
+        '"ceiling": 20}',
+        '"ceiling": 20, "lock": 1000000001}',
+        "1000000001}",
+        (
+            "config.json:12:57: fault 3 Limit: /cores/0/resources/0/lock: "
+            "`lock` is 1000000001: 0 to 1000000000 are allowed",
+        ),
+    ),
+    Case(
         "extended forgotten",
         '"extended": true, ',
         "",
@@ -1009,6 +1062,20 @@ INTERRUPTS = (
         ),
     ),
 )
+# Stimuli for a configuration with a lock budget alone.
+LOCKS = """\
+{"cores": [{"id": 0, "resources": [{"name": "R", "ceiling": 1, "lock": 2}],
+  "tasks": [{"name": "A", "prio": 1, "auto": ["M"], "script": "GetResource R;ReleaseResource R;TerminateTask"}]}]}
+"""
+HOLDING = (
+    Input("right ones", '{"0": "op tick op op"}', ()),
+    Input(
+        "no tick for a lock budget",
+        '{"0": "op op op"}',
+        ("1:7: note: /0: the stimuli of core 0 have no `tick`: no job reaches the `lock` of a resource",),
+    ),
+)
+WITH_STIMULI = ((BASE, STIMULI), (ISRS, INTERRUPTS), (LOCKS, HOLDING))
 SCHEDULES = (
     Input("right turns", '"0o 1l 2s0"', ()),
     Input(
@@ -1097,6 +1164,13 @@ class Configurations(unittest.TestCase):
                 noted = judge_configuration(BASE.replace(old, new).encode()).findings
                 self.assertEqual([], [each.text for each in noted if "neither waits" in each.text])
 
+    def test_a_lock_budget_that_a_job_can_reach(self):
+        for lock, budget in ((5, 6), (5, 0), (0, 5)):
+            members = '"ceiling": 20, "lock": %d' % lock
+            text = BASE.replace('"ceiling": 20', members).replace('"prio": 20', '"prio": 20, "budget": %d' % budget)
+            with self.subTest(lock=lock, budget=budget):
+                self.assertEqual((), judge_configuration(text.encode()).findings)
+
     def test_each_place(self):
         for case in CASES:
             with self.subTest(case.title):
@@ -1121,7 +1195,7 @@ class Inputs(unittest.TestCase):
     """The usual mistakes in stimuli and schedules."""
 
     def test_stimuli(self):
-        for configuration, inputs in ((BASE, STIMULI), (ISRS, INTERRUPTS)):
+        for configuration, inputs in WITH_STIMULI:
             draft = judge_configuration(configuration.encode()).draft
             for each in inputs:
                 with self.subTest(each.title):
@@ -1479,7 +1553,7 @@ class Program(unittest.TestCase):
                 with self.subTest(case.title):
                     save(config, case.text)
                     self.assert_same([config], "check", config)
-            for text, inputs in ((ISRS, INTERRUPTS), (BASE, STIMULI)):
+            for text, inputs in reversed(WITH_STIMULI):
                 save(config, text)
                 for each in inputs:
                     with self.subTest(each.title):

@@ -147,7 +147,7 @@ class BtfReader:
         if from_whom == "stimulus":
             assert (source, number) in self.triggered, line
         else:
-            assert re.fullmatch(r"Core_\d", source), line
+            assert re.fullmatch(r"Core_\d+", source), line
             # One job runs on a core.
             running = self.running.setdefault(source, set())
             running.discard((owner, instance))
@@ -590,7 +590,9 @@ class Examples(unittest.TestCase):
             marks = [each["name"] for each in phases.get("i", [])]
             self.assertEqual(sum(name.startswith("tick ") for name in marks), lines.count("tick"))
             wanted = [re.sub("^hook (Error )?", "", line) for line in lines if re.match("hook [EPS][^t]|lost ", line)]
-            self.assertEqual([name for name in marks if not name.startswith("tick ")], wanted)
+            # The mark of a lock budget also says what was held.
+            shown = [re.sub("^(Protection \\w+): .*", r"\1", name) for name in marks if not name.startswith("tick ")]
+            self.assertEqual(shown, wanted)
 
     def test_vcd(self):
         for found, all_jobs in self.runs():

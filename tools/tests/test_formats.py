@@ -33,9 +33,9 @@ def member_rows():
         yield owner, member.strip("`"), value, default
 
 
-# What the values of members that other members narrow, or that only one number fits, are called.
+# What the values of members that other members narrow, or that two numbers fit, are called.
 SPECIAL_VALUES = {
-    ("configuration", "version"): "1",
+    ("configuration", "version"): "1 or 2",
     ("configuration", "master"): "the `id` of the core that is started first",
     ("counter", "min"): "1 to `max`",
     ("alarm's auto", "start"): "1 to the counter's `max`",
@@ -50,6 +50,8 @@ SENTENCES = (
     (formats.MOST_ACTIVATIONS, "whose `activations` sum to at most {}"),
     (formats.MOST_ACTIONS_ABROAD, "The sum is at most {}."),
     (formats.MOST_STIMULI, "A core has at most {}."),
+    (formats.MOST_CORES[1], "With `version` 1 there are at most {} cores"),
+    (formats.MOST_CORES[1] - 1, "with numbers up to {}."),
     (formats.MOST_TURNS, "one JSON string of at most {} turns"),
     (formats.MOST_LEVELS, "more than {} levels"),
     (formats.GREATEST_COUNT, "1 to {}"),
@@ -112,7 +114,7 @@ class Members(unittest.TestCase):
             with self.subTest(owner=owner, member=name):
                 least = 0 if name in ("master", "cycle") else int(written[0])
                 self.assertEqual(least, value.least)
-                greatest = {"version": 1, "master": 7}.get(name, formats.GREATEST_COUNT)
+                greatest = {"version": 2, "master": 15}.get(name, formats.GREATEST_COUNT)
                 self.assertEqual(greatest, value.greatest)
                 self.assertEqual(name in ("version", "min"), value.alone)
 

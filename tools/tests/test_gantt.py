@@ -121,7 +121,7 @@ class Colours(unittest.TestCase):
 
 class Commands(unittest.TestCase):
     def test_wrong_usage(self):
-        for words in (("a",), ("a", "b", "--from", "0"), ("a", "b", "--width", "599"), ("a", "b", "--core", "9")):
+        for words in (("a",), ("a", "b", "--from", "0"), ("a", "b", "--width", "599"), ("a", "b", "--core", "16")):
             with self.subTest(words=words):
                 self.assertEqual(called(MAIN, *words)[:2], (2, ""))
 

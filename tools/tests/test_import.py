@@ -23,6 +23,7 @@ MAIN = runpy.run_path(os.path.join(TOOLS, "import"))["main"]
 # What no Os file can say of the examples.
 NOT_SAID = {
     "listed/config.json": "`cap` has another value",
+    "locks/config.json": "a lock budget is that of a task and a resource",
     "resources/refusals.json": "a ceiling is not the priority of a task",
 }
 
@@ -216,7 +217,7 @@ class Refused(InAFolder):
         self.assertEqual(called(MAIN, "--scripts", "none.json", "Os.arxml"), (1, "", message))
 
     def test_wrong_usage(self):
-        wrong = [(), ("-", "-"), ("--frob", "a"), ("--master", "8", "a"), ("--tick", "0", "a"), ("--tick", "x", "a")]
+        wrong = [(), ("-", "-"), ("--frob", "a"), ("--master", "16", "a"), ("--tick", "0", "a"), ("--tick", "x", "a")]
         for words in wrong:
             with self.subTest(words=words):
                 status, output, _ = called(MAIN, *words)
@@ -346,6 +347,13 @@ class Imported(InAFolder):
         containers = [application("A", 0, OsAppTaskRef="T"), application("B", 1), os_task("T")]
         source = self.of_os(*containers, words=["--master", "7"])[0]
         self.assertEqual((source["master"], source["cores"][-1]), (7, {"id": 7, "start": [0, 1]}))
+        self.assertNotIn("version", source)
+
+    def test_cores_of_version_2(self):
+        containers = [application("A", 9, OsAppTaskRef="T"), application("B", 15), os_task("T")]
+        source = self.of_os(*containers)[0]
+        self.assertEqual((source["version"], source["master"]), (2, 9))
+        self.assertEqual([core["id"] for core in source["cores"]], [9, 15])
 
     def names(self, source, members):
         """The names of the objects in a list of each core."""

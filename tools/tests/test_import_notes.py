@@ -9,7 +9,7 @@ import unittest
 sys.path.insert(0, os.path.dirname(os.path.abspath(__file__)))
 import os_files  # noqa: E402
 from os_files import ACTIVATES_T, HOOKS, MODE, alarm_start, application, arxml, budget, container  # noqa: E402
-from os_files import os_alarm, os_counter, os_isr, os_table, os_task, reference  # noqa: E402
+from os_files import lock_budgets, os_alarm, os_counter, os_isr, os_table, os_task, reference  # noqa: E402
 from sample_runs import EXAMPLES, called  # noqa: E402
 from test_import import MAIN, InAFolder  # noqa: E402
 
@@ -178,6 +178,24 @@ NOTES = {
             "note: OsAlarm A: left out: it has no action",
         ],
     ),
+    "lock budgets": (
+        [
+            os_task("T", parts=lock_budgets("OsTask", "0.002")),
+            os_task("U", parts=lock_budgets("OsTask", "0.003")),
+            os_isr("I", OsIsrPriority=1, parts=lock_budgets("OsIsr", "0.001")),
+        ],
+        [
+            "note: OsTask T, OsTaskTimingProtection TimingProtection: OsTaskAllInterruptLockBudget 0.002: "
+            "there are no time limits on suspended interrupts; so for 1 more OsTaskTimingProtection",
+            "note: OsTask T, OsTaskTimingProtection TimingProtection: OsTaskResourceLock Lock: "
+            "a lock budget stands at the resource here, for all tasks that take it: write `lock` there; "
+            "so for 1 more OsTaskTimingProtection",
+            "note: OsIsr I, OsIsrTimingProtection TimingProtection: OsIsrAllInterruptLockBudget 0.001: "
+            "there are no time limits on suspended interrupts",
+            "note: OsIsr I, OsIsrTimingProtection TimingProtection: OsIsrResourceLock Lock: "
+            "a lock budget stands at the resource here, for all tasks that take it: write `lock` there",
+        ],
+    ),
     "a budget that is no number": (
         [os_task("T", parts=budget("OsTask", "long"))],
         ["note: OsTask T: OsTaskExecutionBudget long is no length of time: no `budget` here"],
@@ -290,7 +308,7 @@ NOTES = {
         [application("A", 2, OsAppTaskRef="T"), application("B", 16, OsAppTaskRef="U")]
         + [os_task("T"), os_task("U"), MODE],
         [
-            "note: the cores have numbers up to 16, and here up to 7: 2 is 0, 16 is 1",
+            "note: the cores have numbers up to 16, and here up to 15: 2 is 0, 16 is 1",
             "note: no file says which core starts which: core 0 starts 1 here",
         ],
     ),
@@ -315,11 +333,12 @@ NOTES = {
         ["note: the activations of the tasks of core 0 sum to 65: at most 64 are allowed"],
     ),
     "too many cores": (
-        [application("App%d" % core, core, OsAppTaskRef=["T%d" % core]) for core in range(9)]
-        + [os_task("T%d" % core) for core in range(9)],
+        [application("App%d" % core, core, OsAppTaskRef=["T%d" % core]) for core in range(17)]
+        + [os_task("T%d" % core) for core in range(17)],
         [
-            "note: 9 cores: at most 8 are allowed",
-            "note: no file says which core starts which: core 0 starts 1, 2, 3, 4, 5, 6, 7 and 8 here",
+            "note: 17 cores: at most 16 are allowed",
+            "note: no file says which core starts which: core 0 starts 1, 2, 3, 4, 5, 6, 7, 8, 9, 10, 11, 12, 13, 14, "
+            "15 and 16 here",
         ],
     ),
     "too many modes": (

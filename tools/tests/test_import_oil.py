@@ -185,6 +185,23 @@ class Words(InOil):
         note = "note: RESOURCE S: it is linked to R: a resource of its own here, with the ceiling of both"
         self.assertEqual(notes, [note])
 
+    def test_lock_budgets(self):
+        _, notes = self.core(
+            "RESOURCE R { RESOURCEPROPERTY = STANDARD; };\n"
+            "TASK T { PRIORITY = 1; RESOURCE = R;\n"
+            "TIMING_PROTECTION = TRUE {\nMAXALLINTERRUPTLOCKTIME = 3;\n"
+            "LOCKINGTIME = RESOURCELOCK {\nRESOURCE = R;\nRESOURCELOCKTIME = 2; }; }; };"
+        )
+        at_resource = "a lock budget stands at the resource here, for all tasks that take it: write `lock` there"
+        expected = [
+            "note: TASK T: TIMING_PROTECTION TRUE: no place in the configuration",
+            "note: TASK T: MAXALLINTERRUPTLOCKTIME 3: there are no time limits on suspended interrupts",
+            "note: TASK T: LOCKINGTIME RESOURCELOCK: " + at_resource,
+            "note: TASK T: RESOURCE R: no place in the configuration",
+            "note: TASK T: RESOURCELOCKTIME 2: " + at_resource,
+        ]
+        self.assertEqual(notes, expected)
+
     def test_cores(self):
         source, notes = self.of_cpu(
             "APPMODE m;\nAPPLICATION a { CORE = 2; TASK = T; };\n"

@@ -59,7 +59,7 @@ SCRIPTS = {
     "SetRelAlarm A 1": False,
     "StartScheduleTableRel S 1;StartScheduleTableAbs S 0;NextScheduleTable S U": True,
     "StopScheduleTable S;GetScheduleTableStatus S v0": True,
-    "StartCore ?;StartCore 0;StartCore 255;GetNumberOfActivatedCores v7;ShutdownOS 15;ShutdownAllCores 0": True,
+    "StartCore ?;StartCore 0;StartCore 255;GetNumberOfActivatedCores v7;ShutdownOS 16;ShutdownAllCores 0": True,
     "GetSpinlock L;TryToGetSpinlock L v0;ReleaseSpinlock L": True,
     "GetSpinlock ?;TryToGetSpinlock ? v7;ReleaseSpinlock ?": True,
     "GetSpinlock": False,
@@ -69,7 +69,7 @@ SCRIPTS = {
     "StartCore 256": False,
     "StartCore 01": False,
     "StartCore A": False,
-    "ShutdownOS 16": False,
+    "ShutdownOS 17": False,
     "ShutdownAllCores ?": False,
     "GetNumberOfActivatedCores v8": False,
     "work;": False,
@@ -121,8 +121,14 @@ STIMULI = {
 SCHEDULES = {
     "": True,
     "0o 7l 0s7 7s0": True,
+    "8o 15l 1s15 15s1 10s1 1s11": True,
     "0s0": False,
-    "8o": False,
+    "1s1": False,
+    "15s15": False,
+    "16o": False,
+    "0s16": False,
+    "09o": False,
+    "1s01": False,
     "0x": False,
     "0o ": False,
     "0o  0l": False,
@@ -140,7 +146,7 @@ CONFIGURATION = {
             "protection": "PRO_TERMINATETASKISR",
             "tasks": [{"name": "A", "prio": 31, "auto": ["M"], "activations": 1, "extended": True, "script": "work"}],
             "isrs": [{"name": "I", "level": 16, "budget": 10**9, "script": "SuspendAllInterrupts;ActivateTask A"}],
-            "resources": [{"name": "R", "ceiling": 31}],
+            "resources": [{"name": "R", "ceiling": 31, "lock": 10**9}],
             "counters": [{"name": "C", "max": 10**9, "min": 1, "software": False}],
             "alarms": [
                 {"name": "L", "counter": "C", "action": "SetEvent A 1", "auto": {"modes": [], "start": 1, "cycle": 0}}
@@ -163,7 +169,8 @@ TASK = CORE + ("tasks", 0)
 # The place of a value, and what is wrong there. Of REMOVED a member is left out.
 REMOVED = object()
 WRONG = [
-    (("version",), 2),
+    (("version",), 3),
+    (("version",), 0),
     (("cap",), 17),
     (("cap",), 0),
     (("cap",), "16"),
@@ -207,6 +214,10 @@ WRONG = [
     (TASK + ("preemptable",), 1),
     (TASK + ("script",), "work;"),
     (CORE + ("resources", 0, "ceiling"), 32),
+    (CORE + ("resources", 0, "lock"), 10**9 + 1),
+    (CORE + ("resources", 0, "lock"), -1),
+    (CORE + ("resources", 0, "lock"), None),
+    (CORE + ("resources", 0, "budget"), 1),
     (CORE + ("counters", 0, "max"), 0),
     (CORE + ("counters", 0, "max"), REMOVED),
     (CORE + ("counters", 0, "max"), 10**9 + 1),
@@ -223,6 +234,7 @@ WRONG = [
 # What a schema has to leave to `mcos`, or what is right.
 RIGHT = [
     (("version",), REMOVED),
+    (("version",), 2),
     (("master",), 7),
     (("modes",), ["N", "conflict_", "DONOTCARES"]),
     (("spinlocks",), []),
@@ -354,8 +366,20 @@ class Values(unittest.TestCase):
                     found = tuple(error.absolute_path)
                     self.assertEqual(found[: len(place)], place[: len(found)])
 
+    def test_versions(self):
+        for version, most in formats.MOST_CORES.items():
+            for number in (0, most - 1, most):
+                for whole in ({"cores": [{"id": number}]}, {"master": number, "cores": [{"id": 0}]}):
+                    with self.subTest(version=version, whole=str(whole)):
+                        self.assertEqual(self.configuration.is_valid({"version": version, **whole}), number < most)
+            for count in (1, most, most + 1):
+                with self.subTest(version=version, count=count):
+                    whole = {"version": version, "cores": [{"id": 0}] * count}
+                    self.assertEqual(self.configuration.is_valid(whole), count <= most)
+        self.assertFalse(self.configuration.is_valid({"cores": [{"id": 8}]}))
+
     def test_stimuli(self):
-        for value, fits in (({}, True), ({"0": "op", "7": ""}, True), ({"8": ""}, False), ({"00": ""}, False)):
+        for value, fits in (({}, True), ({"0": "op", "15": ""}, True), ({"16": ""}, False), ({"00": ""}, False)):
             with self.subTest(value=value):
                 self.assertEqual(self.stimuli.is_valid(value), fits)
         self.assertFalse(self.stimuli.is_valid({"0": ["op"]}))

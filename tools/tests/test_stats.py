@@ -73,6 +73,49 @@ WRONG_FILES = [
     (b": A lost=0\n", ":1: ': A lost=0' is no requirement: " + ONE_WORD),
     (b"\xff", ": this is no UTF-8"),
 ]
+# Of examples/locks: each resource with its task, its lock budget, what of it was used at most, and how often it was
+# reached. Of Map the execution budget comes first, and Watch takes Bus anew.
+LOCK_BUDGETS = [
+    ("Frame", "Send", 4, 4, 1),
+    ("Bus", "Send", 2, 2, 1),
+    ("Bus", "Watch", 2, 0, 0),
+    ("Flash", "Store", 2, 2, 1),
+    ("Map", "Lookup", 2, 2, 0),
+]
+LOCK_TABLE = """
+Lock budgets
+  core  resource  task    lock  used  reached
+  0     Frame     Send       4     4        1
+  0     Bus       Send       2     2        1
+  0     Bus       Watch      2     0        0
+  1     Flash     Store      2     2        1
+  2     Map       Lookup     2     2        0
+
+"""
+LOCK_VERDICTS = [
+    ("resource Frame used<=4", True, "4"),
+    ("resource Bus used<2", False, "2"),
+    ("resource Bus reached=1", True, "1"),
+    ("resource Map reached=0", True, "0"),
+    ("Lookup reached=1", True, "1"),
+    ("Send reached=0", True, "0"),
+    ("Store used<=3", True, "3"),
+    ("all cores protection=3", True, "3"),
+]
+LOCK_WRONG = [
+    ("resource Bsu used<=2", "no resource is called `Bsu`; did you mean `Bus`"),
+    ("resource Send used<=2", "no resource is called `Send`"),
+    ("resource Bus held<=2", "`resource Bus` has the figures used and reached"),
+    ("resource Bus used<=2 ticks", "a unit stands only behind a time"),
+    ("Bus used<=2", "no task and no ISR is called `Bus`"),
+]
+# What is marked where the hooks of protection and shutdown are called, in the order of the turns.
+LOCK_MARKS = [
+    "Protection E_OS_PROTECTION_TIME",
+    "Protection E_OS_PROTECTION_LOCKED: Flash 2 of 2",
+    "Shutdown E_OS_PROTECTION_LOCKED",
+    "Protection E_OS_PROTECTION_LOCKED: Frame 4 of 4 and Bus 2 of 2",
+]
 # A time of a job that still goes on: the requirement, what is done, what still goes on, and whether it is met.
 STILL = [
     ("X response<=5", [3], [5], True),
@@ -118,6 +161,11 @@ def small_figures():
     """The figures of the run above."""
     run = runs.run_of(CONFIGURATION, {0: BLOCK}, {0: LOG})
     return figures.figures_of(jobs.jobs_of(timeline.timeline_of(run)))
+
+
+def count_of(status, block):
+    """How often ProtectionHook was called with a status."""
+    return len(re.findall("^hook Protection %s$" % status, block, re.MULTILINE))
 
 
 def found_for(rows, **members):
@@ -206,6 +254,47 @@ class Counts(unittest.TestCase):
         text = figure_tables.tables(figures.figures_of(jobs.jobs_of(timeline.timeline_of(run))))
         self.assertIn("Tasks\n  none\n", text)
         self.assertIn("default schedule: ended, 0 rounds, 0 turns", text)
+
+
+class LockBudgets(unittest.TestCase):
+    """The run of examples/locks, counted by hand: what is preempted, interrupted, or given back does not count."""
+
+    @classmethod
+    def setUpClass(cls):
+        cls.jobs = jobs.jobs_of(sample_runs.locks_timeline())
+        cls.found = figures.figures_of(cls.jobs)
+
+    def test_figures(self):
+        names = ("resource", "task", "lock", "used", "reached")
+        rows = [tuple(row[name] for name in names) for row in self.found["lock_budgets"]]
+        self.assertEqual(rows, LOCK_BUDGETS)
+        self.assertEqual([row["core"] for row in self.found["lock_budgets"]], [0, 0, 0, 1, 2])
+
+    def test_the_table(self):
+        self.assertIn(LOCK_TABLE, figure_tables.tables(self.found))
+
+    def test_resources_that_nothing_takes_or_that_have_no_lock_budget(self):
+        found = small_figures()
+        row = {"core": 0, "resource": "R", "task": "T", "lock": 0, "used": 2, "reached": 0}
+        self.assertEqual(found["lock_budgets"], [row])
+        self.assertIn("\nLock budgets\n  none\n", figure_tables.tables(found))
+        resources = [{"name": "R", "ceiling": 1, "lock": 5}]
+        run = runs.run_of(json.dumps({"cores": [{"id": 0, "resources": resources}]}), {0: []}, {0: []})
+        found = figures.figures_of(jobs.jobs_of(timeline.timeline_of(run)))
+        self.assertIn("\n  0     R         -        5     0        0\n", figure_tables.tables(found))
+        self.assertTrue(requirements.judge(found, "resource R used=0").is_met)
+
+    def test_requirements(self):
+        for text, is_met, words in LOCK_VERDICTS:
+            with self.subTest(text=text):
+                verdict = requirements.judge(self.found, text)
+                self.assertEqual((verdict.is_met, verdict.found), (is_met, words))
+        for text, words in LOCK_WRONG:
+            with self.subTest(text=text), self.assertRaisesRegex(requirements.WrongRequirement, re.escape(words)):
+                requirements.judge(self.found, text)
+
+    def test_marks(self):
+        self.assertEqual([mark.text for mark in self.jobs.marks], LOCK_MARKS)
 
 
 class Requirements(unittest.TestCase):
@@ -509,6 +598,11 @@ class AsTheTrace(unittest.TestCase):
             run = runs.read_run(source)
         self.assertEqual((list(run.blocks[0]), list(run.logs[0])), (BLOCK, LOG))
 
+    def test_the_run_of_examples_locks(self):
+        paths = (os.path.join(sample_runs.EXAMPLES, "locks", name) for name in ("config.json", "stimuli.json"))
+        run, by_hand = runs.read_run(runs.Source(PROGRAM, *paths)), sample_runs.locks_timeline().run
+        self.assertEqual((run.blocks, run.logs), (by_hand.blocks, by_hand.logs))
+
     def hold(self, run, found):
         """Holds the figures of a run to its lines."""
         for core in found["cores"]:
@@ -522,7 +616,11 @@ class AsTheTrace(unittest.TestCase):
             self.assertEqual(core["down"], len(re.findall("^hook Shutdown ", block, re.MULTILINE)))
             tasks, isrs = ([row for row in found[kind] if row["core"] == core["core"]] for kind in ("tasks", "isrs"))
             self.assertEqual(sum(row["op"] for row in tasks + isrs) + core["idle"], core["op"])
-            self.assertEqual(sum(row["reached"] for row in tasks + isrs), core["protection"])
+            self.assertEqual(sum(row["reached"] for row in tasks + isrs), count_of("E_OS_PROTECTION_TIME", block))
+            # One call of the hook can be for several resources.
+            reached = [row["reached"] for row in found["lock_budgets"] if row["core"] == core["core"]]
+            locked = count_of("E_OS_PROTECTION_LOCKED", block)
+            self.assertTrue(max(reached, default=0) <= locked <= sum(reached))
             sent = sum(row["envelopes"] for row in found["mailboxes"] if row["from"] == core["core"])
             self.assertEqual(sent, sum(item.startswith("post ") for item in log))
             for task in tasks:

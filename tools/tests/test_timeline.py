@@ -35,6 +35,7 @@ FIRST = [
 
 START = ["entered", "pass1 M", "readied", "pass2 0"]
 PROTECTED = "hook Protection E_OS_PROTECTION_TIME"
+LOCKED = "hook Protection E_OS_PROTECTION_LOCKED"
 # Scripts of a task X, each with the stimuli that its core takes, and the lines that each of them prints.
 SCRIPTS = [
     ("work;jump 3;set v0 1;TerminateTask", 3, [[], [], ["post X", "end X"]]),
@@ -98,7 +99,8 @@ SCRIPTS += [
     ("work;ShutdownAllCores 5", 2, [[], []]),
 ]
 # The scripts of the task X and of the ISR I, the budget of both, and the core's `protection`; then its stimuli, and what
-# each of them prints. J has a greater level than I, Y a greater priority than X; the first `tick` activates Y.
+# each of them prints. J has a greater level than I, Y a greater priority than X; the first `tick` activates Y. R has a
+# lock budget of one tick.
 INTERRUPTS = [
     (
         ("work;TerminateTask", "ActivateTask Y", 0, ""),
@@ -176,6 +178,25 @@ INTERRUPTS = [
         ("work", "", 1, "PRO_IGNORE"),
         [("op", []), ("tick", ["tick", PROTECTED, "hook Shutdown E_OS_PROTECTION_TIME"])],
     ),
+    (
+        ("GetResource R;jump 1", "", 0, "PRO_TERMINATETASKISR"),
+        [
+            ("op", ["stat X GetResource E_OK"]),
+            ("irq=I", ["irq I", "enter I"]),
+            ("tick", ["tick", "alarm B", "act Y"]),
+            ("op", ["leave I", "post X", "pre Y"]),
+            ("tick", ["tick"]),
+            ("op", ["post Y", "end Y", "pre X"]),
+            ("tick", ["tick", LOCKED, "end X"]),
+        ],
+    ),
+    (
+        ("GetResource R;jump 1", "", 0, "PRO_IGNORE"),
+        [
+            ("op", ["stat X GetResource E_OK"]),
+            ("tick", ["tick", LOCKED, "hook Shutdown E_OS_PROTECTION_LOCKED"]),
+        ],
+    ),
 ]
 CONFIGURATION = {
     "resources": [{"name": "R", "ceiling": 1}],
@@ -203,6 +224,7 @@ def run_with_interrupts(script, isr_script, budget, protection):
     isrs.append({"name": "J", "level": 2, "script": "work"})
     alarm = {"name": "B", "counter": "D", "action": "ActivateTask Y", "auto": {"modes": ["M"], "start": 1, "cycle": 0}}
     core = {"id": 0, "tasks": tasks, "isrs": isrs, "counters": [{"name": "D", "max": 9}], "alarms": [alarm]}
+    core["resources"] = [{"name": "R", "ceiling": 1, "lock": 1}]
     return json.dumps({"cores": [dict(core, protection=protection) if protection else core]})
 
 
@@ -382,7 +404,7 @@ class Records(unittest.TestCase):
 
 class Commands(unittest.TestCase):
     def test_wrong_usage(self):
-        for words in ((), ("a",), ("a", "b", "--check", "0"), ("a", "b", "--core", "8")):
+        for words in ((), ("a",), ("a", "b", "--check", "0"), ("a", "b", "--core", "16")):
             with self.subTest(words=words):
                 self.assertEqual(called(MAIN, *words)[:2], (2, ""))
 

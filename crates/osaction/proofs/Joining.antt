@@ -1,5 +1,5 @@
 -- The actions of a core's alarms and of its tables' points: how many envelopes join the outbox by them.
-use Rattle.std.proofs.Common.{◌≡◌, ◌<◌, ◌≤◌, ◌+◌, ℕ, suc, nat_le, Bool, true, false, not, cond, List, length, count_by, refl, arith}
+use Rattle.std.proofs.Common.{◌≡◌, ◌<◌, ◌≤◌, ◌+◌, ◌*◌, ℕ, suc, nat_le, Bool, true, false, not, cond, List, length, count_by, refl, arith}
 use Rattle.std.specs.List.{list_all}
 use Rattle.std.proofs.lemmas.Bool.{and_parts, leb-true}
 use Rattle.std.proofs.lemmas.List.Filters.{length-filter_both, sum_by-filter_both}
@@ -34,6 +34,10 @@ kinds-long = length-filter_both (is_of_kind true) (is_of_kind false) (λ x. refl
 
 pub kinds-posted : (core : Core) (actions : List RemoteCall) → count_by (is_posting core) (of_kind true actions) + count_by (is_posting core) (of_kind false actions) ≡ count_by (is_posting core) actions
 kinds-posted core = sum_by-filter_both (is_of_kind true) (is_of_kind false) (λ x. refl) (posted_by_action core)
+
+-- A point's own line, and two entries for each of its actions, of which there are 8 at most.
+pub within-point : (activating setting all : ℕ) → activating + setting ≡ all → all ≤ 8 → 1 + 2 * activating + 2 * setting ≤ 17
+within-point activating setting all long few = omega (arith, long, few)
 
 pub point-parts : (core : Core) (point : ExpiryPoint) → is_known_point core point ≡ true → (list_all (may_act core) point.actions ≡ true) × (length point.actions ≤ 8)
 point-parts core point known =

@@ -4,7 +4,7 @@ use Rattle.std.specs.List.{slice_get}
 use Rattle.std.proofs.lemmas.Bool.{and_parts, eqb-true}
 use Rattle.std.proofs.lemmas.Option.{same_Some}
 use Rattle.osbase.specs.declared.statuses.Status.{Status}
-use Rattle.osbase.specs.declared.statuses.Status.TheVariants.{EOk, EOsAccess, EOsCallevel, EOsId, EOsLimit, EOsNofunc, EOsResource, EOsState, EOsValue, EOsMissingend, EOsDisabledint, EOsProtectionTime, EOsCore, EOsSpinlock, EOsInterferenceDeadlock, EOsNestingDeadlock}
+use Rattle.osbase.specs.declared.statuses.Status.TheVariants.{EOk, EOsAccess, EOsCallevel, EOsId, EOsLimit, EOsNofunc, EOsResource, EOsState, EOsValue, EOsMissingend, EOsDisabledint, EOsProtectionTime, EOsCore, EOsSpinlock, EOsInterferenceDeadlock, EOsNestingDeadlock, EOsProtectionLocked}
 use Rattle.osbase.specs.declared.statuses.TheConstants.{STATUS_LIST}
 use Rattle.osbase.specs.Words.{status_number, status_numbered}
 
@@ -26,10 +26,31 @@ status_back EOsCore = refl
 status_back EOsSpinlock = refl
 status_back EOsInterferenceDeadlock = refl
 status_back EOsNestingDeadlock = refl
+status_back EOsProtectionLocked = refl
 
 -- so statuses of one number are one status.
 pub status_same : (s t : Status) → status_number s ≡ status_number t → s ≡ t
 status_same s t e = same_Some s t (sym (status_back s) ∙ ap status_numbered e ∙ status_back t)
+
+-- A byte holds the number of a status.
+pub status_low : (status : Status) → status_number status < 256
+status_low EOk = omega arith
+status_low EOsAccess = omega arith
+status_low EOsCallevel = omega arith
+status_low EOsId = omega arith
+status_low EOsLimit = omega arith
+status_low EOsNofunc = omega arith
+status_low EOsResource = omega arith
+status_low EOsState = omega arith
+status_low EOsValue = omega arith
+status_low EOsMissingend = omega arith
+status_low EOsDisabledint = omega arith
+status_low EOsProtectionTime = omega arith
+status_low EOsCore = omega arith
+status_low EOsSpinlock = omega arith
+status_low EOsInterferenceDeadlock = omega arith
+status_low EOsNestingDeadlock = omega arith
+status_low EOsProtectionLocked = omega arith
 
 -- Statuses in the order of their numbers, the first of which has this number.
 abbrev are_numbered : ℕ → List Status → Bool
@@ -42,5 +63,5 @@ number-at n (s ∷ ss) zero are less = eqb-true (status_number s) n (and_parts (
 number-at n (s ∷ ss) (suc i) are less = number-at (suc n) ss i (and_parts (status_number s == n) _ are).1 (omega arith) ∙ omega arith
 
 -- The number of a number's status is that number.
-pub number_back : (n : ℕ) → n < 16 → status_number (unwrap_or (status_numbered n) EOk) ≡ n
+pub number_back : (n : ℕ) → n < 17 → status_number (unwrap_or (status_numbered n) EOk) ≡ n
 number_back n less = number-at 0 STATUS_LIST n refl less ∙ omega arith

@@ -1,7 +1,7 @@
 -- The printed words and numbers of statuses and services.
 use Rattle.std.specs.Prelude.{ℕ, Option, List, codes, slice_get}
 use Rattle.osbase.specs.declared.statuses.Status.{Status}
-use Rattle.osbase.specs.declared.statuses.Status.TheVariants.{EOk, EOsAccess, EOsCallevel, EOsId, EOsLimit, EOsNofunc, EOsResource, EOsState, EOsValue, EOsMissingend, EOsDisabledint, EOsProtectionTime, EOsCore, EOsSpinlock, EOsInterferenceDeadlock, EOsNestingDeadlock}
+use Rattle.osbase.specs.declared.statuses.Status.TheVariants.{EOk, EOsAccess, EOsCallevel, EOsId, EOsLimit, EOsNofunc, EOsResource, EOsState, EOsValue, EOsMissingend, EOsDisabledint, EOsProtectionTime, EOsCore, EOsSpinlock, EOsInterferenceDeadlock, EOsNestingDeadlock, EOsProtectionLocked}
 use Rattle.osbase.specs.declared.statuses.TheConstants.{STATUS_LIST}
 use Rattle.osbase.specs.declared.statuses.ServiceId.{ServiceId}
 use Rattle.osbase.specs.declared.statuses.ServiceId.TheVariants as Service
@@ -24,6 +24,7 @@ status_number EOsCore = 12
 status_number EOsSpinlock = 13
 status_number EOsInterferenceDeadlock = 14
 status_number EOsNestingDeadlock = 15
+status_number EOsProtectionLocked = 16
 
 -- The status of a number, if one has it.
 abbrev pub status_numbered : ℕ → Option Status
@@ -47,6 +48,7 @@ status_name EOsCore = codes "E_OS_CORE"
 status_name EOsSpinlock = codes "E_OS_SPINLOCK"
 status_name EOsInterferenceDeadlock = codes "E_OS_INTERFERENCE_DEADLOCK"
 status_name EOsNestingDeadlock = codes "E_OS_NESTING_DEADLOCK"
+status_name EOsProtectionLocked = codes "E_OS_PROTECTION_LOCKED"
 
 -- The word of a service, as the standards spell it.
 abbrev pub service_name : ServiceId → List ℕ

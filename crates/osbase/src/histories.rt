@@ -84,7 +84,7 @@ pub struct Job {
 
 /// A resource that a job holds: its index among its core's own, of which alone a job holds any, and its
 /// ceiling priority (OSEK/VDX OS 2.2.3, section 8.5).
-#[derive(Clone, Copy, PartialEq, Eq)]
+#[derive(Clone, Copy, Default, PartialEq, Eq)]
 pub struct HeldResource {
     pub index: u8,
     pub ceiling: u8,

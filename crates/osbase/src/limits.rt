@@ -6,8 +6,8 @@ pub const CORES: usize = 16;
 /// The same bound in the type of a core's number.
 pub const CORE_NUMBERS: u8 = CORES as u8;
 
-/// The most cores of a configuration.
-pub const CONFIGURED_CORES: usize = 8;
+/// The most cores of a configuration of version 1. Version 2 has as many as a set has places for.
+pub const FIRST_CORES: usize = 8;
 
 /// The most application modes of a configuration.
 pub const MODES: usize = 8;
@@ -70,7 +70,7 @@ pub const ACTIONS: usize = 8;
 pub const POSTED: usize = 56;
 
 /// The most envelopes that a core's calls add to its outbox at once: its own call, and a reply to each other core.
-pub const CALLS_AT_ONCE: usize = CONFIGURED_CORES;
+pub const CALLS_AT_ONCE: usize = CORES;
 
-/// The most envelopes of a core's outbox.
-pub const OUTBOX: usize = POSTED + CALLS_AT_ONCE;
+/// The most envelopes of a core's outbox: at least `POSTED` and `CALLS_AT_ONCE` together.
+pub const OUTBOX: usize = 80;

@@ -23,10 +23,11 @@ pub enum Status {
     EOsSpinlock,
     EOsInterferenceDeadlock,
     EOsNestingDeadlock,
+    EOsProtectionLocked,
 }
 
 /// The statuses in the order of their numbers.
-pub const STATUS_LIST: [Status; 16] = [
+pub const STATUS_LIST: [Status; 17] = [
     Status::EOk,
     Status::EOsAccess,
     Status::EOsCallevel,
@@ -43,6 +44,7 @@ pub const STATUS_LIST: [Status; 16] = [
     Status::EOsSpinlock,
     Status::EOsInterferenceDeadlock,
     Status::EOsNestingDeadlock,
+    Status::EOsProtectionLocked,
 ];
 
 impl Status {
@@ -81,6 +83,7 @@ impl Status {
             Status::EOsSpinlock => "E_OS_SPINLOCK",
             Status::EOsInterferenceDeadlock => "E_OS_INTERFERENCE_DEADLOCK",
             Status::EOsNestingDeadlock => "E_OS_NESTING_DEADLOCK",
+            Status::EOsProtectionLocked => "E_OS_PROTECTION_LOCKED",
         }
     }
 }

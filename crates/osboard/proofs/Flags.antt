@@ -1,18 +1,14 @@
--- A bit that is set in the phase word is a flag that is set in one of its sets.
-use Rattle.std.proofs.Common.{◌≡◌, ◌==◌, ◌&&◌, ◌≢◌, ℕ, ◌+◌, ◌<◌, nat_lt, Bool, true, false, List, length, set, get_or, max, bit_or, sym, ap, ◌∙◌, subst, ⊎_elim, arith, length-set}
+-- A bit that is set in a word is a flag that is set in one of its sets.
+use Rattle.std.proofs.Common.{◌≡◌, ◌==◌, ◌≢◌, ℕ, ◌+◌, ◌<◌, Bool, true, false, List, length, set, get_or, max, bit_or, sym, ap, ◌∙◌, subst, ⊎_elim, arith, length-set}
 use Rattle.std.proofs.lemmas.List.{ext_get_or, get_or-set_same, get_or-set_other}
 use Rattle.std.proofs.lemmas.List.FromFn.{length-map-range_with_len, get_or-map-range_with_len}
-use Rattle.std.proofs.lemmas.Bool.{le-ltb, lt-ltb, cases_eq, cases_lt}
+use Rattle.std.proofs.lemmas.Bool.{cases_eq}
 use Rattle.std.proofs.lemmas.Nat.Bits.{bit_at_or, bit_at-lt}
 use Rattle.std.specs.Int.{bit_at}
-use Rattle.osboard.specs.declared.calls.TheConstants.{BOARD_CORES}
 use Rattle.osboard.specs.Words.{has_bit, flags_in}
 
 abbrev flag : ℕ → ℕ → ℕ → Bool
-flag first word k = nat_lt k BOARD_CORES && has_bit word (first + k)
-
-no_flag : (b c d : Bool) → b ≡ false → (b && c) ≡ (b && d)
-no_flag b c d e = ap (λ x. x && c) e ∙ sym (ap (λ x. x && d) e)
+flag first word k = has_bit word (first + k)
 
 module _ (count first n mask : ℕ) where
   abbrev before : List Bool
@@ -30,11 +26,8 @@ module _ (count first n mask : ℕ) where
   at_place : (word i : ℕ) → i < count → get_or (flags_in count first word) i false ≡ flag first word i
   at_place word i lt = get_or-map-range_with_len (flag first word) 0 count i i false lt (omega arith)
 
-  flag_stays : (i : ℕ) → (i < BOARD_CORES → bit_at mask (first + i) ≡ 0) → flag first (bit_or n mask) i ≡ flag first n i
-  flag_stays i none = ⊎_elim
-      (λ lt. ap (λ x. nat_lt i BOARD_CORES && x) (bit_stays (first + i) (none lt)))
-      (λ ge. no_flag (nat_lt i BOARD_CORES) _ _ (le-ltb i BOARD_CORES ge))
-      (cases_lt i BOARD_CORES)
+  flag_stays : (i : ℕ) → bit_at mask (first + i) ≡ 0 → flag first (bit_or n mask) i ≡ flag first n i
+  flag_stays i none = bit_stays (first + i) none
 
   same_length : length after ≡ length before
   same_length = length-map-range_with_len (flag first (bit_or n mask)) 0 count ∙ sym (length-map-range_with_len (flag first n) 0 count)
@@ -43,14 +36,14 @@ module _ (count first n mask : ℕ) where
   within i lt = subst (λ (l : ℕ). i < l) (length-map-range_with_len (flag first (bit_or n mask)) 0 count) lt
 
   -- a mask with no bit of a set leaves it
-  pub flags_stay : ((i : ℕ) → i < BOARD_CORES → bit_at mask (first + i) ≡ 0) → after ≡ before
-  flags_stay none = ext_get_or false after before same_length (λ i lt. at_place (bit_or n mask) i (within i lt) ∙ (flag_stays i (none i) ∙ sym (at_place n i (within i lt))))
+  pub flags_stay : ((i : ℕ) → i < count → bit_at mask (first + i) ≡ 0) → after ≡ before
+  flags_stay none = ext_get_or false after before same_length (λ i lt. at_place (bit_or n mask) i (within i lt) ∙ (flag_stays i (none i (within i lt)) ∙ sym (at_place n i (within i lt))))
 
   -- a mask with one bit of a set sets that flag
-  pub flag_comes : (k : ℕ) → k < BOARD_CORES → k < count → bit_at mask (first + k) ≡ 1 → ((i : ℕ) → i < BOARD_CORES → i ≢ k → bit_at mask (first + i) ≡ 0) → after ≡ set before k true
-  flag_comes k low lt one none = ext_get_or false after (set before k true) (same_length ∙ sym (length-set before k true))
+  pub flag_comes : (k : ℕ) → k < count → bit_at mask (first + k) ≡ 1 → ((i : ℕ) → i < count → i ≢ k → bit_at mask (first + i) ≡ 0) → after ≡ set before k true
+  flag_comes k lt one none = ext_get_or false after (set before k true) (same_length ∙ sym (length-set before k true))
       (λ i there. at_place (bit_or n mask) i (within i there) ∙ ⊎_elim
-      (λ e. ap (λ (j : ℕ). flag first (bit_or n mask) j) e ∙ (ap (λ x. x && has_bit (bit_or n mask) (first + k)) (lt-ltb k BOARD_CORES low) ∙ (bit_comes (first + k) one
-      ∙ (sym (get_or-set_same before k true false (subst (λ (l : ℕ). k < l) (sym (length-map-range_with_len (flag first n) 0 count)) lt)) ∙ ap (λ (j : ℕ). get_or (set before k true) j false) (sym e)))))
-      (λ ne. flag_stays i (λ l. none i l ne) ∙ (sym (at_place n i (within i there)) ∙ sym (get_or-set_other before k i true false ne)))
+      (λ e. ap (λ (j : ℕ). flag first (bit_or n mask) j) e ∙ (bit_comes (first + k) one
+      ∙ (sym (get_or-set_same before k true false (subst (λ (l : ℕ). k < l) (sym (length-map-range_with_len (flag first n) 0 count)) lt)) ∙ ap (λ (j : ℕ). get_or (set before k true) j false) (sym e))))
+      (λ ne. flag_stays i (none i (within i there) ne) ∙ (sym (at_place n i (within i there)) ∙ sym (get_or-set_other before k i true false ne)))
       (cases_eq i k))

@@ -1,5 +1,5 @@
 -- One board: the sets of started, entered, ready and drained cores and of named modes, and who asked first for a
--- shutdown of all cores. Each call of a core is answered at once. [own; the code has two words]
+-- shutdown of all cores. Each call of a core is answered at once. [own; the code has three words]
 use Rattle.std.specs.Prelude.{◌≡◌, ◌⊎◌, ℕ, zero, suc, ◌<◌, ◌||◌, Bool, true, false, not, if◌then◌else◌, Option, Some, None, count_by, position, replicate, slice_set}
 use Rattle.std.specs.List.{list_all, zip}
 use Rattle.osbase.specs.declared.statuses.Status.{Status}
@@ -13,15 +13,14 @@ use Rattle.osbase.specs.declared.items.CoreMode.{CoreMode}
 use Rattle.osbase.specs.declared.items.CoreMode.TheVariants.{Named, DontCare}
 use Rattle.osseat.specs.declared.histories.Entry.{Entry}
 use Rattle.osseat.specs.Histories.{Object, entry}
-use Rattle.osbase.specs.declared.limits.TheConstants.{MODES}
-use Rattle.osboard.specs.declared.calls.TheConstants.{BOARD_CORES}
+use Rattle.osbase.specs.declared.limits.TheConstants.{CORES, MODES}
 use Rattle.osboard.specs.declared.calls.ModeSet.{ModeSet}
 use Rattle.osboard.specs.declared.calls.BoardView.{BoardView}
 use Rattle.osboard.specs.declared.calls.BoardState.{BoardState}
 use Rattle.osboard.specs.declared.calls.BoardCall.{BoardCall}
-use Rattle.osboard.specs.declared.calls.BoardCall.TheVariants.{Start, Enter, MakeReady, Drain, Look, AskHalt, LookHalt}
+use Rattle.osboard.specs.declared.calls.BoardCall.TheVariants.{Start, Enter, MakeReady, Drain, Look, LookDrained, AskHalt, LookHalt}
 use Rattle.osboard.specs.declared.calls.BoardReply.{BoardReply}
-use Rattle.osboard.specs.declared.calls.BoardReply.TheVariants.{Started, Acknowledged, Shown, Decided, Halting}
+use Rattle.osboard.specs.declared.calls.BoardReply.TheVariants.{Started, Acknowledged, Shown, Drained, Decided, Halting}
 
 abbrev pub with_core : CoreId → CoreSet → CoreSet
 with_core id cores = record { members = slice_set cores.members id.number true }
@@ -41,7 +40,7 @@ IsMode DontCare = Unit {0}
 
 -- The board has a place for the core or the mode that the call names.
 abbrev pub HasPlace : BoardCall → Type 0
-HasPlace (Start k) = k.number < BOARD_CORES
+HasPlace (Start k) = k.number < CORES
 HasPlace (Enter mode) = IsMode mode
 HasPlace call = Unit {0}
 
@@ -51,22 +50,33 @@ first_view master = record {
   started = with_core master no_cores;
   entered = no_cores;
   ready = no_cores;
-  drained = no_cores;
   modes = no_modes;
 }
 
 abbrev pub first_board : CoreId → BoardState
-first_board master = record { view = first_view master; halt = None }
+first_board master = record { view = first_view master; drained = no_cores; halt = None }
 
--- A core that starts, enters, is ready or has drained is one more of its set; the other calls leave the sets.
+-- A core that starts, enters or is ready is one more of its set; the other calls leave these sets.
 abbrev pub view_after : CoreId → BoardCall → BoardView → BoardView
 view_after core (Start k) view = record view { started = with_core k view.started }
 view_after core (Enter mode) view = record view { entered = with_core core view.entered; modes = with_mode mode view.modes }
 view_after core MakeReady view = record view { ready = with_core core view.ready }
-view_after core Drain view = record view { drained = with_core core view.drained }
+view_after core Drain view = view
 view_after core Look view = view
+view_after core LookDrained view = view
 view_after core (AskHalt status) view = view
 view_after core LookHalt view = view
+
+-- A core that has drained is one more of the drained cores; the other calls leave them.
+abbrev pub drained_after : CoreId → BoardCall → CoreSet → CoreSet
+drained_after core (Start k) drained = drained
+drained_after core (Enter mode) drained = drained
+drained_after core MakeReady drained = drained
+drained_after core Drain drained = with_core core drained
+drained_after core Look drained = drained
+drained_after core LookDrained drained = drained
+drained_after core (AskHalt status) drained = drained
+drained_after core LookHalt drained = drained
 
 -- The first to ask decides who and which status all cores see.
 -- [AUTOSAR SWS OS 4.x, ShutdownAllCores; that the first decides is this project's own]
@@ -80,25 +90,27 @@ halt_after core (Enter mode) halt = halt
 halt_after core MakeReady halt = halt
 halt_after core Drain halt = halt
 halt_after core Look halt = halt
+halt_after core LookDrained halt = halt
 halt_after core (AskHalt status) halt = Some (first_asked halt (core, status))
 halt_after core LookHalt halt = halt
 
 -- The board after a call of this core: what the call does to the sets, and to who asked first for a shutdown of all cores.
 abbrev pub board_after : CoreId → BoardCall → BoardState → BoardState
-board_after core call board = record { view = view_after core call board.view; halt = halt_after core call board.halt }
+board_after core call board = record { view = view_after core call board.view; drained = drained_after core call board.drained; halt = halt_after core call board.halt }
 
 -- A core that is started already is answered E_OS_STATE. [AUTOSAR SWS OS 4.x, StartCore]
 abbrev pub start_answer : BoardView → CoreId → Status
 start_answer view k = if has_core view.started k then EOsState else EOk
 
--- What the board answers a call of this core: a start has a status, a look shows the sets, and of a shutdown of all cores the answer is
--- who asked for it first. Other calls are acknowledged.
+-- What the board answers a call of this core: a start has a status, a look shows the sets, or the drained cores, and of a shutdown of all
+-- cores the answer is who asked for it first. Other calls are acknowledged.
 abbrev pub board_reply : CoreId → BoardCall → BoardState → BoardReply
 board_reply core (Start k) board = Started (start_answer board.view k)
 board_reply core (Enter mode) board = Acknowledged
 board_reply core MakeReady board = Acknowledged
 board_reply core Drain board = Acknowledged
 board_reply core Look board = Shown board.view
+board_reply core LookDrained board = Drained board.drained
 board_reply core (AskHalt status) board = Decided (first_asked board.halt (core, status))
 board_reply core LookHalt board = Halting board.halt
 
@@ -111,7 +123,7 @@ one_board = record { first = first_board; after = board_after; reply = board_rep
 abbrev pub BoardEntry : Type 0
 BoardEntry = Entry BoardCall BoardReply
 
--- The seven calls of a core.
+-- The eight calls of a core.
 abbrev pub start_call : CoreId → CoreId → Status → BoardEntry
 start_call core k status = entry core (Start k) (Started status)
 
@@ -127,6 +139,9 @@ drain_call core = entry core Drain Acknowledged
 abbrev pub look_call : CoreId → BoardView → BoardEntry
 look_call core view = entry core Look (Shown view)
 
+abbrev pub look_drained_call : CoreId → CoreSet → BoardEntry
+look_drained_call core drained = entry core LookDrained (Drained drained)
+
 abbrev pub ask_halt_call : CoreId → Status → CoreId × Status → BoardEntry
 ask_halt_call core status decided = entry core (AskHalt status) (Decided decided)
 
@@ -135,7 +150,7 @@ look_halt_call core halt = entry core LookHalt (Halting halt)
 
 -- A look. It changes nothing.
 abbrev pub IsLook : BoardEntry → Type 0
-IsLook e = (e.call ≡ Look) ⊎ (e.call ≡ LookHalt)
+IsLook e = (e.call ≡ Look) ⊎ ((e.call ≡ LookDrained) ⊎ (e.call ≡ LookHalt))
 
 -- Every started core is in the set: what a synchronisation point waits for.
 -- [AUTOSAR SWS OS 4.x, SWS_Os_00579 and SWS_Os_00580]

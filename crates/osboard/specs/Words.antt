@@ -1,5 +1,5 @@
--- The two words of the board. [own]
-use Rattle.std.specs.Prelude.{◌≡◌, ◌==◌, ◌&&◌, ℕ, ◌+◌, ◌-◌, ◌*◌, ◌/◌, ◌%◌, ◌^◌, nat_lt, Bool, true, false, if◌then◌else◌, Option, Some, None, List, [], ◌∷◌, length, map, slice_index}
+-- The three words of the board. [own]
+use Rattle.std.specs.Prelude.{◌≡◌, ◌==◌, ℕ, ◌+◌, ◌-◌, ◌*◌, ◌/◌, ◌%◌, ◌^◌, nat_lt, Bool, true, false, if◌then◌else◌, Option, Some, None, List, [], ◌∷◌, length, map, slice_index}
 use Rattle.std.specs.List.{range_with_len}
 use Rattle.std.specs.Int.{bit_at}
 use Rattle.std.specs.Option.{is_some}
@@ -10,37 +10,35 @@ use Rattle.osbase.specs.declared.limits.TheConstants.{CORES, MODES}
 use Rattle.osbase.specs.Words.{status_number, status_numbered}
 use Rattle.osbase.specs.declared.items.CoreMode.{CoreMode}
 use Rattle.osbase.specs.declared.items.CoreMode.TheVariants.{Named, DontCare}
-use Rattle.osboard.specs.declared.calls.TheConstants.{BOARD_CORES}
 use Rattle.osboard.specs.declared.calls.BoardView.{BoardView}
 use Rattle.osboard.specs.declared.calls.BoardState.{BoardState}
 use Rattle.osboard.specs.declared.calls.BoardCall.{BoardCall}
-use Rattle.osboard.specs.declared.calls.BoardCall.TheVariants.{Start, Enter, MakeReady, Drain, Look, AskHalt, LookHalt}
+use Rattle.osboard.specs.declared.calls.BoardCall.TheVariants.{Start, Enter, MakeReady, Drain, Look, LookDrained, AskHalt, LookHalt}
 use Rattle.osboard.specs.declared.calls.BoardReply.{BoardReply}
-use Rattle.osboard.specs.declared.calls.BoardReply.TheVariants.{Started, Acknowledged, Shown, Decided, Halting}
+use Rattle.osboard.specs.declared.calls.BoardReply.TheVariants.{Started, Acknowledged, Shown, Drained, Decided, Halting}
 use Rattle.osboard.specs.Boards.{first_asked, start_answer}
 
 abbrev pub has_bit : ℕ → ℕ → Bool
 has_bit word place = bit_at word place == 1
 
--- Flag k of a set is bit first + k of the phase word; there are bits for BOARD_CORES flags.
+-- Flag k of a set is bit first + k of its word.
 abbrev pub flags_in : ℕ → ℕ → ℕ → List Bool
-flags_in count first word = map (λ (k : ℕ). nat_lt k BOARD_CORES && has_bit word (first + k)) (range_with_len 0 count)
+flags_in count first word = map (λ (k : ℕ). has_bit word (first + k)) (range_with_len 0 count)
 
 abbrev pub cores_in : ℕ → ℕ → CoreSet
 cores_in first word = record { members = flags_in CORES first word }
 
--- The phase word: a byte each for the started, entered, ready and drained cores and for the named modes.
+-- The phase word: sixteen bits each for the started, entered and ready cores, and a byte for the named modes.
 abbrev pub view_in : ℕ → BoardView
 view_in word = record {
   started = cores_in 0 word;
-  entered = cores_in 8 word;
-  ready = cores_in 16 word;
-  drained = cores_in 24 word;
-  modes = record { members = flags_in MODES 32 word };
+  entered = cores_in 16 word;
+  ready = cores_in 32 word;
+  modes = record { members = flags_in MODES 48 word };
 }
 
 abbrev pub mode_bits : CoreMode → ℕ
-mode_bits (Named mode) = 2 ^ (32 + mode.index)
+mode_bits (Named mode) = 2 ^ (48 + mode.index)
 mode_bits DontCare = 0
 
 -- The halt word: 0, or one more than 256 times the number of the core that asked, and the status' number.
@@ -56,9 +54,10 @@ halt_in word = if word == 0 then None else asked_by ((word - 1) / 256) (status_n
 
 -- The words stand for this board. A halt word other than 0 names who asked.
 pub record Stands (board : BoardState) (words : List ℕ) : Type 0 where
-  pub count : length words ≡ 2
+  pub count : length words ≡ 3
   pub view : board.view ≡ view_in (slice_index words 0)
   pub halt : board.halt ≡ halt_in (slice_index words 1)
+  pub drained : board.drained ≡ cores_in 0 (slice_index words 2)
   pub asked : (slice_index words 1 == 0) ≡ false → is_some (halt_in (slice_index words 1)) ≡ true
 
 -- What a call is answered where its step finds this word.
@@ -68,5 +67,6 @@ answer core (Enter mode) word = Acknowledged
 answer core MakeReady word = Acknowledged
 answer core Drain word = Acknowledged
 answer core Look word = Shown (view_in word)
+answer core LookDrained word = Drained (cores_in 0 word)
 answer core (AskHalt status) word = Decided (first_asked (halt_in word) (core, status))
 answer core LookHalt word = Halting (halt_in word)

@@ -1,13 +1,16 @@
 //! The board's words, shared by the threads of the cores.
 
 ghost use Rattle.std.specs.Prelude.{◌≡◌, ◌<◌, All, map, IfOk};
+ghost use Rattle.osbase.specs.declared.limits.TheConstants.{CORES};
 ghost use Rattle.osseat.specs.Histories.{entry};
 ghost use Rattle.osseat.specs.Seats.{AllApart, AllAt, Extends, IsOneHistory, cores_of, fresh};
-ghost use Rattle.osboard.specs.Boards.{HasPlace, IsMode, ask_halt_call, drain_call, enter_call, look_call, look_halt_call, one_board, ready_call, start_call};
+ghost use Rattle.osboard.specs.Boards.{HasPlace, IsMode, ask_halt_call, drain_call, enter_call, look_call, look_drained_call, look_halt_call, one_board, ready_call, start_call};
 
-use crate::calls::{BOARD_CORES, BoardCall, BoardReply, BoardView, BoardWords};
-use crate::words::{DRAINED, ENTERED, READY, STARTED, bit, halt_in, halt_word, mode_bits, view_in};
-use osbase::{CoreId, CoreMode, List, Status};
+use crate::calls::{BoardCall, BoardReply, BoardView, BoardWords};
+use crate::words::{
+    DRAINED, ENTERED, READY, STARTED, bit, cores_in, halt_in, halt_word, mode_bits, view_in,
+};
+use osbase::{CoreId, CoreMode, CoreSet, List, Status};
 use osseat::{CoreSeat, Plan, SharedWords};
 use std::alloc::{AllocError, Global};
 use std::marker::{Brand, Model};
@@ -15,10 +18,12 @@ use std::marker::{Brand, Model};
 /// The seat from which a core calls the board.
 pub type BoardSeat = CoreSeat<BoardWords>;
 
-// The places of the two words.
+// The places of the three words.
 const PHASE: usize = 0;
 
 const HALT: usize = 1;
+
+const DRAIN: usize = 2;
 
 /// The board of cores that run at once. A call takes the caller's seat, waits for nothing and takes no memory;
 /// its reply is what one board answers at that point of one history of all calls. Which of two cores called
@@ -37,7 +42,7 @@ impl Model for Board {
 
     ghost view = { λ b. b.words };
 
-    ghost invariant = { λ b. b.words.table.words ≡ 2 };
+    ghost invariant = { λ b. b.words.table.words ≡ 3 };
 }
 
 impl Board {
@@ -49,7 +54,7 @@ impl Board {
         master: CoreId,
     ) -> Result<(Board, Vec<BoardSeat>), AllocError>
         requires cores { AllApart cores }
-        requires master { master.number < BOARD_CORES }
+        requires master { master.number < CORES }
         ensures cores { IfOk result (λ r. r.0.plan.cores ≡ cores) }
         ensures master { IfOk result (λ r. r.0.plan.about ≡ master) }
         ensures seats { IfOk result (λ r. r.1.items ≡ map (λ c. fresh r.0 c) cores) }
@@ -59,7 +64,7 @@ impl Board {
             about: master,
         };
         let started = bit(STARTED + usize::from(master.number));
-        let (words, seats) = SharedWords::new(alloc, &[started, 0], &plan)?;
+        let (words, seats) = SharedWords::new(alloc, &[started, 0, 0], &plan)?;
         Ok((Board { words }, seats))
     }
 
@@ -67,7 +72,7 @@ impl Board {
     /// (AUTOSAR SWS OS 4.x, StartCore).
     pub fn start(&self, seat: &mut BoardSeat, core: CoreId) -> Status
         requires place { seat.old.place ≡ self.now }
-        requires core { core.number < BOARD_CORES }
+        requires core { core.number < CORES }
         ensures { Extends one_board seat.old (start_call seat.old.core core result) seat.new }
     {
         let started = bit(STARTED + usize::from(core.number));
@@ -80,7 +85,7 @@ impl Board {
     /// The caller has entered StartOS with this mode.
     pub fn enter(&self, seat: &mut BoardSeat, mode: CoreMode)
         requires place { seat.old.place ≡ self.now }
-        requires core { seat.old.core.number < BOARD_CORES }
+        requires core { seat.old.core.number < CORES }
         requires mode { IsMode mode }
         ensures { Extends one_board seat.old (enter_call seat.old.core mode) seat.new }
     {
@@ -93,7 +98,7 @@ impl Board {
     /// The caller is ready.
     pub fn ready(&self, seat: &mut BoardSeat)
         requires place { seat.old.place ≡ self.now }
-        requires core { seat.old.core.number < BOARD_CORES }
+        requires core { seat.old.core.number < CORES }
         ensures { Extends one_board seat.old (ready_call seat.old.core) seat.new }
     {
         let ready = bit(READY + usize::from(seat.core().number));
@@ -104,20 +109,31 @@ impl Board {
     /// The caller has drained.
     pub fn drain(&self, seat: &mut BoardSeat)
         requires place { seat.old.place ≡ self.now }
-        requires core { seat.old.core.number < BOARD_CORES }
+        requires core { seat.old.core.number < CORES }
         ensures { Extends one_board seat.old (drain_call seat.old.core) seat.new }
     {
         let drained = bit(DRAINED + usize::from(seat.core().number));
         self.words
-            .fetch_or::<Brand>(seat, PHASE, drained, BoardCall::Drain);
+            .fetch_or::<Brand>(seat, DRAIN, drained, BoardCall::Drain);
     }
 
-    /// The sets.
+    /// The sets, but for the drained cores.
     pub fn look(&self, seat: &mut BoardSeat) -> BoardView
         requires { seat.old.place ≡ self.now }
         ensures { Extends one_board seat.old (look_call seat.old.core result) seat.new }
     {
         view_in(self.words.load::<Brand>(seat, PHASE, BoardCall::Look))
+    }
+
+    /// The cores that have drained.
+    pub fn look_drained(&self, seat: &mut BoardSeat) -> CoreSet
+        requires { seat.old.place ≡ self.now }
+        ensures { Extends one_board seat.old (look_drained_call seat.old.core result) seat.new }
+    {
+        let word = self
+            .words
+            .load::<Brand>(seat, DRAIN, BoardCall::LookDrained);
+        cores_in(word, DRAINED)
     }
 
     /// Asks for a shutdown of all cores with a status, and gives who asked first and with which status, which
@@ -142,10 +158,10 @@ impl Board {
         halt_in(self.words.load::<Brand>(seat, HALT, BoardCall::LookHalt))
     }
 
-    /// Any of the seven calls, with its reply.
+    /// Any of the eight calls, with its reply.
     pub fn call(&self, seat: &mut BoardSeat, call: BoardCall) -> BoardReply
         requires place { seat.old.place ≡ self.now }
-        requires core { seat.old.core.number < BOARD_CORES }
+        requires core { seat.old.core.number < CORES }
         requires call { HasPlace call }
         ensures { Extends one_board seat.old (entry seat.old.core call result) seat.new }
     {
@@ -164,6 +180,7 @@ impl Board {
                 BoardReply::Acknowledged
             }
             BoardCall::Look => BoardReply::Shown(self.look(seat)),
+            BoardCall::LookDrained => BoardReply::Drained(self.look_drained(seat)),
             BoardCall::AskHalt(status) => BoardReply::Decided(self.ask_halt(seat, status)),
             BoardCall::LookHalt => BoardReply::Halting(self.look_halt(seat)),
         }

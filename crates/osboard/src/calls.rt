@@ -1,10 +1,7 @@
 //! What cores ask of the board, and what it answers.
 
-use osbase::{CORES, CoreId, CoreMode, CoreSet, MODES, Status};
+use osbase::{CoreId, CoreMode, CoreSet, MODES, Status};
 use osseat::SharedObject;
-
-/// The words of the board have room for the cores numbered below this.
-pub const BOARD_CORES: usize = 8;
 
 /// A set of application modes: a flag for each mode.
 #[derive(Clone, Copy, PartialEq, Eq)]
@@ -12,14 +9,12 @@ pub struct ModeSet {
     pub members: [bool; MODES],
 }
 
-/// The cores that were started, that have entered StartOS, that are ready, and that have drained, and the modes
-/// that were named.
+/// The cores that were started, that have entered StartOS, and that are ready, and the modes that were named.
 #[derive(Clone, Copy, PartialEq, Eq)]
 pub struct BoardView {
     pub started: CoreSet,
     pub entered: CoreSet,
     pub ready: CoreSet,
-    pub drained: CoreSet,
     pub modes: ModeSet,
 }
 
@@ -27,6 +22,8 @@ pub struct BoardView {
 #[derive(Clone, Copy, PartialEq, Eq)]
 pub struct BoardState {
     pub view: BoardView,
+    /// The cores that have drained.
+    pub drained: CoreSet,
     /// Who asked first for a shutdown of all cores, and with which status.
     pub halt: Option<(CoreId, Status)>,
 }
@@ -42,8 +39,10 @@ pub enum BoardCall {
     MakeReady,
     /// Has drained.
     Drain,
-    /// Looks at the sets.
+    /// Looks at the sets, but for the drained cores.
     Look,
+    /// Looks which cores have drained.
+    LookDrained,
     /// Asks for a shutdown of all cores.
     AskHalt(Status),
     /// Looks who asked for one.
@@ -56,13 +55,15 @@ pub enum BoardReply {
     Started(Status),
     Acknowledged,
     Shown(BoardView),
+    /// The cores that have drained.
+    Drained(CoreSet),
     /// Who asked first, and with which status.
     Decided((CoreId, Status)),
     Halting(Option<(CoreId, Status)>),
 }
 
-/// The board as an object whose state lies in shared words: one for the sets, and one for who asked for a
-/// shutdown of all cores.
+/// The board as an object whose state lies in shared words: one for the sets of `BoardView`, one for who asked for a
+/// shutdown of all cores, and one for the drained cores.
 pub struct BoardWords;
 
 impl SharedObject for BoardWords {

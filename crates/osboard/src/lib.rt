@@ -11,5 +11,6 @@ mod views;
 mod words;
 
 pub use board::{Board, BoardSeat};
-pub use calls::{BOARD_CORES, BoardCall, BoardReply, BoardState, BoardView, BoardWords, ModeSet};
+pub use calls::{BoardCall, BoardReply, BoardState, BoardView, BoardWords, ModeSet};
 pub use list::BoardList;
+pub use views::have_all;

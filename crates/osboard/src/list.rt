@@ -1,7 +1,7 @@
 //! The board of a listed run, in which one thread plays all cores.
 
 ghost use Rattle.std.specs.Prelude.{◌≡◌, Some};
-ghost use Rattle.osboard.specs.Boards.{ask_halt_call, board_after, board_reply, drain_call, enter_call, first_asked, first_board, look_call, look_halt_call, one_board, ready_call, start_answer, start_call, with_core, with_mode};
+ghost use Rattle.osboard.specs.Boards.{ask_halt_call, board_after, board_reply, drain_call, enter_call, first_asked, first_board, look_call, look_drained_call, look_halt_call, one_board, ready_call, start_answer, start_call, with_core, with_mode};
 ghost use Rattle.osseat.specs.Histories.{Continues};
 
 use crate::calls::{BoardCall, BoardReply, BoardState, BoardView, ModeSet};
@@ -36,13 +36,16 @@ impl BoardList {
             started: with_core(none, master),
             entered: none,
             ready: none,
-            drained: none,
             modes: ModeSet {
                 members: [false; MODES],
             },
         };
         BoardList {
-            state: BoardState { view, halt: None },
+            state: BoardState {
+                view,
+                drained: none,
+                halt: None,
+            },
         }
     }
 
@@ -88,17 +91,25 @@ impl BoardList {
         ensures after { self.new ≡ board_after caller BoardCall.Drain self.old }
         ensures replays { Continues one_board self.old (drain_call caller) self.new }
     {
-        let view = &mut self.state.view;
-        view.drained = with_core(view.drained, caller);
+        self.state.drained = with_core(self.state.drained, caller);
     }
 
-    /// The sets, whichever core looks.
+    /// The sets but for the drained cores, whichever core looks.
     #[tactic(auto, using(crate::proofs::Boards::goes_on))]
     pub fn look(&self) -> BoardView
         ensures answer { result ≡ self.now.view }
         ensures replays { (caller : CoreId) → Continues one_board self.now (look_call caller result) self.now }
     {
         self.state.view
+    }
+
+    /// The cores that have drained, whichever core looks.
+    #[tactic(auto, using(crate::proofs::Boards::goes_on))]
+    pub fn look_drained(&self) -> CoreSet
+        ensures answer { result ≡ self.now.drained }
+        ensures replays { (caller : CoreId) → Continues one_board self.now (look_drained_call caller result) self.now }
+    {
+        self.state.drained
     }
 
     /// Asks for a shutdown of all cores with a status, and gives who asked first and with which status, which
@@ -123,12 +134,13 @@ impl BoardList {
                 BoardReply::Acknowledged
             }
             BoardCall::Look => BoardReply::Shown(self.look()),
+            BoardCall::LookDrained => BoardReply::Drained(self.look_drained()),
             BoardCall::AskHalt(status) => BoardReply::Decided(self.decided(caller, status)),
             BoardCall::LookHalt => BoardReply::Halting(self.look_halt()),
         }
     }
 
-    /// Any of the seven calls.
+    /// Any of the eight calls.
     pub fn call(&mut self, caller: CoreId, call: BoardCall) -> BoardReply
         ensures answer { result ≡ board_reply caller call self.old }
         ensures after { self.new ≡ board_after caller call self.old }
@@ -144,7 +156,7 @@ impl BoardList {
             BoardCall::AskHalt(status) => {
                 let _ = self.ask_halt(caller, status);
             }
-            BoardCall::Look | BoardCall::LookHalt => {}
+            BoardCall::Look | BoardCall::LookDrained | BoardCall::LookHalt => {}
         }
         reply
     }

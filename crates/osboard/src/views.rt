@@ -23,21 +23,14 @@ impl BoardView {
     pub fn have_all_entered(&self) -> bool
         ensures { result ≡ have_all self.now.started self.now.entered }
     {
-        covers(&self.entered, &self.started)
+        have_all(&self.started, &self.entered)
     }
 
     /// Whether every started core is ready, so that the second gate is open.
     pub fn are_all_ready(&self) -> bool
         ensures { result ≡ have_all self.now.started self.now.ready }
     {
-        covers(&self.ready, &self.started)
-    }
-
-    /// Whether every started core has drained.
-    pub fn have_all_drained(&self) -> bool
-        ensures { result ≡ have_all self.now.started self.now.drained }
-    {
-        covers(&self.drained, &self.started)
+        have_all(&self.started, &self.ready)
     }
 
     /// What the modes of the cores that entered come to: none, the one, or a conflict
@@ -69,11 +62,13 @@ fn first_named(modes: &ModeSet) -> Option<usize>
     modes.members.iter().position(|named| *named)
 }
 
-// Whether each core of `some` is in `cores`.
-fn covers(cores: &CoreSet, some: &CoreSet) -> bool
-    ensures { result ≡ have_all some.now cores.now }
+/// Whether each of the started cores is in the set: what a synchronisation point waits for (AUTOSAR SWS OS 4.x,
+/// SWS_Os_00579 and SWS_Os_00580).
+pub fn have_all(started: &CoreSet, cores: &CoreSet) -> bool
+    ensures { result ≡ have_all started.now cores.now }
 {
-    some.members
+    started
+        .members
         .iter()
         .zip(cores.members.iter())
         .all(|(needed, there)| !*needed || *there)

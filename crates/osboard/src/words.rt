@@ -1,25 +1,25 @@
-//! The two words of the board: the phase word and the halt word.
+//! The three words of the board: the phase word, the halt word and the word of the drained cores.
 
 ghost use Rattle.std.specs.Prelude.{◌≡◌, ◌<◌, ◌≤◌, ◌+◌, ◌^◌, ◌&&◌, nat_lt};
 ghost use Rattle.osbase.specs.declared.limits.TheConstants.{MODES};
-ghost use Rattle.osboard.specs.declared.calls.TheConstants.{BOARD_CORES};
 ghost use Rattle.osboard.specs.Boards.{IsMode};
 ghost use Rattle.osboard.specs.Words.{cores_in, flags_in, halt_in, halt_word, has_bit, mode_bits, view_in};
 
-use crate::calls::{BOARD_CORES, BoardView, ModeSet};
-use osbase::{CoreId, CoreMode, CoreSet, Status};
+use crate::calls::{BoardView, ModeSet};
+use osbase::{CoreId, CoreMode, CoreSet, MODES, Status};
 use std::array;
 
-/// The places of the bytes of the phase word: one for each set of cores, and one for the modes.
+/// The places of the phase word: of sixteen bits for each of three sets of cores, and of a byte for the modes.
 pub const STARTED: usize = 0;
 
-pub const ENTERED: usize = 8;
+pub const ENTERED: usize = 16;
 
-pub const READY: usize = 16;
+pub const READY: usize = 32;
 
-pub const DRAINED: usize = 24;
+pub const NAMED: usize = 48;
 
-pub const NAMED: usize = 32;
+/// The place of the sixteen bits of the word of the drained cores.
+pub const DRAINED: usize = 0;
 
 /// The bit at a place.
 pub fn bit(place: usize) -> u64
@@ -48,30 +48,43 @@ fn has_bit(word: u64, place: usize) -> bool
     (word >> place) & 1 == 1
 }
 
-// The cores of the byte at a place.
-fn cores_in(word: u64, first: usize) -> CoreSet
-    requires { first ≤ 32 }
+/// The cores of the sixteen bits at a place.
+pub fn cores_in(word: u64, first: usize) -> CoreSet
+    requires { first ≤ 48 }
     ensures { result ≡ cores_in first word }
 {
-    let members = array::from_fn(
-        |core: usize| -> bool
-            requires { first ≤ 32 }
-            ensures { result ≡ (nat_lt core BOARD_CORES && has_bit word (first + core)) }
-        { core < BOARD_CORES && has_bit(word, first + core) },
-    );
-    CoreSet { members }
+    CoreSet {
+        members: [
+            has_bit(word, first + 0),
+            has_bit(word, first + 1),
+            has_bit(word, first + 2),
+            has_bit(word, first + 3),
+            has_bit(word, first + 4),
+            has_bit(word, first + 5),
+            has_bit(word, first + 6),
+            has_bit(word, first + 7),
+            has_bit(word, first + 8),
+            has_bit(word, first + 9),
+            has_bit(word, first + 10),
+            has_bit(word, first + 11),
+            has_bit(word, first + 12),
+            has_bit(word, first + 13),
+            has_bit(word, first + 14),
+            has_bit(word, first + 15),
+        ],
+    }
 }
 
 // The modes of the byte at a place.
 fn modes_in(word: u64, first: usize) -> ModeSet
-    requires { first ≤ 32 }
+    requires { first ≤ 48 }
     ensures { result.members ≡ flags_in MODES first word }
 {
     let members = array::from_fn(
         |mode: usize| -> bool
-            requires { first ≤ 32 }
-            ensures { result ≡ (nat_lt mode BOARD_CORES && has_bit word (first + mode)) }
-        { mode < BOARD_CORES && has_bit(word, first + mode) },
+            requires { first ≤ 48 }
+            ensures { result ≡ (nat_lt mode MODES && has_bit word (first + mode)) }
+        { mode < MODES && has_bit(word, first + mode) },
     );
     ModeSet { members }
 }
@@ -84,7 +97,6 @@ pub fn view_in(word: u64) -> BoardView
         started: cores_in(word, STARTED),
         entered: cores_in(word, ENTERED),
         ready: cores_in(word, READY),
-        drained: cores_in(word, DRAINED),
         modes: modes_in(word, NAMED),
     }
 }

@@ -10,13 +10,13 @@ use Rattle.osbase.specs.History.{same_core}
 use Rattle.osforms.specs.Action.{is_action}
 use Rattle.osforms.specs.Operation.{has_masks}
 use Rattle.osplan.specs.Expressible.{are_distinct, dont_care, is_free_of_resources, is_jumping_within, is_reserved}
-use Rattle.osplan.specs.Limits.{CounterSizes, StartSizes, TableSizes, CoreSizes, Sizes, is_between, is_by, is_core_numbered, is_short, is_within, is_table_timed, has_number, are_numbers_distinct, stays_on}
+use Rattle.osplan.specs.Limits.{CounterSizes, StartSizes, TableSizes, CoreSizes, Sizes, is_by, is_core_numbered, is_short, is_versioned, is_within, is_table_timed, has_number, are_numbers_distinct, stays_on}
 use Rattle.osplan.specs.Spinlocks.{are_links_ordered}
 use Rattle.osplan.specs.declared.faults.ConfFault.TheVariants.{Limit, DuplicateName, UnknownName, WrongCore, SpinOrder, BadMask, BadTable, BadScript}
 use Rattle.osplan.specs.Fault.{Tests}
 use Rattle.oscheck.specs.Action.{is_action_known, is_action_masked}
 use Rattle.osshape.specs.Declarations.{counter_declared, counter_ref, declarations, declared_sizes, id_of, names_of, place_of, spinlock_ref}
-pub use Rattle.osshape.specs.Shape.{task_sizes, isr_sizes, counter_sizes, point_sizes}
+pub use Rattle.osshape.specs.Shape.{task_sizes, isr_sizes, resource_sizes, counter_sizes, point_sizes}
 use Rattle.osshape.specs.Shape.{start_numbers, table_numbers, core_numbers, text_numbers}
 use Rattle.oscheck.specs.Posted.{posted_at_once}
 use Rattle.oscheck.specs.Operation.{operations_of, op_of, named_op, is_operation_known, is_operation}
@@ -63,9 +63,9 @@ bare_sizes core = record (core_sizes [] core) { counters = []; alarms = []; tabl
 abbrev pub sizes_of : ConfigText → Sizes
 sizes_of t = record (text_numbers t) { cores = map (core_sizes (declarations t)) t.cores }
 
--- The version, which no configuration keeps, is 1, and the numbers are within the limits.
+-- The numbers are within the limits.
 abbrev pub is_text_within : ConfigText → Bool
-is_text_within t = is_between 1 1 t.version && is_within (sizes_of t)
+is_text_within t = is_within (sizes_of t)
 
 -- The script has no more operations than it may have; the other limits are those of numbers, and need no look at scripts.
 abbrev pub is_script_short : List ℕ → Bool
@@ -78,7 +78,7 @@ abbrev pub are_scripts_short : ConfigText → Bool
 are_scripts_short t = list_all is_core_short t.cores
 
 abbrev pub is_text_numbered : ConfigText → Bool
-is_text_numbered t = is_between 1 1 t.version && is_by is_core_numbered (sizes_of t)
+is_text_numbered t = is_versioned (sizes_of t) && is_by is_core_numbered (sizes_of t)
 
 -- ---- names and numbers that stand twice
 

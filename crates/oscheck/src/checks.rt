@@ -1,6 +1,6 @@
 //! The tests of a configuration's text, one for each fault past its shape, in ascending order.
 
-ghost use Rattle.std.specs.Prelude.{◌≡◌, ◌&&◌, ◌<◌, ◌^◌, true, Some, length, map, sum_by};
+ghost use Rattle.std.specs.Prelude.{◌≡◌, ◌&&◌, ◌-◌, ◌<◌, ◌≤◌, ◌^◌, true, Some, length, map, sum_by};
 ghost use Rattle.std.specs.List.{list_all};
 ghost use Rattle.osshape.specs.declared.shapes.AlarmText.{AlarmText as Alarm};
 ghost use Rattle.osshape.specs.declared.shapes.CoreText.{CoreText as Core};
@@ -8,19 +8,19 @@ ghost use Rattle.osshape.specs.declared.shapes.CounterText.{CounterText as Count
 ghost use Rattle.osshape.specs.declared.shapes.IsrText.{IsrText as Isr};
 ghost use Rattle.osshape.specs.declared.shapes.ResourceText.{ResourceText as Resource};
 ghost use Rattle.osshape.specs.declared.shapes.TaskText.{TaskText as Task};
-ghost use Rattle.osplan.specs.Limits.{are_alarms_within, are_counters_within, are_isrs_within, are_numbers_distinct, has_number, is_alarm_within, is_between, is_ceiling, is_core_numbered, is_counter_within, is_isr_within, is_start, is_task_within, jobs_of, most_cores, most_of, same_number};
+ghost use Rattle.osplan.specs.Limits.{are_alarms_within, are_counters_within, are_isrs_within, are_numbers_distinct, cores_by, has_number, is_alarm_within, is_between, is_core_numbered, is_counter_within, is_isr_within, is_resource_within, is_second, is_start, is_task_within, is_versioned, jobs_of, most_cores, most_of, same_number};
 ghost use Rattle.osbase.specs.declared.objects.ObjectKind.{ObjectKind};
 ghost use Rattle.osplan.specs.Fault.{failing, first_fault};
 ghost use Rattle.osplan.specs.Spinlocks as plans;
 ghost use Rattle.osshape.specs.Declarations.{declarations};
 ghost use Rattle.oscheck.specs.Few.{are_objects_few, is_core_few};
-ghost use Rattle.oscheck.specs.Check.{is_text_numbered, task_sizes, isr_sizes, counter_sizes, alarm_sizes, bare_sizes, core_sizes, numbers_of, is_text_within, is_unreserved, is_each_once, is_core_mode_known, is_mode_known, is_spinlock_known, alarm_modes, are_timed, links_of, tests_of};
+ghost use Rattle.oscheck.specs.Check.{is_text_numbered, task_sizes, isr_sizes, resource_sizes, counter_sizes, alarm_sizes, bare_sizes, core_sizes, numbers_of, is_text_within, sizes_of, is_unreserved, is_each_once, is_core_mode_known, is_mode_known, is_spinlock_known, alarm_modes, are_timed, links_of, tests_of};
 ghost use Rattle.oscheck.specs.Verdict.{text_verdict};
 
 use crate::table_checks::{are_posted_few, are_tables_timed, are_tables_within};
 use crate::verdicts::Verdict;
 use osbase::{
-    ALARMS, CONFIGURED_CORES, COUNTERS, ISRS, JOBS, MODES, ObjectKind, RESOURCES, SPINLOCKS,
+    ALARMS, CORES, COUNTERS, FIRST_CORES, ISRS, JOBS, MODES, ObjectKind, RESOURCES, SPINLOCKS,
     TABLES, TASKS,
 };
 use osforms::Places;
@@ -64,8 +64,8 @@ fn jobs_of_all(tasks: &[TaskText]) -> u64
     tasks.iter().map(|task| task.activations.unwrap_or(0)).sum()
 }
 
-fn are_ceilings_within(resources: &[ResourceText]) -> bool
-    ensures { result ≡ list_all (λ (resource : Resource). is_ceiling resource.ceiling) resources.now }
+fn are_resources_within(resources: &[ResourceText]) -> bool
+    ensures { result ≡ list_all (λ (resource : Resource). is_resource_within (resource_sizes resource)) resources.now }
 {
     resources.iter().all(|resource| resource.is_within())
 }
@@ -112,14 +112,14 @@ fn is_bare_core_numbered(core: &CoreText) -> bool
 {
     // The sum fits, since the tasks are judged before it.
     let tasks = core.tasks.as_slice();
-    is_between(0, 7, core.id)
+    is_between(0, 15, core.id)
         && are_starts_within(core.start.as_slice())
         && tasks.len() <= TASKS
         && are_tasks_within(tasks)
         && jobs_of_all(tasks) <= JOBS
         && are_isrs_within(core.isrs.as_slice())
         && core.resources.len() <= RESOURCES
-        && are_ceilings_within(core.resources.as_slice())
+        && are_resources_within(core.resources.as_slice())
 }
 
 #[tactic(auto, using(crate::proofs::Counting::bare_split))]
@@ -142,7 +142,7 @@ fn are_cores_numbered(objects: &Objects, cores: &[CoreText]) -> bool
 fn are_cores_within(objects: &Objects, cores: &[CoreText]) -> bool
     ensures { result ≡ (is_between 1 most_cores (Some (length cores.now)) && list_all (λ (core : Core). is_core_numbered (core_sizes objects.now.declared core)) cores.now) }
 {
-    1 <= cores.len() && cores.len() <= CONFIGURED_CORES && are_cores_numbered(objects, cores)
+    1 <= cores.len() && cores.len() <= CORES && are_cores_numbered(objects, cores)
 }
 
 #[tactic(auto, using(crate::proofs::Numbers::mapped))]
@@ -171,7 +171,7 @@ pub fn are_objects_few(text: &ConfigText) -> bool
 {
     text.modes.len() <= MODES
         && text.spinlocks.len() <= SPINLOCKS
-        && text.cores.len() <= CONFIGURED_CORES
+        && text.cores.len() <= CORES
         && are_cores_few(text.cores.as_slice())
 }
 
@@ -181,13 +181,57 @@ fn are_modes_within(text: &ConfigText) -> bool
     1 <= text.modes.len() && text.modes.len() <= MODES
 }
 
-/// Whether the text is of version 1 and within the limits, but for its scripts, whose operations are counted where they
-/// are read.
+// Whether it is the second version of the format.
+fn is_second(version: Whole) -> bool
+    ensures { result ≡ is_second version }
+{
+    match version {
+        Some(version) => version == 2,
+        None => false,
+    }
+}
+
+// How many cores there may be by this version.
+fn cores_by(version: Whole) -> usize
+    ensures count { result ≡ cores_by version }
+    ensures some { 1 ≤ result }
+{
+    if is_second(version) {
+        CORES
+    } else {
+        FIRST_CORES
+    }
+}
+
+fn are_ids_within(cores: &[CoreText], last: u64) -> bool
+    ensures { result ≡ list_all (λ (core : Core). is_between 0 last core.id) cores.now }
+{
+    cores.iter().all(|core| is_between(0, last, core.id))
+}
+
+// Whether there are cores, no more than so many, each of a number below that.
+fn are_cores_below(cores: &[CoreText], most: usize) -> bool
+    requires { 1 ≤ most }
+    ensures { result ≡ (is_between 1 most (Some (length cores.now)) && list_all (λ (core : Core). is_between 0 (most - 1) core.id) cores.now) }
+{
+    1 <= cores.len() && cores.len() <= most && are_ids_within(cores, most as u64 - 1)
+}
+
+// Whether the format has the version, and the version so many cores.
+fn is_versioned(text: &ConfigText) -> bool
+    ensures { result ≡ is_versioned (sizes_of text.now) }
+{
+    let most = cores_by(text.version);
+    is_between(1, 2, text.version) && are_cores_below(text.cores.as_slice(), most)
+}
+
+/// Whether the text is of a version that there is and within its limits, but for its scripts, whose operations are counted
+/// where they are read.
 pub fn is_numbered(text: &ConfigText, objects: &Objects) -> bool
     requires objects { objects.now.declared ≡ declarations text.now }
     ensures { result ≡ is_text_numbered text.now }
 {
-    is_between(1, 1, text.version)
+    is_versioned(text)
         && are_modes_within(text)
         && text.spinlocks.len() <= SPINLOCKS
         && is_between(1, 16, text.cap)

@@ -29,7 +29,7 @@ const TWO_CORES: &str =
     r#"{"cores":[{"id":0,"start":[1],"tasks":[{"name":"A","prio":1,"auto":["M"],"script":"ActivateTask B;TerminateTask"}]},{"id":1,"tasks":[{"name":"B","prio":1,"script":"TerminateTask"}]}]}"#;
 
 // What a text is read as: a configuration, one that is written, or one of which the core of this number is cut out; stimuli or
-// a schedule of `TWO_CORES`; or stimuli of `isrs::TWO_CORES`.
+// a schedule of `TWO_CORES`; stimuli of `isrs::TWO_CORES`; or stimuli or a schedule of `given::SECOND`.
 #[derive(Clone, Copy)]
 enum Reader {
     Configuration,
@@ -38,6 +38,8 @@ enum Reader {
     Stimuli,
     Interrupts,
     Schedule,
+    SecondStimuli,
+    SecondSchedule,
 }
 
 // A table of texts and their faults: what the texts are read as, what they stand in, in place of its `@`, and the table's
@@ -84,10 +86,11 @@ fn repeated(alloc: Global, word: &str, between: &str, count: u32) -> Result<Stri
     Ok(all)
 }
 
-// The configuration in which stimuli find their cores and ISRs.
+// The configuration in which stimuli and turns find their cores and ISRs.
 fn named_in(alloc: Global, reader: Reader) -> Result<Config, Fail> {
     match reader {
         Reader::Interrupts => configured(alloc, isrs::TWO_CORES, ""),
+        Reader::SecondStimuli | Reader::SecondSchedule => Ok(read_config(alloc, given::SECOND)?),
         _ => Ok(read_config(alloc, TWO_CORES)?),
     }
 }
@@ -96,8 +99,10 @@ fn fault_of(alloc: Global, reader: Reader, text: &str) -> Result<Option<ConfFaul
     match reader {
         Reader::Configuration | Reader::Written => Ok(read_config(alloc, text).err()),
         Reader::Alone(number) => cut_fault(alloc, text, CoreId { number }),
-        Reader::Stimuli | Reader::Interrupts => stimuli_fault(alloc, reader, text),
-        Reader::Schedule => schedule_fault(alloc, text),
+        Reader::Stimuli | Reader::Interrupts | Reader::SecondStimuli => {
+            stimuli_fault(alloc, reader, text)
+        }
+        Reader::Schedule | Reader::SecondSchedule => schedule_fault(alloc, reader, text),
     }
 }
 
@@ -113,8 +118,8 @@ fn stimuli_fault(alloc: Global, reader: Reader, text: &str) -> Result<Option<Con
     Ok(read_stimuli(alloc, &config, text).err())
 }
 
-fn schedule_fault(alloc: Global, text: &str) -> Result<Option<ConfFault>, Fail> {
-    let config = read_config(alloc, TWO_CORES)?;
+fn schedule_fault(alloc: Global, reader: Reader, text: &str) -> Result<Option<ConfFault>, Fail> {
+    let config = named_in(alloc, reader)?;
     Ok(read_schedule(alloc, &config, text).err())
 }
 
@@ -124,8 +129,10 @@ fn shown(alloc: Global, reader: Reader, text: &str) -> Result<String, Fail> {
         Reader::Configuration => shown_plan(alloc, text),
         Reader::Written => written_text(alloc, text),
         Reader::Alone(number) => cut_text(alloc, text, CoreId { number }),
-        Reader::Stimuli | Reader::Interrupts => shown_stimuli(alloc, reader, text),
-        Reader::Schedule => shown_schedule(alloc, text),
+        Reader::Stimuli | Reader::Interrupts | Reader::SecondStimuli => {
+            shown_stimuli(alloc, reader, text)
+        }
+        Reader::Schedule | Reader::SecondSchedule => shown_schedule(alloc, reader, text),
     }
 }
 
@@ -149,8 +156,8 @@ fn shown_stimuli(alloc: Global, reader: Reader, text: &str) -> Result<String, Fa
     Ok(format!(in alloc; "{:?}", stimuli.as_slice())?)
 }
 
-fn shown_schedule(alloc: Global, text: &str) -> Result<String, Fail> {
-    let config = read_config(alloc, TWO_CORES)?;
+fn shown_schedule(alloc: Global, reader: Reader, text: &str) -> Result<String, Fail> {
+    let config = named_in(alloc, reader)?;
     let turns = read_schedule(alloc, &config, text)?;
     Ok(format!(in alloc; "{:?}", turns.as_slice())?)
 }
@@ -286,13 +293,13 @@ fn texts_that_are_no_configurations(rt: HostRuntime) -> Result<(), Fail> {
             hostile::WITHIN,
         ),
     ];
-    play_all(&rt, rt.alloc(), tables, 383)
+    play_all(&rt, rt.alloc(), tables, 398)
 }
 
 #[test]
 fn texts_at_limits(rt: HostRuntime) -> Result<(), Fail> {
     let tables: &[Table] = &[(Reader::Configuration, "@", limits::TEXTS)];
-    play_all(&rt, rt.alloc(), tables, 136)
+    play_all(&rt, rt.alloc(), tables, 194)
 }
 
 #[test]
@@ -354,7 +361,7 @@ fn texts_with_events_and_resources(rt: HostRuntime) -> Result<(), Fail> {
             resources::OPERATIONS,
         ),
     ];
-    play_all(&rt, rt.alloc(), tables, 266)
+    play_all(&rt, rt.alloc(), tables, 285)
 }
 
 #[test]
@@ -406,8 +413,10 @@ fn texts_that_are_no_stimuli_or_schedules(rt: HostRuntime) -> Result<(), Fail> {
     let tables: &[Table] = &[
         (Reader::Stimuli, "@", given::NO_STIMULI),
         (Reader::Schedule, "@", given::NO_SCHEDULES),
+        (Reader::SecondStimuli, "@", given::SECOND_STIMULI),
+        (Reader::SecondSchedule, "@", given::SECOND_SCHEDULES),
     ];
-    play_all(&rt, rt.alloc(), tables, 162)
+    play_all(&rt, rt.alloc(), tables, 194)
 }
 
 #[test]
@@ -417,8 +426,10 @@ fn texts_that_are_read(rt: HostRuntime) -> Result<(), Fail> {
         (Reader::Stimuli, "@", read::STIMULI),
         (Reader::Interrupts, "@", read::INTERRUPTS),
         (Reader::Schedule, "@", read::SCHEDULES),
+        (Reader::SecondStimuli, "@", read::SECOND_STIMULI),
+        (Reader::SecondSchedule, "@", read::SECOND_SCHEDULES),
     ];
-    play_all(&rt, rt.alloc(), tables, 38)
+    play_all(&rt, rt.alloc(), tables, 41)
 }
 
 #[test]
@@ -429,8 +440,9 @@ fn texts_that_are_written(rt: HostRuntime) -> Result<(), Fail> {
         (Reader::Alone(0), "@", written::LONE),
         (Reader::Alone(1), "@", written::SECOND),
         (Reader::Alone(2), "@", written::THIRD),
+        (Reader::Alone(15), "@", written::LAST),
     ];
-    play_all(&rt, rt.alloc(), tables, 15)
+    play_all(&rt, rt.alloc(), tables, 19)
 }
 
 #[test]

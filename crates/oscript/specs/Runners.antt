@@ -2,7 +2,8 @@
 --
 -- Of a runner's live jobs the oldest alone holds anything and has begun, so a runner has one row. A new reading of a runner is one
 -- more field, and a line for each entry that changes it.
-use Rattle.std.specs.Prelude.{ℕ, suc, if◌then◌else◌, Option, Some, None, List, [], ◌∷◌}
+use Rattle.std.specs.Prelude.{ℕ, suc, if◌then◌else◌, Option, Some, None, List, [], ◌∷◌, map, replicate, slice_set}
+use Rattle.osbase.specs.declared.limits.TheConstants.{RESOURCES}
 use Rattle.osbase.specs.declared.references.Runner.{Runner}
 use Rattle.osbase.specs.declared.histories.HeldResource.{HeldResource}
 use Rattle.osbase.specs.declared.histories.TaskEvents.{TaskEvents}
@@ -14,19 +15,21 @@ use Rattle.oscript.specs.declared.Frame.{Frame}
 use Rattle.oscript.specs.Frames.{completed, new_frame, rewound}
 
 -- The resources that the oldest live job of the runner holds, the newest first; the events of its task; where that job
--- stands in its script, or its next job will begin; how often that job has suspended interrupts; and how many ticks of its execution
--- budget it has used. [OSEK/VDX OS 2.2.3, section 7, 8 and 13.3; AUTOSAR SWS OS 4.x, section 7.7.2, for the budget; the place in a
--- script and that a budget is counted in ticks are this project's own]
+-- stands in its script, or its next job will begin; how often that job has suspended interrupts; how many ticks of its execution
+-- budget it has used; and, by the index of each resource, at how many ticks a job of the runner was the running one since one last took
+-- that. [OSEK/VDX OS 2.2.3, section 7, 8 and 13.3; AUTOSAR SWS OS 4.x, section 7.7.2, for the budget; the place in a script, that
+-- budgets are counted in ticks and that a lock budget is a resource's are this project's own]
 pub record Row : Type 0 where
   pub held : List HeldResource
   pub events : TaskEvents
   pub frame : Frame
   pub depth : ℕ
   pub used : ℕ
+  pub lock_used : List ℕ
 
 -- Before its first job a runner holds nothing, has no event, stands at the first operation, and has suspended and used nothing.
 abbrev pub first_row : Row
-first_row = record { held = []; events = no_events; frame = new_frame; depth = 0; used = 0 }
+first_row = record { held = []; events = no_events; frame = new_frame; depth = 0; used = 0; lock_used = replicate RESOURCES 0 }
 
 -- The runner whose row an entry changes, if it changes one. A tick changes that of the one whose job is running.
 abbrev pub runner_of : Option Runner → Entry → Option Runner
@@ -45,6 +48,16 @@ runner_of running (Printed (Mark.Released t)) = Some (Runner.Task t)
 runner_of running (Printed Mark.Tick) = running
 runner_of running e = None
 
+-- The row of a runner whose job takes a resource: that is held now, and the ticks of its lock budget count from zero.
+-- [OSEK/VDX OS 2.2.3, section 8.2, for the resource]
+abbrev pub holding : HeldResource → Row → Row
+holding x row = record row { held = x ∷ row.held; lock_used = slice_set row.lock_used x.index 0 }
+
+-- The row of a runner whose job is the running one at a tick: one more is used of its execution budget and of the lock budget of whatever
+-- it holds. [AUTOSAR SWS OS 4.x, SWS_Os_00028, for the execution budget]
+abbrev pub charged : Row → Row
+charged row = record row { used = suc row.used; lock_used = map suc row.lock_used }
+
 -- The row of a runner whose job has ended: the job gives back all that it held and resumes interrupts, and the next one begins at
 -- the first operation, with its whole budget. [AUTOSAR SWS OS 4.x, SWS_Os_00070, for the resources; SWS_Os_00473 and, of an ISR,
 -- SWS_Os_00474, for the budget]
@@ -57,11 +70,11 @@ abbrev pub waiting_for : ℕ → Row → Row
 waiting_for mask row = record row { events = with_awaited (Some mask) row.events; used = 0 }
 
 -- And how it changes it, for a runner with this script: a resource is taken or given back; interrupts are suspended or resumed; an
--- operation is done; the oldest job ends; events are set or cleared; the task waits, or is released; a tick of the budget is used. An
+-- operation is done; the oldest job ends; events are set or cleared; the task waits, or is released; a tick of its budgets is used. An
 -- activation leaves no event set. Only an operation that is done reads the script.
 -- [OSEK/VDX OS 2.2.3, section 8.2, 7, 13.3.2 and 13.5.3; that an activation clears the events: section 13.2.3.1]
 abbrev pub row_step : List Op → Entry → Row → Row
-row_step script (Noted (Taken r x)) row = record row { held = x ∷ row.held }
+row_step script (Noted (Taken r x)) row = holding x row
 row_step script (Noted (Given r index)) row = record row { held = without_resource index row.held }
 row_step script (Noted (Locked r)) row = record row { depth = deeper row.depth }
 row_step script (Noted (Unlocked r)) row = record row { depth = shallower row.depth }
@@ -73,7 +86,7 @@ row_step script (Printed (Mark.EventSet t mask)) row = record row { events = wit
 row_step script (Printed (Mark.EventCleared t mask)) row = record row { events = with_cleared mask row.events }
 row_step script (Printed (Mark.EventAwaited t mask)) row = waiting_for mask row
 row_step script (Printed (Mark.Released t)) row = record row { events = with_awaited None row.events }
-row_step script (Printed Mark.Tick) row = record row { used = suc row.used }
+row_step script (Printed Mark.Tick) row = charged row
 row_step script e row = row
 
 -- What an entry does to the row of this runner: nothing, if it is another one's or nobody's.

@@ -150,7 +150,7 @@ pub const TICKS: Kind = Kind::Number(0, 4294967295);
 pub const POSITION: Kind = Kind::Number(0, 256);
 
 /// The number of a status (`Status::numbered`).
-pub const STATUS: Kind = Kind::Number(0, 15);
+pub const STATUS: Kind = Kind::Number(0, 16);
 
 #[inline(always)]
 fn plain_row(word: &'static str, kinds: Args<Kind>) -> Row

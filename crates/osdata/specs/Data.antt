@@ -72,11 +72,12 @@ isr_data plan isr = object
     (member (codes "name") (string isr.name)
     (member (codes "script") (string (script_text plan isr.script)) no_members))))
 
--- A resource: its ceiling and name.
+-- A resource: its ceiling, lock budget and name.
 abbrev pub resource_data : Resource → Data
 resource_data resource = object
     (member (codes "ceiling") (whole_data resource.ceiling)
-    (member (codes "name") (string resource.name) no_members))
+    (member (codes "lock") (whole_data resource.lock)
+    (member (codes "name") (string resource.name) no_members)))
 
 -- A counter: its greatest value, its least cycle, its name, and whether software alone advances it.
 abbrev pub counter_data : Counter → Data

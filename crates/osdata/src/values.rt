@@ -148,6 +148,7 @@ impl Writer<Resource> for PlanWriter<'_> {
     fn value(&self, alloc: Global, resource: &Resource) -> Result<Value, AllocError> {
         json!(in alloc; {
             "ceiling": u64::from(resource.ceiling),
+            "lock": u64::from(resource.lock),
             "name": resource.name.as_str()
         })
     }

@@ -9,7 +9,7 @@ use Rattle.osbase.proofs.{Same.same_kind-true, Places.passes-at}
 use Rattle.osplan.specs.Limits as limits
 use Rattle.osplan.specs.Limits.{CounterSizes, are_counters_within, is_between, is_core_within, is_counter_within, is_object, is_within, number_of, same_number}
 use Rattle.osplan.specs.{Objects.common_names, Objects.object_count, declared.plans.TheConstants.COMMON, declared.plans.TheConstants.KINDS, Expressible.are_distinct, View.core_of, View.counter_in}
-use Rattle.osplan.proofs.Found.{IsFound}
+use Rattle.osplan.proofs.{Found.IsFound, Within.cores-within}
 use Rattle.osshape.specs.Declarations.{byte_of, word_of, common_of, declarations, declaration, declared_as, declared_by, has_name, place_of, id_of, counter_ref, counter_declared, declared_sizes, names_of}
 use Rattle.osshape.specs.Shape.{common_in, objects_in, numbered}
 use Rattle.osshape.proofs.{Lists.map-same, Alone.alone}
@@ -44,10 +44,10 @@ abbrev pub is_inside : List Declaration → CoreText → Bool
 is_inside objects core = is_core_within (core_sizes objects core)
 
 pub cores-inside : (t : ConfigText) → is_within (sizes_of t) ≡ true → list_all (is_inside (declarations t)) t.cores ≡ true
-cores-inside t h = sym (list_all-map is_core_within (core_sizes (declarations t)) t.cores) ∙ grind arith
+cores-inside t h = sym (list_all-map is_core_within (core_sizes (declarations t)) t.cores) ∙ cores-within (sizes_of t) h
 
 pub numbers-kept : (t : ConfigText) → is_within (sizes_of t) ≡ true → limits.numbers_of (plan_of t).cores ≡ numbers_of t.cores
-numbers-kept t h = map-same (λ (c : Core). number_of c.id) (core_plan (declarations t)) (λ (core : CoreText). core.id) (is_inside (declarations t)) (λ core inside. is-byte 0 7 core.id (grind arith) (omega arith)) t.cores (cores-inside t h)
+numbers-kept t h = map-same (λ (c : Core). number_of c.id) (core_plan (declarations t)) (λ (core : CoreText). core.id) (is_inside (declarations t)) (λ core inside. is-byte 0 15 core.id (grind arith) (omega arith)) t.cores (cores-inside t h)
 
 pub bytes-equal : (a b : Option ℕ) → same_number a b ≡ true → eqb (byte_of a) (byte_of b) ≡ true
 bytes-equal a b same = grind (arith, nat_tests)

@@ -11,17 +11,17 @@ use Rattle.osforms.proofs.{Alike.named-same, Operations.meant-in-form, Operation
 use Rattle.osplan.specs.Expressible as said
 use Rattle.osplan.specs.Limits as limits
 use Rattle.osplan.specs.Objects as plans
-use Rattle.osplan.specs.Limits.{CoreSizes, PointSizes, Sizes, TableSizes, are_numbers_distinct, has_number, is_alarm_within, is_between, is_ceiling, is_core_within, is_counter_within, is_isr_within, is_start, is_table_start_within, is_table_timed, is_table_within, is_task_within, is_within, last_offset, number_of, same_number}
+use Rattle.osplan.specs.Limits.{CoreSizes, PointSizes, Sizes, TableSizes, are_numbers_distinct, has_number, is_alarm_within, is_between, is_core_within, is_counter_within, is_isr_within, is_resource_within, is_start, is_table_start_within, is_table_timed, is_table_within, is_task_within, is_within, last_offset, number_of, same_number}
 use Rattle.osplan.specs.declared.faults.ConfFault.TheVariants.{Limit, DuplicateName, UnknownName, WrongCore, SpinOrder, BadMask, BadTable, BadScript}
 use Rattle.osplan.specs.{Expressible.are_distinct, Expressible.dont_care, Fault.failing, Objects.greatest_of, Objects.names_in, Objects.table_actions, Spinlocks.are_links_ordered, View.core_of, View.counter_in}
-use Rattle.osplan.proofs.{EveryKind.every-common, EveryKind.every-kind, Found.IsFound, Found.each-found, ModeObjects.mode-there, ModeObjects.nobody, Scripts.all_scripts, SpinlockObjects.spinlock-there, SpinlockObjects.stays, Tests.all-both, Tests.all-flat, Tests.any-find, Tests.any-mapped}
+use Rattle.osplan.proofs.{EveryKind.every-common, EveryKind.every-kind, Found.IsFound, Found.each-found, ModeObjects.mode-there, ModeObjects.nobody, Scripts.all_scripts, SpinlockObjects.spinlock-there, SpinlockObjects.stays, Tests.all-both, Tests.all-flat, Tests.any-find, Tests.any-mapped, Within.cap-within, Within.cores-within, Within.version-within}
 use Rattle.osshape.specs.Declarations.{counter_ref, declarations, id_of, mode_ref, names_of, number_id, place_alone, place_of, spinlock_ref}
 use Rattle.osshape.specs.Shape.{common_in, has_named_common, has_named_objects, is_named, objects_in, unnumbered}
 use Rattle.osshape.proofs.Lists.{map-same, list_all-by, map-back, all-apart, all-same, list_all-total, list_any-by}
 use Rattle.osshape.proofs.{Alone.alone_if, Naming.common-named, Naming.names-of-all, Naming.names-of-text}
 use Rattle.oscheck.specs.Words.{Alarm, AlarmText, ConfigText, Core, CoreId, CoreMode, CoreText, CounterText, Declaration, ExpiryPoint, Isr, IsrText, Named, ObjectKind, Op, Place, Plan, PointText, RemoteCall, ResourceText, Spinlock, SpinlockText, TableStart, TableStartText, TableText, Task, TaskText}
 use Rattle.oscheck.specs.Check.{alarm_modes, alarm_sizes, are_known, are_masks, are_near, are_operations, are_ordered, are_timed, core_scripts, core_sizes, counter_sizes, is_core_known, is_core_mode_known, is_core_near, is_core_script, is_each_once, is_isr_script}
-use Rattle.oscheck.specs.Check.{is_mode_known, is_operation_near, is_script, is_script_masked, is_script_near, is_spinlock_known, is_task_script, is_text_within, is_unreserved, isr_sizes, numbers_of, point_sizes, sizes_of, table_modes, table_sizes, task_sizes, tests_of}
+use Rattle.oscheck.specs.Check.{is_mode_known, is_operation_near, is_script, is_script_masked, is_script_near, is_spinlock_known, is_task_script, is_text_within, is_unreserved, isr_sizes, numbers_of, point_sizes, resource_sizes, sizes_of, table_modes, table_sizes, task_sizes, tests_of}
 use Rattle.oscheck.specs.Verdict.{action_verdict, alarm_verdict, core_verdict, point_verdict, table_verdict, isr_verdict, task_verdict}
 use Rattle.oscheck.specs.{Action.action_of, Operation.is_operation, Operation.op_of, Operation.operations_of, Posted.greatest_posted, Posted.is_posting, Posted.posted_at, Posted.posted_at_once}
 use Rattle.oscheck.proofs.{Numbers.offsets-low, Operations.stays-alike}
@@ -153,7 +153,7 @@ faultless t none =
     let known = and_parts (has_number (numbers_of t.cores) t.master) _ passed.2 in
     let names = and_parts (list_all (is_spinlock_known (declarations t)) t.spinlocks) (list_all (is_core_known (declarations t)) t.cores) known.1 in
     record {
-      within = (and_parts (is_between 1 1 t.version) (is_within (sizes_of t)) passed.0).1;
+      within = passed.0;
       numbers = once.0;
       apart = once.1;
       unreserved = once.2;
@@ -178,6 +178,42 @@ each-kept named right plan p q each xs names rights =
 acting-kept : (counter known modes name said : Bool) → counter ≡ true → (known && said) ≡ true → modes ≡ true → name ≡ true → ((counter && known && modes) && (name && said)) ≡ true
 acting-kept counter known modes name said c k m n = grind arith
 
+-- What the sizes of a core that is within its limits say, one by one.
+record CoreParts (s : CoreSizes) : Type 0 where
+  pub number : is_between 0 15 s.number ≡ true
+  pub start : list_all is_start s.start ≡ true
+  pub tasks : list_all is_task_within s.tasks ≡ true
+  pub isrs : list_all is_isr_within s.isrs ≡ true
+  pub resources : list_all is_resource_within s.resources ≡ true
+  pub counters : list_all is_counter_within s.counters ≡ true
+  pub alarms : list_all is_alarm_within s.alarms ≡ true
+  pub tables : list_all is_table_within s.tables ≡ true
+
+core-parts : (s : CoreSizes) → is_core_within s ≡ true → CoreParts s
+core-parts s h = record {
+  number = grind arith;
+  start = grind arith;
+  tasks = grind arith;
+  isrs = grind arith;
+  resources = grind arith;
+  counters = grind arith;
+  alarms = grind arith;
+  tables = grind arith;
+}
+
+-- An ISR is one that a text can say, if its script is.
+isr-said : (objects : List Declaration) (id : CoreId) (isr : IsrText) → is_name isr.name ≡ true → is_right (isr_verdict objects id isr.script) ≡ true → said.is_script_expressible (isr_plan objects isr).script ≡ true → said.is_isr_expressible (isr_plan objects isr) ≡ true
+isr-said objects id isr name right script = grind arith
+
+-- A core is known and one that a text can say, if its parts are.
+core-joined : (plan : Plan) (core : Core) → limits.is_core_mode plan core.mode ≡ true → list_all (limits.is_script_known plan) (plans.core_scripts core) ≡ true
+    → (list_all (limits.is_task_known plan) core.tasks && list_all said.is_task_expressible core.tasks) ≡ true
+    → list_all said.is_isr_expressible core.isrs ≡ true → list_all said.is_resource_expressible core.resources ≡ true → list_all said.is_counter_expressible core.counters ≡ true
+    → (list_all (limits.is_alarm_known plan) core.alarms && list_all said.is_alarm_expressible core.alarms) ≡ true
+    → (list_all (limits.is_table_known plan) core.tables && list_all said.is_table_expressible core.tables) ≡ true
+    → (limits.is_core_known plan core && said.is_core_expressible core) ≡ true
+core-joined plan core mode scripts tasks isrs resources counters alarms tables = grind arith
+
 module _ (t : ConfigText) (passes : Faultless t) where
   abbrev plan : Plan
   plan = plan_of t
@@ -195,7 +231,7 @@ module _ (t : ConfigText) (passes : Faultless t) where
 
   counters-numbers : (core : CoreText) → is_inside objects core ≡ true → map limits.counter_sizes (map counter_plan core.counters) ≡ map counter_sizes core.counters
   counters-numbers core h =
-      sizes-same limits.counter_sizes counter_plan counter_sizes (λ _. true) is_counter_within (λ counter _ within. grind (arith, nat_tests)) core.counters (always core.counters) (grind arith)
+      sizes-same limits.counter_sizes counter_plan counter_sizes (λ _. true) is_counter_within (λ counter _ within. grind (arith, nat_tests)) core.counters (always core.counters) (core-parts (core_sizes objects core) h).counters
 
   named : (id : CoreId) (name : List ℕ) → is_some (place_of objects ObjectKind.Counter name) ≡ true → NamedCounter plan objects id name
   named id name known =
@@ -214,17 +250,18 @@ module _ (t : ConfigText) (passes : Faultless t) where
       let right = core-right objects core h in
       let both = and_parts (is_inside objects core) (list_all is_table_timed (core_sizes objects core).tables) sound in
       let inside : is_inside objects core ≡ true = both.0 in
-      let tables = all-both is_table_within is_table_timed (core_sizes objects core).tables (grind arith) both.1 in
+      let parts = core-parts (core_sizes objects core) inside in
+      let tables = all-both is_table_within is_table_timed (core_sizes objects core).tables parts.tables both.1 in
       let scripts : map (λ (script : List Op). length script) (plans.core_scripts (core_plan objects core)) ≡ map (λ (script : List ℕ). length (operations_of script)) (core_scripts core) = simp (map-append, map-map, length-map) in
       rw (
-        is-byte 0 7 core.id (grind arith) (omega arith),
-        map-back number_of number_id is_start (λ n low. is-byte _ _ n low (omega arith)) core.start (grind arith),
-        sizes-same limits.task_sizes (task_plan objects) task_sizes (λ _. true) is_task_within (λ task _ within. grind (arith, nat_tests)) core.tasks (always core.tasks) (grind arith),
-        sizes-same limits.isr_sizes (isr_plan objects) isr_sizes (λ _. true) is_isr_within (λ isr _ within. grind (arith, nat_tests)) core.isrs (always core.isrs) (grind arith),
-        sizes-same limits.ceiling_of resource_plan (λ (resource : ResourceText). resource.ceiling) (λ _. true) is_ceiling (λ resource _ within. grind (arith, nat_tests)) core.resources (always core.resources) (grind arith),
+        is-byte 0 15 core.id parts.number (omega arith),
+        map-back number_of number_id is_start (λ n low. is-byte _ _ n low (omega arith)) core.start parts.start,
+        sizes-same limits.task_sizes (task_plan objects) task_sizes (λ _. true) is_task_within (λ task _ within. grind (arith, nat_tests)) core.tasks (always core.tasks) parts.tasks,
+        sizes-same limits.isr_sizes (isr_plan objects) isr_sizes (λ _. true) is_isr_within (λ isr _ within. grind (arith, nat_tests)) core.isrs (always core.isrs) parts.isrs,
+        sizes-same limits.resource_sizes resource_plan resource_sizes (λ _. true) is_resource_within (λ resource _ within. grind (arith, nat_tests)) core.resources (always core.resources) parts.resources,
         counters-numbers core inside,
         sizes-same (limits.alarm_sizes (counter_in plan)) (alarm_plan objects id) (alarm_sizes objects) (λ alarm. is_right (alarm_verdict objects id alarm)) is_alarm_within
-            (λ alarm right within. alarm-sized plan objects id alarm (named id alarm.counter (alarm-parts objects id alarm right).0) within) core.alarms right.alarms (grind arith),
+            (λ alarm right within. alarm-sized plan objects id alarm (named id alarm.counter (alarm-parts objects id alarm right).0) within) core.alarms right.alarms parts.alarms,
         sizes-same (limits.table_sizes (counter_in plan)) (table_plan objects id) (table_sizes objects) (λ table. is_right (table_verdict objects id table)) (λ s. is_table_within s && is_table_timed s) (table-numbers id) core.tables right.tables tables,
         posted-same objects passes.apart core h,
         scripts,
@@ -232,10 +269,12 @@ module _ (t : ConfigText) (passes : Faultless t) where
 
   plan-numbers : limits.sizes_of plan ≡ sizes_of t
   plan-numbers =
-      let inside = and_parts _ (list_all is_core_within (sizes_of t).cores) passes.within in
-      let sound = all-both is_core_within (λ (s : CoreSizes). list_all is_table_timed s.tables) (sizes_of t).cores inside.1 (simp list_all-map passes.timed) in
+      let inside = cores-within (sizes_of t) passes.within in
+      let sound = all-both is_core_within (λ (s : CoreSizes). list_all is_table_timed s.tables) (sizes_of t).cores inside (simp list_all-map passes.timed) in
+      let version = is-byte 1 2 t.version (version-within (sizes_of t) passes.within) (omega arith) in
+      let cap = is-byte 1 16 t.cap (cap-within (sizes_of t) passes.within) (omega arith) in
       let cores = sizes-same (limits.core_sizes plan) (core_plan objects) (core_sizes objects) _ (λ (s : CoreSizes). is_core_within s && list_all is_table_timed s.tables) core-numbers t.cores passes.right sound in
-      rw (length-map t.spinlocks (spinlock_plan objects), cores) (grind (arith, nat_tests, passes.within))
+      rw (length-map t.spinlocks (spinlock_plan objects), cores, version, cap) refl
 
   within : is_within (limits.sizes_of plan) ≡ true
   within = ap is_within plan-numbers ∙ passes.within
@@ -247,7 +286,7 @@ module _ (t : ConfigText) (passes : Faultless t) where
 
   -- None of its cores has nobody's number.
   places : (kind : ObjectKind) (name : List ℕ) (place : Place) → place_of objects kind name ≡ Some place → limits.is_object plan (record { kind = kind; place = place }) ≡ true
-  places = place-known t (cores _ (λ core found inside. found)) (nobody plan (sym (list_all-map is_core_within (limits.core_sizes plan) plan.cores) ∙ (and_parts _ (list_all is_core_within (limits.sizes_of plan).cores) within).1))
+  places = place-known t (cores _ (λ core found inside. found)) (nobody plan (sym (list_all-map is_core_within (limits.core_sizes plan) plan.cores) ∙ cores-within (limits.sizes_of plan) within))
 
   -- What a name with a place stands for.
   place-kept : (kind : ObjectKind) (name : List ℕ) (p : Option Place → Bool) → ((place : Place) → limits.is_object plan (record { kind = kind; place = place }) ≡ true → p (Some place) ≡ true) → is_some (place_of objects kind name) ≡ true → p (place_of objects kind name) ≡ true
@@ -309,7 +348,7 @@ module _ (t : ConfigText) (passes : Faultless t) where
   task-kept id task name right = let script = script-kept task.script (grind arith) (grind arith) in let modes = modes-kept task.auto (grind arith) in grind (arith, script, modes)
 
   isr-kept : (id : CoreId) (isr : IsrText) → is_name isr.name ≡ true → is_right (isr_verdict objects id isr.script) ≡ true → said.is_isr_expressible (isr_plan objects isr) ≡ true
-  isr-kept id isr name right = let script = script-kept isr.script (grind arith) (grind arith) in grind (arith, script)
+  isr-kept id isr name right = let script = script-kept isr.script (grind arith) (grind arith) in isr-said objects id isr name right script
 
   alarm-kept : (id : CoreId) (alarm : AlarmText) → is_name alarm.name ≡ true → is_right (alarm_verdict objects id alarm) ≡ true → (limits.is_alarm_known plan (alarm_plan objects id alarm) && said.is_alarm_expressible (alarm_plan objects id alarm)) ≡ true
   alarm-kept id alarm name right =
@@ -337,7 +376,7 @@ module _ (t : ConfigText) (passes : Faultless t) where
       let counters = each-kept (λ (counter : CounterText). is_name counter.name) (λ (counter : CounterText). true) counter_plan (λ _. true) said.is_counter_expressible (λ counter name _. grind arith) core.counters (simp list_all-map at (named ObjectKind.Counter refl)) (always core.counters) in
       let alarms = each-kept (λ (alarm : AlarmText). is_name alarm.name) (λ (alarm : AlarmText). is_right (alarm_verdict objects id alarm)) (alarm_plan objects id) (limits.is_alarm_known plan) said.is_alarm_expressible (alarm-kept id) core.alarms (simp list_all-map at (named ObjectKind.Alarm refl)) right.alarms in
       let tables = each-kept (λ (table : TableText). is_name table.name) (λ (table : TableText). is_right (table_verdict objects id table)) (table_plan objects id) (limits.is_table_known plan) said.is_table_expressible (table-kept id) core.tables (simp list_all-map at (named ObjectKind.Table refl)) right.tables in
-      grind (arith, core-mode-kept core.mode right.mode, scripts-known core, tasks, isrs, resources, counters, alarms, tables)
+      core-joined plan (core_plan objects core) (core-mode-kept core.mode right.mode) (scripts-known core) tasks (and_parts _ _ isrs).1 (and_parts _ _ resources).1 (and_parts _ _ counters).1 alarms tables
 
   master-found : is_some (core_of plan plan.master) ≡ true
   master-found =

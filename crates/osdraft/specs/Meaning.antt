@@ -45,7 +45,7 @@ isr_plan objects isr = record {
 }
 
 abbrev pub resource_plan : ResourceText → Resource
-resource_plan resource = record { name = resource.name; ceiling = byte_of resource.ceiling }
+resource_plan resource = record { name = resource.name; ceiling = byte_of resource.ceiling; lock = word_of resource.lock }
 
 abbrev pub counter_plan : CounterText → Counter
 counter_plan counter = record { name = counter.name; max = word_of counter.max; min = word_of counter.min; software = counter.software }
@@ -95,6 +95,7 @@ core_plan objects core = record {
 
 abbrev pub plan_of : ConfigText → Plan
 plan_of t = record {
+  version = byte_of t.version;
   cap = byte_of t.cap;
   master = number_id t.master;
   modes = t.modes;

@@ -59,7 +59,7 @@ fn plan_if_faultless(alloc: Global, text: &ConfigText) -> Result<Plan, ConfFault
     }
 }
 
-/// The configuration that a JSON text means, version 1 of the format. Of several faults the one of
+/// The configuration that a JSON text means, of version 1 or 2 of the format. Of several faults the one of
 /// smallest number is answered; past `NotJson` and `Shape` nothing more is judged. `NoMemory` where
 /// memory runs out, and never another answer in its place.
 pub fn read_config(alloc: Global, text: &str) -> Result<Config, ConfFault>

@@ -132,6 +132,7 @@ impl<'e> Planner<'e, ResourceText<'e>, Resource> for CorePlanner<'_, 'e> {
             value: Resource {
                 name: Name::new(alloc, resource.name.as_str())?,
                 ceiling: byte_of(resource.ceiling),
+                lock: word_of(resource.lock),
             },
             verdict: Verdict::all_right(),
         })
@@ -324,6 +325,7 @@ pub fn plan_of<'e>(
     let cores = plan_each(alloc, &planner, text.cores.as_slice())?;
     Ok(Judged {
         value: Plan {
+            version: byte_of(text.version),
             cap: byte_of(text.cap),
             master: number_id(text.master),
             modes: names_of(alloc, text.modes.as_slice())?,

@@ -2,3 +2,4 @@ pub mod Owned
 pub mod Allowed
 pub mod Actions
 pub mod Postings
+pub mod Counted

@@ -28,11 +28,11 @@ IsRow v = (verb_of (word_of v) ≡ Some v) × (is_plain (word_of v) ≡ true) ×
     × ((args : List (Arg Place)) → (form_of_op (op_of (v, args))).0 ≡ v) × ((args : List (Arg Place)) → are_of (kinds_of v) args ≡ true → (form_of_op (op_of (v, args))).1 ≡ map at_home args)
 
 -- A status is read back from its number.
-status-number : (n : ℕ) → nat_le n 15 ≡ true → n < 16
-status-number n fit = let most : n ≤ 15 = leb-true n 15 fit in omega arith
+status-number : (n : ℕ) → nat_le n 16 ≡ true → n < 17
+status-number n fit = let most : n ≤ 16 = leb-true n 16 fit in omega arith
 
 status-kept : (args : List (Arg Place)) → are_of (STATUS ∷ []) args ≡ true → status_argument (status_at args 0) ∷ [] ≡ map at_home args
-status-kept (Number n ∷ []) fit = ap (λ (m : ℕ). Number m ∷ []) (number_back n (status-number n (and_parts (nat_le 0 n) _ (and_parts (nat_le 0 n && nat_le n 15) true fit).0).1))
+status-kept (Number n ∷ []) fit = ap (λ (m : ℕ). Number m ∷ []) (number_back n (status-number n (and_parts (nat_le 0 n) _ (and_parts (nat_le 0 n && nat_le n 16) true fit).0).1))
 status-kept (arg ∷ more ∷ args) fit = absurd (false≢true (and_parts (is_of STATUS arg) false fit).1)
 status-kept args fit = cc
 

@@ -9,7 +9,7 @@ use crate::outcomes::Outcome;
 use crate::runs::{input_of, print_reports};
 use crate::sources::Source;
 use crossbeam_utils::CachePadded;
-use osbase::{CONFIGURED_CORES, CoreId};
+use osbase::{CORES, CoreId};
 use osthreads::{Gate, MailKind, run_threads};
 use ostrace::Sink;
 use std::alloc::Global;
@@ -18,15 +18,14 @@ use std::sync::atomic::{AtomicBool, AtomicU64, Ordering};
 use std::thread::Threads;
 use std::{array, thread};
 
-/// The turns of a whole round of as many cores as there may be.
-const ROUND: u64 = CONFIGURED_CORES as u64 + 1;
-
 /// The gate of the program: each thread may start, and a core that found nothing to do in a whole round lets another one
 /// go on. Most turns of a core that works change nothing, since a round serves every other core.
 #[derive(Drop)]
 pub struct Yielding {
+    // The turns of a whole round of the run's cores.
+    round: u64,
     // Each core writes what is its own alone, on a cache line of its own.
-    cores: [CachePadded<Fruitless>; CONFIGURED_CORES],
+    cores: [CachePadded<Fruitless>; CORES],
 }
 
 #[derive(Drop)]
@@ -36,8 +35,11 @@ struct Fruitless {
 }
 
 impl Yielding {
-    pub fn new() -> Self {
+    /// The gate of a run of so many cores. A core's round serves each other one, goes on with its own work, and looks at the
+    /// board.
+    pub fn new(cores: usize) -> Self {
         Yielding {
+            round: (cores as u64).wrapping_add(1),
             cores: array::from_fn(|_| {
                 CachePadded::new(Fruitless {
                     turns: AtomicU64::new(0),
@@ -69,8 +71,10 @@ impl Gate for Yielding {
         };
         fruitless.was_last.store(true, Ordering::Relaxed);
         let turns = fruitless.turns.load(Ordering::Relaxed).wrapping_add(1);
-        fruitless.turns.store(turns, Ordering::Relaxed);
-        if turns % ROUND == 0 {
+        if turns < self.round {
+            fruitless.turns.store(turns, Ordering::Relaxed);
+        } else {
+            fruitless.turns.store(0, Ordering::Relaxed);
             thread::yield_now();
         }
     }
@@ -97,7 +101,7 @@ pub fn run_by_threads<R: Threads + Wait + Sync, S: Source + Drop, O: Sink>(
         &config,
         &stimuli,
         MailKind::Locked,
-        &Yielding::new(),
+        &Yielding::new(config.plan().cores.len()),
         turns,
     )?;
     print_reports(alloc, &config, items, out, reports.as_slice())

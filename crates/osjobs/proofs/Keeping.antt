@@ -17,7 +17,7 @@ use Rattle.osbase.specs.declared.limits.TheConstants.{RUNNERS, TASKS}
 use Rattle.osbase.specs.History.{is_waiting, job_count, oldest, same_core, same_runner, same_task, stamped_anew, without_oldest}
 use Rattle.osbase.specs.Sets.{slot_of}
 use Rattle.osbase.proofs.Same.{same_core-true, same_core-refl, same_runner-true}
-use Rattle.oscript.specs.Runners.{Row, first_row}
+use Rattle.oscript.specs.Runners.{Row, first_row, holding}
 use Rattle.osbase.proofs.Places.{passes-at}
 use Rattle.osqueue.specs.declared.ready.Ready.{Ready}
 use Rattle.osqueue.specs.Ordered.{ComesBefore, is_same, placed, without}
@@ -180,8 +180,8 @@ module _ (r : Runner) (f : Row → Row) (rows : List Row) where
       here k within e h = is.each k within (subst (λ (n : ℕ). holds_any (row_at n rows).held ≡ true) (sym e) (fewer h))
 
 pub raised-holders : (r : Runner) (x : HeldResource) (rows : List Row) (word new : ℕ) → AreHolders rows word → (slot_of r < TASKS → bit_at new (slot_of r) ≡ 1) → ((k : ℕ) → bit_at word k ≡ 1 → bit_at new k ≡ 1)
-    → AreHolders (with_row r (λ (row : Row). record row { held = x ∷ row.held }) rows) new
-raised-holders r x rows word new is mine others = record { each = λ k within. row-cases (λ (row : Row). holds_any row.held ≡ true → bit_at new k ≡ 1) (record (row_in r rows) { held = x ∷ (row_in r rows).held }) rows (slot_of r) k (here k within) (λ h. others k (is.each k within h)) }
+    → AreHolders (with_row r (holding x) rows) new
+raised-holders r x rows word new is mine others = record { each = λ k within. row-cases (λ (row : Row). holds_any row.held ≡ true → bit_at new k ≡ 1) (holding x (row_in r rows)) rows (slot_of r) k (here k within) (λ h. others k (is.each k within h)) }
   where
     here : (k : ℕ) → k < TASKS → k ≡ slot_of r → true ≡ true → bit_at new k ≡ 1
     here k within e h = subst (λ (n : ℕ). bit_at new n ≡ 1) (sym e) (mine (subst (λ (n : ℕ). n < TASKS) e within))

@@ -4,3 +4,4 @@ pub mod Jobs
 pub mod Live
 pub mod Ranking
 pub mod Queue
+pub mod Locks

@@ -11,8 +11,9 @@ ghost use Rattle.osbase.specs.Interrupts.{is_pending_among, oldest_entered, with
 ghost use Rattle.osbudget.specs.Budget.{is_reached};
 ghost use Rattle.oscript.specs.declared.Op.{Op as OpValue};
 ghost use Rattle.oscript.specs.Frames.{action_at};
-ghost use Rattle.osrunner.specs.Rows.{depth_in, events_in, frame_in, held_in, is_occupied, used_in};
+ghost use Rattle.osrunner.specs.Rows.{depth_in, events_in, frame_in, held_in, is_occupied, lock_used_in, row_in, used_in};
 ghost use Rattle.osjobs.specs.Jobs.{Each, best_among, best_task_among, current_among, first_jobs, is_locked_in, is_plain, jobs_by, running_among};
+ghost use Rattle.osjobs.specs.Locks.{is_overheld};
 ghost use Rattle.osjobs.specs.Priorities.{holds_any, is_newest, is_own_runner};
 ghost use Rattle.osjobs.specs.OwnTasks.{are_below, is_own_task, own_tasks};
 ghost use Rattle.osjobs.specs.Queue.{AreHolders, dequeued, enqueued, entry_of, have_queues};
@@ -24,7 +25,7 @@ use crate::current::{job_anew, job_joined, job_left, left_by};
 use crate::live::{self, Counts};
 use crate::own_tasks::OwnTasks;
 use crate::slots::{IsrSlot, JobSlot};
-use crate::{entered, priorities};
+use crate::{entered, locks, priorities};
 use arrayvec::ArrayVec;
 use osbase::{
     HeldResource, INTERRUPTS, ISRS, IsrRef, Item, Job, Mark, RESOURCES, RUNNERS, Runner, ServiceId,
@@ -184,10 +185,11 @@ impl<const P: usize, const J: usize> Jobs<P, J> {
         self.rows.unlock_interrupts(runner);
     }
 
-    /// A tick: the running job, if there is one, has used one more of its budget (AUTOSAR SWS OS 4.x, SWS_Os_00028). No
-    /// script is read.
+    /// A tick: the running job, if there is one, has used one more of its budget (AUTOSAR SWS OS 4.x, SWS_Os_00028), and of
+    /// the lock budget of each resource that it holds (the project's own). No script is read.
     pub fn tick(&mut self)
         requires count { (r : RunnerValue) → used_in r self.old.rows < 2 ^ 63 }
+        requires locks { (r : RunnerValue) → All (λ ticks. ticks < 2 ^ 63) (lock_used_in r self.old.rows) }
         ensures { (script : List OpValue) → self.new ≡ jobs_by script (Printed Mark.Tick) 0 self.old }
     {
         if let Some(job) = self.running() {
@@ -416,6 +418,14 @@ impl<const P: usize, const J: usize> Jobs<P, J> {
         ensures { result ≡ is_reached budget (used_in runner self.now.rows) }
     {
         self.rows.is_spent(runner, budget)
+    }
+
+    /// Whether the oldest job of a runner has reached the lock budget of a resource that it holds, of ticks since it took that
+    /// (the project's own).
+    pub fn is_overheld(&self, core: &Core, runner: Runner) -> bool
+        ensures { result ≡ is_overheld core.now (row_in runner self.now.rows) }
+    {
+        locks::is_overheld(core, &self.rows, runner)
     }
 
     /// Whether a job holds the resource of this index.

@@ -7,6 +7,7 @@ mod current;
 mod entered;
 pub mod jobs;
 mod live;
+mod locks;
 mod own_tasks;
 mod priorities;
 mod slots;

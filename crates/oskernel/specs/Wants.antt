@@ -90,13 +90,14 @@ is_want_known want = true
 abbrev pub watch_halt : KernelState → Watch
 watch_halt s = if may_look_halt s then Watch.Halt else Watch.Nothing
 
--- What its look at the board waits for: to be started, a gate, a shutdown of all cores, the end, or nothing.
+-- What its look at the board waits for: to be started, a gate, a shutdown of all cores, that the cores which were started at the second
+-- gate have drained, the end, or nothing.
 abbrev pub watch_from : Phase → KernelState → Watch
 watch_from Phase.Off s = Watch.On
 watch_from Phase.FirstGate s = Watch.FirstGate
 watch_from Phase.SecondGate s = Watch.SecondGate
 watch_from Phase.Live s = watch_halt s
-watch_from Phase.Drained s = Watch.PassEnd
+watch_from Phase.Drained s = Watch.PassEnd s.progress.started
 watch_from Phase.Closing s = Watch.Last
 watch_from Phase.Boot s = Watch.Nothing
 watch_from Phase.BetweenGates s = Watch.Nothing

@@ -51,7 +51,7 @@ impl<'a, const P: usize, const J: usize, const OUT: usize> Model for Kernel<'a, 
 
 impl<'a, const P: usize, const J: usize, const OUT: usize> Kernel<'a, P, J, OUT> {
     /// The kernel of a configured core that took no item. `OUT` is at least what the actions of its
-    /// alarms and schedule tables may fill at once, and 8 more.
+    /// alarms and schedule tables may fill at once, and 16 more: its own call, and fifteen replies.
     pub fn new(config: &'a Config, core: CoreId) -> Self
         requires configured { IsSome (core_of config.now core) }
         requires priorities { IsTrue (list_all (λ (t : TaskValue). nat_lt t.priority P) (view_of config.now core).own.tasks) }
@@ -130,6 +130,7 @@ impl<'a, const P: usize, const J: usize, const OUT: usize> Kernel<'a, P, J, OUT>
     }
 
     /// What the core's look at the board waits for.
+    #[inline(always)]
     pub fn watch(&self) -> Watch
         ensures state { result ≡ watch_in self.now }
         ensures reads { Reads (λ v h. watch_of v h) self.now result }
@@ -139,7 +140,7 @@ impl<'a, const P: usize, const J: usize, const OUT: usize> Kernel<'a, P, J, OUT>
             Phase::FirstGate => Watch::FirstGate,
             Phase::SecondGate => Watch::SecondGate,
             Phase::Live => self.watch_halt(),
-            Phase::Drained => Watch::PassEnd,
+            Phase::Drained => Watch::PassEnd(self.state.started_cores()),
             Phase::Closing => Watch::Last,
             Phase::Boot => Watch::Nothing,
             Phase::BetweenGates => Watch::Nothing,

@@ -6,7 +6,7 @@ ghost use Rattle.oskernel.specs.declared.wants.SpinWish.TheVariants as Wish;
 ghost use Rattle.oskernel.specs.declared.wants.Want.TheVariants.{Spin};
 ghost use Rattle.oskernel.specs.Wants.{go_on_by, start_or_enter as next_or_enter, want_call, want_for};
 
-use osbase::{Awaited, CoreId, Course, OpenCall, SpinlockId, Status};
+use osbase::{Awaited, CoreId, CoreSet, Course, OpenCall, SpinlockId, Status};
 
 /// What a core wants of a spinlock.
 #[derive(Clone, Copy, Debug, PartialEq, Eq)]
@@ -53,8 +53,8 @@ pub enum Watch {
     SecondGate,
     /// That a shutdown of all cores is asked for.
     Halt,
-    /// That all started cores have drained.
-    PassEnd,
+    /// That these have drained: the cores that were started when the second gate opened.
+    PassEnd(CoreSet),
     /// The end, and who asked for a shutdown of all cores.
     Last,
     /// Nothing.

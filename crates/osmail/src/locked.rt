@@ -8,43 +8,55 @@ ghost use Rattle.osmail.specs.declared.ends.MailStep.TheVariants.{Sent, Taken};
 use crate::ends::{Mail, MailStep};
 use crate::mailbox::Mailbox;
 use crossbeam_utils::CachePadded;
-use osbase::{CONFIGURED_CORES, CoreId, Envelope};
+use osbase::{CORE_NUMBERS, CORES, CoreId, Envelope};
 use std::alloc::{AllocError, Global};
 use std::sync::{Mutex, Wait};
 
 // Two mailboxes share no cache line, so that a core that uses one does not slow those that use another.
 type Locked<const CAP: usize> = CachePadded<Mutex<Mailbox<CAP>>>;
 
-/// A mailbox under a lock of its own for each ordered pair of cores: a row of them for each sender.
+/// A mailbox under a lock of its own for each ordered pair of the cores that it is made for: a row of them for each sender.
 #[derive(Drop)]
 pub struct LockedMail<const CAP: usize> {
+    // By a core's number: the place of its row, and of its mailbox in each row, if it is one of these cores.
+    places: Vec<Option<usize>>,
     rows: Vec<Vec<Locked<CAP>>>,
 }
 
 impl<const CAP: usize> LockedMail<CAP> {
-    /// Empty mailboxes, in each of which at most `cap` envelopes may stand. All the memory that the
+    /// Empty mailboxes between these cores, in each of which at most `cap` envelopes may stand. All the memory that the
     /// mailboxes ever need is taken here.
-    pub fn new(alloc: Global, cap: usize) -> Result<Self, AllocError>
+    pub fn new(alloc: Global, cores: &[CoreId], cap: usize) -> Result<Self, AllocError>
         requires { cap ≤ CAP }
     {
-        let mut rows = Vec::with_capacity(alloc, CONFIGURED_CORES)?;
-        for number in 0..CONFIGURED_CORES as u8 {
-            rows.push(row(alloc, CoreId { number }, cap)?)?;
+        let mut rows = Vec::with_capacity(alloc, cores.len())?;
+        for from in cores {
+            rows.push(row(alloc, *from, cores, cap)?)?;
         }
-        Ok(LockedMail { rows })
+        Ok(LockedMail {
+            places: places_of(alloc, cores)?,
+            rows,
+        })
+    }
+
+    // The place of the core's row, and of its mailbox in each row.
+    fn place(&self, core: CoreId) -> Option<usize> {
+        let place = self.places.as_slice().get(usize::from(core.number))?;
+        *place
     }
 
     // The mailbox of an ordered pair.
     fn mailbox(&self, from: CoreId, to: CoreId) -> Option<&Mutex<Mailbox<CAP>>> {
-        let row = self.rows.as_slice().get(usize::from(from.number))?;
-        let mailbox = row.as_slice().get(usize::from(to.number))?;
+        let row = self.rows.as_slice().get(self.place(from)?)?;
+        let mailbox = row.as_slice().get(self.place(to)?)?;
         Some(mailbox)
     }
 
     /// The mailbox of an ordered pair, when no end of it is left.
     pub fn left(&mut self, from: CoreId, to: CoreId) -> Option<&mut Mailbox<CAP>> {
-        let row = self.rows.get_mut(usize::from(from.number))?;
-        let mailbox = row.get_mut(usize::from(to.number))?;
+        let (from, to) = (self.place(from)?, self.place(to)?);
+        let row = self.rows.get_mut(from)?;
+        let mailbox = row.get_mut(to)?;
         Some(mailbox.get_mut())
     }
 
@@ -70,16 +82,31 @@ impl<const CAP: usize> LockedMail<CAP> {
 fn row<const CAP: usize>(
     alloc: Global,
     from: CoreId,
+    cores: &[CoreId],
     cap: usize,
 ) -> Result<Vec<Locked<CAP>>, AllocError>
     requires { cap ≤ CAP }
 {
-    let mut row = Vec::with_capacity(alloc, CONFIGURED_CORES)?;
-    for number in 0..CONFIGURED_CORES as u8 {
-        let mailbox = Mailbox::new(alloc, from, CoreId { number }, cap)?;
+    let mut row = Vec::with_capacity(alloc, cores.len())?;
+    for to in cores {
+        let mailbox = Mailbox::new(alloc, from, *to, cap)?;
         row.push(CachePadded::new(Mutex::new(mailbox)))?;
     }
     Ok(row)
+}
+
+// By a core's number: its place among these cores, so that no send and no take has to look for it.
+fn places_of(alloc: Global, cores: &[CoreId]) -> Result<Vec<Option<usize>>, AllocError> {
+    let mut places = Vec::with_capacity(alloc, CORES)?;
+    for number in 0..CORE_NUMBERS {
+        places.push(place_in(cores, CoreId { number }))?;
+    }
+    Ok(places)
+}
+
+// The core's place among these.
+fn place_in(cores: &[CoreId], core: CoreId) -> Option<usize> {
+    cores.iter().position(|one| one.number == core.number)
 }
 
 /// One core's end of the locked mail. It records what it sent and took, so that two ends can be compared

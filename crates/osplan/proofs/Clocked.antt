@@ -1,14 +1,21 @@
 -- A kernel has room for the counters, alarms and tables of each configured core, and what that says of them, by name.
-use Rattle.std.proofs.Common.{◌≡◌, ℕ, ◌≤◌, true, ◌&&◌, nat_le, Bool, length, Some, IsTrue, sym, ap, ◌∙◌, arith}
+use Rattle.std.proofs.Common.{◌≡◌, ℕ, ◌≤◌, true, ◌&&◌, nat_le, Bool, length, Some, IsTrue, refl, sym, ap, ◌∙◌, arith}
 use Rattle.std.specs.List.{list_all}
 use Rattle.std.proofs.{lemmas.Bool.and_parts, lemmas.Bool.Decides.nat_tests, lemmas.List.length-map, lemmas.List.Folds.list_all-map}
 use Rattle.osbase.specs.{declared.references.CoreId.CoreId, History.same_core}
 use Rattle.osbase.proofs.Same.{same_core-true}
 use Rattle.osplan.specs.{declared.plans.Alarm.Alarm, declared.plans.AlarmStart.AlarmStart, declared.plans.Core.Core, declared.plans.Counter.Counter, declared.plans.Plan.Plan}
 use Rattle.osplan.specs.{declared.plans.Table.Table, Clocked.are_clocks_within, Clocked.is_alarm_attached, Clocked.is_table_attached, Clocked.own_table_sizes, View.core_of, View.own_counter}
-use Rattle.osplan.specs.Limits.{alarm_sizes, is_core_timed, is_table_timed, is_table_within, is_cycle, core_sizes, counter_sizes, is_alarm_within, is_core_known, is_core_near, is_core_within, is_counter_within, is_within_limits}
+use Rattle.osplan.specs.Limits.{CoreSizes, alarm_sizes, are_alarms_within, are_counters_within, are_tables_within, is_core_timed, is_table_timed, is_table_within, is_cycle, core_sizes, counter_sizes, is_alarm_within, is_core_known, is_core_near, is_core_within, is_counter_within, is_within_limits}
 use Rattle.osplan.proofs.{Alarming.attached, Alarming.known-parts, Alarming.own-sizes, Alarming.own-tables, Alarming.own-timed, Alarming.tables-attached, Within.limit-parts, Within.near-parts}
 use Rattle.osplan.proofs.Tests.{all-weaker, find-holds, find-passes}
+
+-- The counters, alarms and tables of sizes that are within the limits.
+parts-within : (s : CoreSizes) → is_core_within s ≡ true → (are_counters_within s.counters ≡ true) × ((are_alarms_within s.alarms ≡ true) × (are_tables_within s.tables ≡ true))
+parts-within s h = (grind arith, (grind arith, grind arith))
+
+all-of : (a b c d e f : Bool) → a ≡ true → b ≡ true → c ≡ true → d ≡ true → e ≡ true → f ≡ true → (a && b && c && d && e && f) ≡ true
+all-of a b c d e f one two three four five six = rw (one, two, three, four, five, six) refl
 
 pub clocks_within : (plan : Plan) (id : CoreId) (core : Core) → IsTrue (is_within_limits plan) → core_of plan id ≡ Some core → are_clocks_within core ≡ true
 clocks_within plan id core limits found =
@@ -18,11 +25,11 @@ clocks_within plan id core limits found =
     let near = near-parts core (pick is_core_near inside.near) in
     let known = known-parts plan core mine (pick (is_core_known plan) inside.known) in
     let limited : is_core_within (core_sizes plan core) ≡ true = pick (λ (c : Core). is_core_within (core_sizes plan c)) inside.cores in
-    let held = rw (own-sizes plan core mine near.alarms, own-tables plan core mine near.tables) at limited in
-    let alarms = attached plan core mine known.alarms near.alarms in
-    let tables = tables-attached plan core mine known.tables near.tables in
+    let held = parts-within (core_sizes plan core) limited in
+    let alarms = rw (own-sizes plan core mine near.alarms) at held.1.0 in
+    let tables = rw (own-tables plan core mine near.tables) at held.1.1 in
     let timed = sym (own-timed plan core mine near.tables) ∙ pick (is_core_timed plan) inside.timed in
-    grind arith
+    all-of _ _ _ _ _ _ held.0 alarms (attached plan core mine known.alarms near.alarms) tables (tables-attached plan core mine known.tables near.tables) timed
 
 -- ---- what it says
 

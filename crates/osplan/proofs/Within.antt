@@ -6,11 +6,15 @@ use Rattle.osbase.specs.{declared.references.CoreId.CoreId, declared.objects.Obj
 use Rattle.osplan.specs.{declared.plans.Plan.Plan, declared.plans.Alarm.Alarm, declared.plans.Core.Core, declared.plans.Counter.Counter, declared.plans.Isr.Isr, declared.plans.Resource.Resource}
 use Rattle.osplan.specs.{declared.plans.Table.Table, declared.plans.Task.Task, Objects.core_scripts, Objects.names_in, Objects.object_count, Objects.posted_at_once, View.core_of}
 use Rattle.osplan.specs.Spinlocks.{are_links_ordered, links_of}
-use Rattle.osplan.specs.Limits.{CoreSizes, Sizes, count_in, most_of, is_between, is_core_numbered, task_sizes, core_sizes, sizes_of, is_task_within, is_alarm_near, is_core_timed, is_table_near, stays_on, is_core_within, is_within, is_ceiling, ceiling_of, is_core_known, is_core_near, is_spinlock_known, numbers_of, are_numbers_distinct, is_within_limits}
+use Rattle.osplan.specs.Limits.{CoreSizes, Sizes, count_in, most_of, is_between, is_by, is_core_numbered, is_versioned, task_sizes, core_sizes, sizes_of, is_task_within, is_alarm_near, is_core_timed, is_table_near, stays_on, is_core_within, is_within, is_resource_within, resource_sizes, is_core_known, is_core_near, is_spinlock_known, numbers_of, are_numbers_distinct, is_within_limits}
 use Rattle.osplan.specs.Expressible.{is_isr_expressible, is_mode_expressible, is_spinlock_expressible, are_distinct, declared_names, is_task_expressible, is_resource_expressible, is_counter_expressible, is_alarm_expressible, is_table_expressible, is_core_expressible, is_expressible}
 use Rattle.osplan.proofs.Tests.{all-weaker, find-passes}
 
 -- ---- the parts of both tests
+
+-- The cores of sizes within the limits are.
+pub cores-within : (s : Sizes) → is_within s ≡ true → list_all is_core_within s.cores ≡ true
+cores-within s h = (and_parts _ (list_all is_core_within s.cores) (and_parts (is_versioned s) (is_by is_core_within s) h).1).1
 
 pub record LimitParts (plan : Plan) : Type 0 where
   pub sizes : is_within (sizes_of plan) ≡ true
@@ -25,9 +29,24 @@ pub record LimitParts (plan : Plan) : Type 0 where
 
 pub limit-parts : (plan : Plan) → IsTrue (is_within_limits plan) → LimitParts plan
 limit-parts plan h =
-    let cores : list_all is_core_within (map (core_sizes plan) plan.cores) ≡ true = grind arith in
-    let each = sym (list_all-map is_core_within (core_sizes plan) plan.cores) ∙ cores in
-    search arith
+    let ordered = and_parts _ (are_links_ordered (links_of plan.spinlocks)) h in
+    let linked = and_parts _ (list_all (is_spinlock_known plan) plan.spinlocks) ordered.0 in
+    let timed = and_parts _ (list_all (is_core_timed plan) plan.cores) linked.0 in
+    let near = and_parts _ (list_all is_core_near plan.cores) timed.0 in
+    let known = and_parts _ (list_all (is_core_known plan) plan.cores) near.0 in
+    let master = and_parts _ (is_some (core_of plan plan.master)) known.0 in
+    let sizes = and_parts (is_within (sizes_of plan)) (are_numbers_distinct (numbers_of plan.cores)) master.0 in
+    record {
+      sizes = sizes.0;
+      cores = sym (list_all-map is_core_within (core_sizes plan) plan.cores) ∙ cores-within (sizes_of plan) sizes.0;
+      distinct = sizes.1;
+      master = master.1;
+      known = known.1;
+      near = near.1;
+      timed = timed.1;
+      linked = linked.1;
+      ordered = ordered.1;
+    }
 
 pub record TextParts (plan : Plan) : Type 0 where
   pub modes : list_all is_mode_expressible plan.modes ≡ true
@@ -94,6 +113,12 @@ few-of s h kind = grind arith
 pub between : (low high n : ℕ) → is_between low high (Some n) ≡ true → (low ≤ n) × (n ≤ high)
 between low high n h = search (arith, nat_tests)
 
+pub version-within : (s : Sizes) → is_within s ≡ true → is_between 1 2 s.version ≡ true
+version-within s h = grind arith
+
+pub cap-within : (s : Sizes) → is_within s ≡ true → is_between 1 16 s.cap ≡ true
+cap-within s h = grind arith
+
 pub few-modes : (s : Sizes) → is_within s ≡ true → s.modes ≤ 8
 few-modes s h = (between 1 8 s.modes (grind arith)).1
 
@@ -103,11 +128,14 @@ few-spinlocks s h = leb-true s.spinlocks 16 (grind arith)
 task-fits : (task : Task) → is_task_within (task_sizes task) ≡ true → (nat_lt task.priority 32 ≡ true) × (nat_le 1 task.activations ≡ true)
 task-fits task h = grind (arith, nat_tests)
 
+resource-fits : (resource : Resource) → is_resource_within (resource_sizes resource) ≡ true → nat_lt resource.ceiling 32 ≡ true
+resource-fits resource h = grind (arith, nat_tests)
+
 pub fits : (plan : Plan) (core : Core) → is_core_within (core_sizes plan core) ≡ true → FitsKernel core
 fits plan core h =
-    let told = simp (length-map, list_all-map is_task_within, list_all-map is_ceiling, fold-map) at h in
+    let told = simp (length-map, list_all-map is_task_within, list_all-map is_resource_within, fold-map) at h in
     let tasks : list_all (λ (t : Task). is_task_within (task_sizes t)) core.tasks ≡ true = grind arith in
-    let ceilings : list_all (λ (r : Resource). is_ceiling (ceiling_of r)) core.resources ≡ true = grind arith in
+    let resources : list_all (λ (r : Resource). is_resource_within (resource_sizes r)) core.resources ≡ true = grind arith in
     record {
       number = grind arith;
       posted = grind arith;
@@ -120,7 +148,7 @@ fits plan core h =
       tables = grind arith;
       priorities = all-weaker _ _ (λ t h. (task-fits t h).0) core.tasks tasks;
       some = all-weaker _ _ (λ t h. (task-fits t h).1) core.tasks tasks;
-      ceilings = all-weaker _ _ (λ r h. grind (arith, nat_tests)) core.resources ceilings;
+      ceilings = all-weaker _ _ resource-fits core.resources resources;
     }
 
 -- Each configured core fits.

@@ -1,10 +1,10 @@
 -- The limits of a configuration's numbers, each said once: a text that is read, the configuration that it means and the text that
 -- is written of it are judged by one test of their numbers. And that each reference of a configuration names an object of it.
 -- Each is a test, so that a literal configuration passes it by computation.
-use Rattle.std.specs.Prelude.{ℕ, ◌-◌, ◌==◌, ◌&&◌, ◌||◌, nat_le, nat_lt, Bool, true, false, not, Option, Some, None, is_some, option_map, unwrap_or, List, [], ◌∷◌, length, map, sum_by}
+use Rattle.std.specs.Prelude.{ℕ, ◌-◌, ◌==◌, ◌&&◌, ◌||◌, if◌then◌else◌, nat_le, nat_lt, Bool, true, false, not, Option, Some, None, is_some, option_map, unwrap_or, List, [], ◌∷◌, length, map, sum_by}
 use Rattle.std.specs.List.{list_all, list_any}
 use Rattle.std.specs.Option.{option_map_or}
-use Rattle.osbase.specs.declared.limits.TheConstants.{ACTIONS, ALARMS, CONFIGURED_CORES, COUNTERS, GREATEST_BUDGET, GREATEST_DURATION, GREATEST_VALUE, ISRS, JOBS, LEVELS, MAILBOX, MODES, OPERATIONS, POINTS, POSTED, RESOURCES, SPINLOCKS, TABLES, TASKS}
+use Rattle.osbase.specs.declared.limits.TheConstants.{ACTIONS, ALARMS, CORES, COUNTERS, FIRST_CORES, GREATEST_BUDGET, GREATEST_DURATION, GREATEST_VALUE, ISRS, JOBS, LEVELS, MAILBOX, MODES, OPERATIONS, POINTS, POSTED, RESOURCES, SPINLOCKS, TABLES, TASKS}
 use Rattle.osbase.specs.declared.references.CoreId.{CoreId}
 use Rattle.osbase.specs.declared.references.CounterRef.{CounterRef}
 use Rattle.osbase.specs.declared.references.ModeId.{ModeId}
@@ -47,6 +47,10 @@ pub record IsrSizes : Type 0 where
   pub level : Option ℕ
   pub budget : Option ℕ
 
+pub record ResourceSizes : Type 0 where
+  pub ceiling : Option ℕ
+  pub lock : Option ℕ
+
 pub record CounterSizes : Type 0 where
   pub max : Option ℕ
   pub min : Option ℕ
@@ -76,7 +80,7 @@ pub record CoreSizes : Type 0 where
   pub start : List (Option ℕ)
   pub tasks : List TaskSizes
   pub isrs : List IsrSizes
-  pub resources : List (Option ℕ)
+  pub resources : List ResourceSizes
   pub counters : List CounterSizes
   pub alarms : List (Option StartSizes)
   pub tables : List TableSizes
@@ -84,6 +88,7 @@ pub record CoreSizes : Type 0 where
   pub scripts : List ℕ
 
 pub record Sizes : Type 0 where
+  pub version : Option ℕ
   pub modes : ℕ
   pub spinlocks : ℕ
   pub cap : Option ℕ
@@ -103,7 +108,7 @@ count_in ObjectKind.Table s = length s.tables
 -- ---- how many there may be at most, of each kind on a core or that all have in common, and of cores [own]
 
 abbrev pub most_cores : ℕ
-most_cores = CONFIGURED_CORES
+most_cores = CORES
 
 abbrev pub most_of : ObjectKind → ℕ
 most_of ObjectKind.Mode = MODES
@@ -131,7 +136,8 @@ abbrev pub most_activations : Bool → ℕ
 most_activations true = 1
 most_activations false = 64
 
--- An execution budget in ticks, of which 0 stands for none [AUTOSAR SWS OS 4.x, OsTaskExecutionBudget; the most is own].
+-- A budget in ticks, of execution or of a lock, of which 0 stands for none [AUTOSAR SWS OS 4.x, OsTaskExecutionBudget and
+-- OsTaskResourceLockBudget; the most is own].
 abbrev pub is_budget : Option ℕ → Bool
 is_budget budget = is_between 0 GREATEST_BUDGET budget
 
@@ -159,6 +165,10 @@ is_start number = is_between 0 255 number
 -- A resource's ceiling, among the priorities: 0 to 31 [OSEK/VDX OS 2.2.3, section 8.5; the highest is own].
 abbrev pub is_ceiling : Option ℕ → Bool
 is_ceiling number = is_between 0 31 number
+
+-- A resource: its ceiling, and its lock budget [AUTOSAR SWS OS 4.x, OsTaskResourceLockBudget; that all its holders have one is own].
+abbrev pub is_resource_within : ResourceSizes → Bool
+is_resource_within s = is_ceiling s.ceiling && is_budget s.lock
 
 -- A counter's greatest value and its least cycle, which is no greater [AUTOSAR SWS OS 4.x, OsCounterMaxAllowedValue and
 -- OsCounterMinCycle; the most is own].
@@ -219,27 +229,44 @@ are_tables_within tables = nat_le (length tables) (most_of ObjectKind.Table) && 
 abbrev pub jobs_of : TaskSizes → ℕ
 jobs_of s = unwrap_or s.activations 0
 
--- A core: number 0 to 7, its tasks, at most 64 jobs of all its tasks at once, its ISRs, resources, counters, alarms and tables, and
+-- A core: number 0 to 15, its tasks, at most 64 jobs of all its tasks at once, its ISRs, resources, counters, alarms and tables, and
 -- what these post. [own]
 abbrev pub is_core_numbered : CoreSizes → Bool
 is_core_numbered s =
-    is_between 0 7 s.number && list_all is_start s.start
+    is_between 0 15 s.number && list_all is_start s.start
     && nat_le (length s.tasks) (most_of ObjectKind.Task) && list_all is_task_within s.tasks && nat_le (sum_by jobs_of s.tasks) JOBS
-    && are_isrs_within s.isrs && nat_le (length s.resources) (most_of ObjectKind.Resource) && list_all is_ceiling s.resources
+    && are_isrs_within s.isrs && nat_le (length s.resources) (most_of ObjectKind.Resource) && list_all is_resource_within s.resources
     && are_counters_within s.counters && are_alarms_within s.alarms && are_tables_within s.tables && nat_le s.posted most_posted
 
 -- And none of its scripts is too long.
 abbrev pub is_core_within : CoreSizes → Bool
 is_core_within s = is_core_numbered s && list_all is_short s.scripts
 
--- The whole: 1 to 8 application modes, at most 16 spinlocks, mailboxes of 1 to 16 envelopes, 1 to 8 cores, each of which passes the test. [own]
+-- By any version: 1 to 8 application modes, at most 16 spinlocks, mailboxes of 1 to 16 envelopes, 1 to 16 cores, each of which passes the test. [own]
 abbrev pub is_by : (CoreSizes → Bool) → Sizes → Bool
 is_by test s =
     is_between 1 (most_of ObjectKind.Mode) (Some s.modes) && nat_le s.spinlocks (most_of ObjectKind.Spinlock) && is_between 1 MAILBOX s.cap
     && is_between 1 most_cores (Some (length s.cores)) && list_all test s.cores
 
+-- It is the second version of the format. [own]
+abbrev pub is_second : Option ℕ → Bool
+is_second None = false
+is_second (Some version) = version == 2
+
+-- How many cores there may be by a version, numbered from 0: 8 by the first, 16 by the second; by a number that is no version as by
+-- the first. [own]
+abbrev pub cores_by : Option ℕ → ℕ
+cores_by version = if is_second version then CORES else FIRST_CORES
+
+-- The format has this version, and by it there may be so many cores, each of its number. [own]
+abbrev pub is_versioned : Sizes → Bool
+is_versioned s =
+    is_between 1 2 s.version && is_between 1 (cores_by s.version) (Some (length s.cores))
+    && list_all (λ (core : CoreSizes). is_between 0 (cores_by s.version - 1) core.number) s.cores
+
+-- The whole: a version, with the cores that it has, and the limits of all versions.
 abbrev pub is_within : Sizes → Bool
-is_within s = is_by is_core_within s
+is_within s = is_versioned s && is_by is_core_within s
 
 -- ---- the points of schedule tables
 
@@ -313,15 +340,15 @@ task_sizes task = record { priority = Some task.priority; activations = Some tas
 abbrev pub isr_sizes : Isr → IsrSizes
 isr_sizes isr = record { level = Some isr.level; budget = Some isr.budget }
 
+abbrev pub resource_sizes : Resource → ResourceSizes
+resource_sizes resource = record { ceiling = Some resource.ceiling; lock = Some resource.lock }
+
 abbrev pub number_of : CoreId → Option ℕ
 number_of id = Some id.number
 
 -- The numbers of these cores.
 abbrev pub numbers_of : List Core → List (Option ℕ)
 numbers_of cores = map (λ (c : Core). number_of c.id) cores
-
-abbrev pub ceiling_of : Resource → Option ℕ
-ceiling_of resource = Some resource.ceiling
 
 abbrev pub counter_sizes : Counter → CounterSizes
 counter_sizes counter = record { max = Some counter.max; min = Some counter.min }
@@ -353,7 +380,7 @@ core_sizes plan core = record {
   start = map number_of core.start;
   tasks = map task_sizes core.tasks;
   isrs = map isr_sizes core.isrs;
-  resources = map ceiling_of core.resources;
+  resources = map resource_sizes core.resources;
   counters = map counter_sizes core.counters;
   alarms = map (alarm_sizes (counter_in plan)) core.alarms;
   tables = map (table_sizes (counter_in plan)) core.tables;
@@ -362,7 +389,7 @@ core_sizes plan core = record {
 }
 
 abbrev pub sizes_of : Plan → Sizes
-sizes_of plan = record { modes = length plan.modes; spinlocks = length plan.spinlocks; cap = Some plan.cap; cores = map (core_sizes plan) plan.cores }
+sizes_of plan = record { version = Some plan.version; modes = length plan.modes; spinlocks = length plan.spinlocks; cap = Some plan.cap; cores = map (core_sizes plan) plan.cores }
 
 -- ---- its references
 

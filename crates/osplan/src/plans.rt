@@ -46,6 +46,10 @@ pub struct Resource {
     pub name: Name,
     /// The ceiling priority, 0 to 31: whoever holds the resource has at least this priority.
     pub ceiling: u8,
+    /// The lock budget, in ticks, 0 to 1,000,000,000: how long a job may hold the resource while it runs; 0 is none
+    /// (AUTOSAR SWS OS 4.x, OsTaskResourceLockBudget). That it stands at the resource, for all its
+    /// holders, is the project's own.
+    pub lock: u32,
 }
 
 /// A category 2 ISR (AUTOSAR SWS OS 4.x, OsIsr).
@@ -133,7 +137,7 @@ pub struct Core {
     pub mode: CoreMode,
     /// The cores that it starts before StartOS, configured or not.
     pub start: List<CoreId>,
-    /// What it does when a job has used up its budget.
+    /// What it does when a job has used up its budget, or a resource's.
     pub protection: Protection,
     pub tasks: List<Task>,
     pub isrs: List<Isr>,
@@ -155,6 +159,8 @@ pub struct Spinlock {
 /// A configuration as data, within the limits or not.
 #[derive(Debug, Drop)]
 pub struct Plan {
+    /// The version of the format: 1, or 2, by which there may be 16 cores in place of 8.
+    pub version: u8,
     /// How many envelopes the mailbox of an ordered pair of cores holds.
     pub cap: u8,
     /// The core that runs from the beginning.

@@ -3,8 +3,8 @@
 ghost use Rattle.std.specs.Prelude.{◌≡◌};
 ghost use Rattle.osplan.specs.Protection.{protection_named, protection_word};
 
-/// How a core answers when a job has used up its execution budget (AUTOSAR SWS OS 4.x, ProtectionReturnType). Each answer but
-/// `TerminateTaskIsr` shuts the core down.
+/// How a core answers when a job has used up its execution budget, or a resource's lock budget (AUTOSAR SWS OS 4.x,
+/// ProtectionReturnType). Each answer but `TerminateTaskIsr` shuts the core down.
 #[derive(Clone, Copy, Debug, PartialEq, Eq)]
 pub enum Protection {
     /// PRO_IGNORE, which a time fault does not allow (SWS_Os_00307).

@@ -7,39 +7,10 @@ use arrayvec::ArrayVec;
 use osbase::{HeldResource, RESOURCES};
 use std::marker::Model;
 
-// A resource as a place of the list keeps it: with a blank for a place that holds none.
-#[derive(Clone, Copy)]
-struct Slot {
-    resource: HeldResource,
-}
-
-impl Model for Slot {
-    ghost use Rattle.osbase.specs.declared.histories.HeldResource.{HeldResource};
-
-    ghost Value = { HeldResource };
-
-    ghost view = { λ slot. slot.resource };
-
-    ghost inverse = { λ resource. record { resource = resource } };
-}
-
-impl Default for Slot {
-    fn default() -> Self
-        ensures { result ≡ record { index = 0; ceiling = 0 } }
-    {
-        Slot {
-            resource: HeldResource {
-                index: 0,
-                ceiling: 0,
-            },
-        }
-    }
-}
-
 /// The resources that a job holds, the newest first, with the greatest of their ceilings at hand.
 #[derive(Drop)]
 pub struct Held {
-    resources: ArrayVec<Slot, RESOURCES>,
+    resources: ArrayVec<HeldResource, RESOURCES>,
     ceiling: u8,
 }
 
@@ -72,7 +43,7 @@ impl Held {
         ensures { self.new ≡ resource ∷ self.old }
     {
         self.ceiling = greater(resource.ceiling, self.ceiling);
-        self.resources.insert(0, Slot { resource });
+        self.resources.insert(0, resource);
     }
 
     /// Gives the newest resource back, if there is one.
@@ -80,24 +51,24 @@ impl Held {
         ensures newest { result ≡ slice_get self.old 0 }
         ensures rest { self.new ≡ drop 1 self.old }
     {
-        let slot = self.resources.pop_at(0)?;
+        let newest = self.resources.pop_at(0)?;
         self.ceiling = greatest_ceiling(self.resources.as_slice());
-        Some(slot.resource)
+        Some(newest)
     }
 
-    /// The resource at this place, if there is one; the newest is at 0.
-    pub fn held(&self, place: usize) -> Option<HeldResource>
-        ensures { result ≡ slice_get self.now place }
+    /// The resources, the newest first.
+    pub fn as_slice(&self) -> &[HeldResource]
+        ensures { result.now ≡ self.now }
     {
-        let slot = self.resources.as_slice().get(place)?;
-        Some(slot.resource)
+        self.resources.as_slice()
     }
 
     /// The newest resource, if there is one.
     pub fn newest(&self) -> Option<HeldResource>
         ensures { result ≡ slice_get self.now 0 }
     {
-        self.held(0)
+        let newest = self.resources.as_slice().first()?;
+        Some(*newest)
     }
 
     /// Whether no resource is held.
@@ -130,15 +101,14 @@ pub fn greater(a: u8, b: u8) -> u8
     if a < b { b } else { a }
 }
 
-fn greatest_ceiling(resources: &[Slot]) -> u8
+fn greatest_ceiling(resources: &[HeldResource]) -> u8
     ensures { result ≡ greatest_ceiling resources.now }
 {
     let mut greatest = 0;
     let mut place = resources.len();
     while place > 0 {
         place -= 1;
-        let slot = &resources[place];
-        greatest = greater(slot.resource.ceiling, greatest);
+        greatest = greater(resources[place].ceiling, greatest);
     }
     greatest
 }

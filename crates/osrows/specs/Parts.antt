@@ -69,9 +69,12 @@ with_events t = record t { extended = true }
 abbrev pub core_of : ℕ → List CoreId → List Task → Core
 core_of n start tasks = record { id = core n; mode = Named mode; start = start; protection = Protection.Shutdown; tasks = tasks; isrs = []; resources = []; counters = []; alarms = []; tables = [] }
 
--- with one resource, of this name and ceiling
+-- with one resource, of this name and ceiling, and with one that has a lock budget, too
+abbrev pub with_lock : List ℕ → ℕ → ℕ → Core → Core
+with_lock name ceiling lock c = record c { resources = record { name = name; ceiling = ceiling; lock = lock } ∷ [] }
+
 abbrev pub with_resource : List ℕ → ℕ → Core → Core
-with_resource name ceiling c = record c { resources = record { name = name; ceiling = ceiling } ∷ [] }
+with_resource name ceiling c = with_lock name ceiling 0 c
 
 abbrev pub first_resource : ℕ → ResourceRef
 first_resource n = record { core = core n; index = 0 }
@@ -97,7 +100,7 @@ with_tables tables c = record c { tables = tables }
 
 -- a configuration with the defaults
 abbrev pub plan_of : List Core → Plan
-plan_of cores = record { cap = 16; master = core 0; modes = codes "M" ∷ []; spinlocks = []; cores = cores }
+plan_of cores = record { version = 1; cap = 16; master = core 0; modes = codes "M" ∷ []; spinlocks = []; cores = cores }
 
 -- ---- the stimuli and the items
 

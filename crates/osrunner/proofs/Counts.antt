@@ -8,7 +8,7 @@ use Rattle.osbase.specs.History.{is_held}
 use Rattle.osbase.proofs.Few.{few, number_count}
 use Rattle.osbase.specs.declared.limits.TheConstants.{RESOURCES}
 use Rattle.osbase.specs.declared.limits.TheConstants.{RUNNERS}
-use Rattle.oscript.specs.Runners.{Row}
+use Rattle.oscript.specs.Runners.{Row, holding}
 use Rattle.osrunner.specs.Rows.{IsFlagged, flag_count, held_count, is_occupied, row_at, total_count}
 
 same-itself : (n : ℕ) → nat_eq n n ≡ true
@@ -98,10 +98,7 @@ past [] n h = refl
 past (flag ∷ flags) zero h = absurd (omega (arith, h))
 past (flag ∷ flags) (suc n) h = past flags n (omega (arith, h))
 
--- The row of a job that takes a resource, and that gives its newest back.
-abbrev pub raised : HeldResource → Row → Row
-raised x row = record row { held = x ∷ row.held }
-
+-- The row of a job that gives its newest resource back.
 abbrev pub lowered : Row → Row
 lowered row = record row { held = drop 1 row.held }
 
@@ -141,23 +138,23 @@ set-flag occupied i n flag h = by (nat_eq i n) refl
 flag-set : {c new : Bool} (flag old b : Bool) → new ≡ cond c flag old → c ≡ b → flag_count new ≡ flag_count (cond b flag old)
 flag-set flag old b is e = ap flag_count is ∙ ap (λ (d : Bool). flag_count (cond d flag old)) e
 
-pub taken : (all : List Row) (occupied : List Bool) (t : ℕ) (x : HeldResource) → IsFlagged all occupied → t < RUNNERS → x.index < length occupied → is_occupied x.index all ≡ false → IsFlagged (slice_set all t (raised x (row_at t all))) (slice_set occupied x.index true)
+pub taken : (all : List Row) (occupied : List Bool) (t : ℕ) (x : HeldResource) → IsFlagged all occupied → t < RUNNERS → x.index < length occupied → is_occupied x.index all ≡ false → IsFlagged (slice_set all t (holding x (row_at t all))) (slice_set occupied x.index true)
 taken all occupied t x is known place free = record {
-  runners = length-set all t (raised x (row_at t all)) ∙ is.runners;
+  runners = length-set all t (holding x (row_at t all)) ∙ is.runners;
   once = λ n. by (nat_eq x.index n) n refl;
 }
   where
-    by : (b : Bool) (n : ℕ) → nat_eq x.index n ≡ b → total_count n (slice_set all t (raised x (row_at t all))) ≡ flag_count (slice_index_or (slice_set occupied x.index true) n false)
+    by : (b : Bool) (n : ℕ) → nat_eq x.index n ≡ b → total_count n (slice_set all t (holding x (row_at t all))) ≡ flag_count (slice_index_or (slice_set occupied x.index true) n false)
     by true n e =
         let same : x.index ≡ n = eqb-true x.index n e in
         let none : total_count n all ≡ 0 = is.once n ∙ ap flag_count (sym (flagged all occupied n is) ∙ subst (λ (m : ℕ). is_occupied m all ≡ false) same free) in
         let here : held_count n (x ∷ (row_at t all).held) ≡ suc (held_count n (row_at t all).held) = rw e refl in
         let set : flag_count (slice_index_or (slice_set occupied x.index true) n false) ≡ 1 = flag-set true (slice_index_or occupied n false) true (set-flag occupied x.index n true place) e in
-        omega (arith, total-set n t all (raised x (row_at t all)) (omega (arith, known, is.runners)), none, here, set)
+        omega (arith, total-set n t all (holding x (row_at t all)) (omega (arith, known, is.runners)), none, here, set)
     by false n e =
         let here : held_count n (x ∷ (row_at t all).held) ≡ held_count n (row_at t all).held = rw e refl in
         let set : flag_count (slice_index_or (slice_set occupied x.index true) n false) ≡ flag_count (slice_index_or occupied n false) = flag-set true (slice_index_or occupied n false) false (set-flag occupied x.index n true place) e in
-        omega (arith, total-set n t all (raised x (row_at t all)) (omega (arith, known, is.runners)), here, set, is.once n)
+        omega (arith, total-set n t all (holding x (row_at t all)) (omega (arith, known, is.runners)), here, set, is.once n)
 
 newest : (n : ℕ) (held : List HeldResource) (x : HeldResource) → slice_get held 0 ≡ Some x → held_count n held ≡ cond (nat_eq x.index n) (suc (held_count n (drop 1 held))) (held_count n (drop 1 held))
 newest n [] x e = cc

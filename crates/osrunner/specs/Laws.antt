@@ -1,12 +1,13 @@
 -- What holds of the events and the budgets of every history.
-use Rattle.std.specs.Prelude.{◌≡◌, ℕ, suc, ◌+◌, ◌==◌, ◌<◌, ◌^◌, nat_lt, Bool, true, false, ◌&&◌, IsTrue, if◌then◌else◌, Option, Some, None, unwrap_or, List, [], ◌∷◌}
+use Rattle.std.specs.Prelude.{◌≡◌, ℕ, suc, ◌+◌, ◌==◌, ◌<◌, ◌^◌, nat_lt, Bool, true, false, ◌&&◌, IsTrue, if◌then◌else◌, Option, Some, None, unwrap_or, List, [], ◌∷◌, slice_index_or}
 use Rattle.std.specs.Int.{bit_at}
 use Rattle.std.specs.List.{list_all}
 use Rattle.std.specs.Option.{option_map_or}
 use Rattle.osbase.specs.declared.references.TaskRef.{TaskRef}
 use Rattle.osbase.specs.declared.marks.Mark.{Mark}
 use Rattle.osbase.specs.declared.references.Runner.{Runner}
-use Rattle.osbase.specs.History.{History, Entry, Printed, same_runner, same_task}
+use Rattle.osbase.specs.History.{History, Entry, Noted, Printed, Taken, same_runner, same_task}
+use Rattle.osbase.specs.declared.limits.TheConstants.{RESOURCES}
 use Rattle.osbase.specs.Interrupts.{running_job, runner_of_job}
 use Rattle.oscript.specs.declared.Op.{Op}
 use Rattle.oscript.specs.Runners.{row_of}
@@ -70,3 +71,20 @@ earlier_ticks_of r (e ∷ h) = if ends_or_waits r e then ticks_of r h else earli
 -- [AUTOSAR SWS OS 4.x, SWS_Os_00028, SWS_Os_00473 and, of an ISR, SWS_Os_00474; in ticks: own]
 pub record UsesTicksSince (r : Runner) (h : History) : Type 0 where
   pub used : (script : List Op) → earlier_ticks_of r h + (row_of script r h).used ≡ ticks_of r h
+
+-- ---- lock budgets
+
+-- By the entry a job of the runner takes the resource of this index.
+abbrev pub takes_lock : Runner → ℕ → Entry → Bool
+takes_lock r index (Noted (Taken q x)) = same_runner q r && (x.index == index)
+takes_lock r index e = false
+
+-- How many ticks there were, since a job of the runner last took the resource, at which one was the running job.
+abbrev pub lock_ticks_of : Runner → ℕ → History → ℕ
+lock_ticks_of r index [] = 0
+lock_ticks_of r index (e ∷ h) = if takes_lock r index e then 0 else (if is_tick e && is_running r h then suc (lock_ticks_of r index h) else lock_ticks_of r index h)
+
+-- The lock used of a job and a resource that it holds: the ticks at which it was the running job since it last took that, and no other,
+-- whatever its script. [own]
+pub record LocksTicksSince (r : Runner) (h : History) : Type 0 where
+  pub used : (script : List Op) (index : ℕ) → index < RESOURCES → slice_index_or (row_of script r h).lock_used index 0 ≡ lock_ticks_of r index h

@@ -34,6 +34,9 @@ depth_in r all = (row_in r all).depth
 abbrev pub used_in : Runner → List Row → ℕ
 used_in r all = (row_in r all).used
 
+abbrev pub lock_used_in : Runner → List Row → List ℕ
+lock_used_in r all = (row_in r all).lock_used
+
 -- All rows, with one changed.
 abbrev pub with_row_at : ℕ → (Row → Row) → List Row → List Row
 with_row_at place f all = slice_set all place (f (row_at place all))

@@ -1,16 +1,17 @@
 //! What belongs to each task and ISR of a core, as one row for each.
 
-ghost use Rattle.std.specs.Prelude.{◌≡◌, ◌==◌, ◌<◌, ◌^◌, ◌∷◌, [], drop, false, length, nat_lt, replicate, slice_get, suc};
+ghost use Rattle.std.specs.Prelude.{◌≡◌, ◌==◌, ◌<◌, ◌^◌, drop, false, length, nat_lt, replicate, slice_get, slice_index_or};
+ghost use Rattle.std.specs.List.{All};
 ghost use Rattle.osbase.specs.History.{greatest_ceiling, is_waiting};
 ghost use Rattle.osbase.specs.Interrupts.{deeper, shallower};
 ghost use Rattle.osbudget.specs.Budget.{is_reached};
 ghost use Rattle.oscript.specs.Frames.{action_at, completed, rewound};
-ghost use Rattle.oscript.specs.Runners.{ended, first_row, waiting_for};
-ghost use Rattle.osrunner.specs.Rows.{depth_in, events_in, frame_in, held_in, is_occupied, row_at, used_in, with_row, with_row_at};
+ghost use Rattle.oscript.specs.Runners.{charged, ended, first_row, holding, waiting_for};
+ghost use Rattle.osrunner.specs.Rows.{depth_in, events_in, frame_in, held_in, is_occupied, lock_used_in, row_at, used_in, with_row, with_row_at};
 
 use arrayvec::ArrayVec;
 use osbase::{HeldResource, RESOURCES, RUNNERS, Runner, Status, TaskEvents};
-use osbudget::Used;
+use osbudget::{LockUsed, Used};
 use oscript::{Action, Frame, Op};
 use osevent::{no_events, with_awaited};
 use osres::{Held, Locks};
@@ -24,6 +25,7 @@ struct RunnerRow {
     frame: Frame,
     locks: Locks,
     used: Used,
+    lock_used: LockUsed,
 }
 
 impl Model for RunnerRow {
@@ -31,7 +33,7 @@ impl Model for RunnerRow {
 
     ghost Value = { Row };
 
-    ghost view = { λ row. record { held = row.held; events = row.events; frame = row.frame; depth = row.locks; used = row.used } };
+    ghost view = { λ row. record { held = row.held; events = row.events; frame = row.frame; depth = row.locks; used = row.used; lock_used = row.lock_used } };
 }
 
 impl RunnerRow {
@@ -45,6 +47,7 @@ impl RunnerRow {
             frame: Frame::new(),
             locks: Locks::new(),
             used: Used::new(),
+            lock_used: LockUsed::new(),
         }
     }
 }
@@ -97,7 +100,7 @@ impl Rows {
     pub fn raise(&mut self, runner: Runner, resource: HeldResource)
         requires resource { resource.index < RESOURCES }
         requires free { is_occupied resource.index self.old ≡ false }
-        ensures { self.new ≡ with_row runner (λ row. record row { held = resource ∷ row.held }) self.old }
+        ensures { self.new ≡ with_row runner (holding resource) self.old }
     {
         let place = runner.slot();
         if place >= self.rows.len() {
@@ -151,10 +154,12 @@ impl Rows {
         unlock_at(&mut self.rows, runner.slot());
     }
 
-    /// The runner's oldest job has used one tick more of its budget (AUTOSAR SWS OS 4.x, SWS_Os_00028).
+    /// The runner's oldest job has used one tick more of its budget (AUTOSAR SWS OS 4.x, SWS_Os_00028), and of the lock
+    /// budget of each resource that it holds (the project's own).
     pub fn charge(&mut self, runner: Runner)
         requires count { used_in runner self.old < 2 ^ 63 }
-        ensures { self.new ≡ with_row runner (λ row. record row { used = suc row.used }) self.old }
+        requires locks { All (λ ticks. ticks < 2 ^ 63) (lock_used_in runner self.old) }
+        ensures { self.new ≡ with_row runner charged self.old }
     {
         charge_at(&mut self.rows, runner.slot());
     }
@@ -191,6 +196,27 @@ impl Rows {
         match self.rows.as_slice().get(runner.slot()) {
             Some(row) => row.used.decide(budget),
             None => Used::new().decide(budget),
+        }
+    }
+
+    /// Whether the ticks of the runner's jobs since one last took the resource of this index have reached this lock
+    /// budget (the project's own).
+    pub fn is_lock_spent(&self, runner: Runner, index: u8, lock: u32) -> bool
+        ensures { result ≡ is_reached lock (slice_index_or (lock_used_in runner self.now) index 0) }
+    {
+        match self.rows.as_slice().get(runner.slot()) {
+            Some(row) => row.lock_used.decide(index, lock),
+            None => LockUsed::new().decide(index, lock),
+        }
+    }
+
+    /// The resources that the runner's oldest job holds, the newest first.
+    pub fn held(&self, runner: Runner) -> &[HeldResource]
+        ensures { result.now ≡ held_in runner self.now }
+    {
+        match self.rows.as_slice().get(runner.slot()) {
+            Some(row) => row.held.as_slice(),
+            None => &[],
         }
     }
 
@@ -284,10 +310,12 @@ impl Default for Rows {
 fn raise_at(rows: &mut ArrayVec<RunnerRow, RUNNERS>, place: usize, resource: HeldResource)
     requires place { place < length rows.old.items }
     requires room { length (row_at place rows.old.items).held < RESOURCES }
-    ensures { rows.new.items ≡ with_row_at place (λ row. record row { held = resource ∷ row.held }) rows.old.items }
+    requires index { resource.index < RESOURCES }
+    ensures { rows.new.items ≡ with_row_at place (holding resource) rows.old.items }
 {
     let row = &mut rows.as_mut_slice()[place];
     row.held.raise(resource);
+    row.lock_used.restart(resource.index);
 }
 
 fn lower_at(rows: &mut ArrayVec<RunnerRow, RUNNERS>, place: usize) -> Option<HeldResource>
@@ -346,13 +374,15 @@ fn unlock_at(rows: &mut ArrayVec<RunnerRow, RUNNERS>, place: usize)
 }
 
 fn charge_at(rows: &mut ArrayVec<RunnerRow, RUNNERS>, place: usize)
-    requires { (row_at place rows.old.items).used < 2 ^ 63 }
-    ensures { rows.new.items ≡ with_row_at place (λ row. record row { used = suc row.used }) rows.old.items }
+    requires count { (row_at place rows.old.items).used < 2 ^ 63 }
+    requires locks { All (λ ticks. ticks < 2 ^ 63) (row_at place rows.old.items).lock_used }
+    ensures { rows.new.items ≡ with_row_at place charged rows.old.items }
 {
     let rows = rows.as_mut_slice();
     if place < rows.len() {
         let row = &mut rows[place];
         row.used.charge();
+        row.lock_used.charge();
     }
 }
 

@@ -1,16 +1,16 @@
 -- The configuration of a separate core alone is within the limits, and a text can say it.
-use Rattle.std.proofs.Common.{◌≡◌, ℕ, Bool, true, false, not, ◌&&◌, nat_eq, nat_le, List, [], ◌∷◌, ◌++◌, length, Option, Some, IsTrue, refl, sym, ap, subst, ◌∙◌, arith}
+use Rattle.std.proofs.Common.{◌≡◌, ℕ, ◌-◌, Bool, true, false, not, ◌&&◌, if◌then◌else◌, nat_eq, nat_le, List, [], ◌∷◌, ◌++◌, length, Option, Some, IsTrue, refl, sym, ap, subst, ◌∙◌, arith}
 use Rattle.std.specs.{List.list_all, List.list_any, List.flat_map}
-use Rattle.std.proofs.{lemmas.List.append_assoc, lemmas.List.append-nil, lemmas.List.Folds.list_any-append}
+use Rattle.std.proofs.{lemmas.List.append_assoc, lemmas.List.append-nil, lemmas.List.Folds.list_all-map, lemmas.List.Folds.list_any-append}
 use Rattle.std.proofs.lemmas.Bool.{and_parts, and_from, or_from, or_parts, or_left, or_right, not-false, not_from_false, not_from_true, eq-eqb}
-use Rattle.osbase.specs.{declared.limits.TheConstants.MAILBOX, declared.references.CoreId.CoreId, declared.objects.Object.Object, History.same_core}
+use Rattle.osbase.specs.{declared.limits.TheConstants.CORES, declared.limits.TheConstants.FIRST_CORES, declared.limits.TheConstants.MAILBOX, declared.references.CoreId.CoreId, declared.objects.Object.Object, History.same_core}
 use Rattle.osbase.specs.{declared.objects.ObjectKind.ObjectKind, Objects.counter_object, Objects.object_of_call, declared.items.CoreMode.CoreMode, declared.messages.RemoteCall.RemoteCall}
 use Rattle.osbase.proofs.Same.{same_core-comm, same_core-refl, same_core-true}
 use Rattle.oscript.specs.{declared.Op.Op, Calls.is_action, Rows.halts_all, Rows.objects_of}
 use Rattle.osplan.specs.{declared.plans.Plan.Plan, declared.plans.Core.Core, declared.plans.Alarm.Alarm, declared.plans.Table.Table, View.core_of}
 use Rattle.osbase.specs.declared.items.CoreMode.TheVariants.{Named, DontCare}
 use Rattle.osplan.specs.Objects.{alarm_modes, common_names, core_scripts, table_actions, table_modes}
-use Rattle.osplan.specs.Limits.{CoreSizes, StartSizes, TableSizes, core_sizes, sizes_of, is_action_known, is_alarm_known, is_alarm_near, is_core_timed, is_core_within, is_table_known, is_table_near, is_within, is_between, most_cores, most_of, is_object, is_op_known, is_mode, is_core_mode, is_script_known, is_core_known, is_core_near, is_within_limits}
+use Rattle.osplan.specs.Limits.{CoreSizes, StartSizes, TableSizes, core_sizes, cores_by, sizes_of, is_action_known, is_alarm_known, is_alarm_near, is_by, is_core_timed, is_core_within, is_second, is_table_known, is_table_near, is_versioned, is_within, is_between, most_cores, most_of, number_of, is_object, is_op_known, is_mode, is_core_mode, is_script_known, is_core_known, is_core_near, is_within_limits}
 use Rattle.osplan.specs.Expressible.{all_common_names, is_core_expressible, is_expressible, are_distinct, object_names}
 use Rattle.osplan.specs.Naming.{has_operation, is_off, is_on, names_other}
 use Rattle.osseparate.specs.Separate.{agree, alone_of, halts_somewhere, is_agreed_mode, is_named_elsewhere, is_separate, is_separate_core, is_started}
@@ -31,6 +31,11 @@ each-distinct [] h = refl
 each-distinct (c ∷ cs) h = and_from _ _ (distinct-front (object_names c) (flat_map object_names cs) h) (each-distinct cs (distinct-back (object_names c) (flat_map object_names cs) h))
 
 -- ---- the limits
+
+-- By each version there may be one core.
+one-core : (second : Bool) → is_between 1 (if second then CORES else FIRST_CORES) (Some 1) ≡ true
+one-core true = refl
+one-core false = refl
 
 module _ (plan : Plan) (id : CoreId) (core : Core) (found : core_of plan id ≡ Some core) (same : core.id ≡ id) where
   mine : same_core core.id id ≡ true
@@ -107,13 +112,25 @@ module _ (plan : Plan) (id : CoreId) (core : Core) (found : core_of plan id ≡ 
   timed-alone : NearParts core → is_core_timed plan core ≡ true → is_core_timed alone core ≡ true
   timed-alone near timed = own-timed alone core by-itself near.tables ∙ sym (own-timed plan core here near.tables) ∙ timed
 
-  -- the modes and the mailboxes stay, and there is no spinlock
+  -- the version stays, by which there may be a core of this number
+  version-alone : is_versioned (sizes_of plan) ≡ true → is_versioned (sizes_of alone) ≡ true
+  version-alone whole =
+      let version : Option ℕ = Some plan.version in
+      let is_numbered = λ (s : CoreSizes). is_between 0 (cores_by version - 1) s.number in
+      let numbers = and_parts _ (list_all is_numbered (sizes_of plan).cores) whole in
+      let known = and_parts (is_between 1 2 version) (is_between 1 (cores_by version) (Some (length (sizes_of plan).cores))) numbers.0 in
+      let each = sym (list_all-map is_numbered (core_sizes plan) plan.cores) ∙ numbers.1 in
+      let number = find-passes (λ (c : Core). same_core c.id id) (λ (c : Core). is_between 0 (cores_by version - 1) (number_of c.id)) plan.cores core each found in
+      and_from _ _ (and_from _ _ known.0 (one-core (is_second version))) (and_from _ _ number refl)
+
+  -- the modes and the mailboxes stay too, and there is no spinlock
   sizes-alone : is_within (sizes_of plan) ≡ true → is_core_within (core_sizes alone core) ≡ true → is_within (sizes_of alone) ≡ true
   sizes-alone whole one =
-      let few = and_parts _ (is_between 1 most_cores (Some (length (sizes_of plan).cores))) (and_parts _ (list_all is_core_within (sizes_of plan).cores) whole).0 in
+      let parts = and_parts (is_versioned (sizes_of plan)) (is_by is_core_within (sizes_of plan)) whole in
+      let few = and_parts _ (is_between 1 most_cores (Some (length (sizes_of plan).cores))) (and_parts _ (list_all is_core_within (sizes_of plan).cores) parts.1).0 in
       let cap = and_parts _ (is_between 1 MAILBOX (Some plan.cap)) few.0 in
       let modes = and_parts (is_between 1 (most_of ObjectKind.Mode) (Some (length plan.modes))) (nat_le (length plan.spinlocks) (most_of ObjectKind.Spinlock)) cap.0 in
-      and_from _ _ (and_from _ _ (and_from _ _ (and_from _ _ modes.0 refl) cap.1) refl) (and_from _ _ one refl)
+      and_from _ _ (version-alone parts.0) (and_from _ _ (and_from _ _ (and_from _ _ (and_from _ _ modes.0 refl) cap.1) refl) (and_from _ _ one refl))
 
   plan-alone : LimitParts plan → is_core_within (core_sizes plan core) ≡ true → is_core_known plan core ≡ true → is_core_near core ≡ true → is_core_timed plan core ≡ true → SeparateParts plan core → is_within_limits alone ≡ true
   plan-alone limits within known near timed separate =

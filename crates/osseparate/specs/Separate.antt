@@ -95,7 +95,7 @@ is_separate plan id = option_map_or (is_separate_core plan) (core_of plan id) fa
 abbrev pub standing_of : Plan → CoreId → Standing
 standing_of plan id = if is_separate plan id then Standing.Separate else (if is_started plan id then Standing.Bound else Standing.Off)
 
--- The core alone, under this number, as the master, without spinlocks; the modes and the mailboxes' size stay. [own]
+-- The core alone, under this number, as the master, without spinlocks; the version, the modes and the mailboxes' size stay. [own]
 abbrev pub alone_of : Plan → CoreId → Core → Plan
 alone_of plan id core = record plan { master = id; spinlocks = []; cores = core ∷ [] }
 

@@ -27,6 +27,7 @@ fn alone(alloc: Global, plan: &Plan, id: CoreId, core: &Core) -> Result<Plan, Al
     let mut cores = List::new(alloc);
     cores.push(copied_core(core)?)?;
     Ok(Plan {
+        version: plan.version,
         cap: plan.cap,
         master: id,
         modes: copied_modes(plan)?,
@@ -35,7 +36,7 @@ fn alone(alloc: Global, plan: &Plan, id: CoreId, core: &Core) -> Result<Plan, Al
     })
 }
 
-/// The configuration of a separate core alone: the core under its number, as the master, with the modes
+/// The configuration of a separate core alone: the core under its number, as the master, with the version, the modes
 /// and the mailboxes' size of the whole, and without the spinlocks. `NotSeparate` exactly where the core is not separate
 /// (`is_separate`), and `NoMemory` where memory runs out; the configuration stays as it is. The core is
 /// separate in what it is cut to, so a cut can be cut again.

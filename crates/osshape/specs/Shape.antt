@@ -4,7 +4,7 @@ use Rattle.std.specs.Prelude.{ℕ, ◌&&◌, Bool, true, false, Option, Some, No
 use Rattle.std.specs.List.{list_all}
 use Rattle.osbase.specs.declared.objects.ObjectKind.{ObjectKind}
 use Rattle.osbase.specs.Names.{is_name}
-use Rattle.osplan.specs.Limits.{TaskSizes, IsrSizes, CounterSizes, StartSizes, PointSizes, TableSizes, CoreSizes, Sizes}
+use Rattle.osplan.specs.Limits.{TaskSizes, IsrSizes, ResourceSizes, CounterSizes, StartSizes, PointSizes, TableSizes, CoreSizes, Sizes}
 use Rattle.osplan.specs.Protection.{protection_named}
 use Rattle.osplan.specs.declared.plans.TheConstants.{COMMON, KINDS}
 use Rattle.osplan.specs.declared.protection.Protection.{Protection}
@@ -51,13 +51,14 @@ isr_shape d = do
   script ← member_of as_str (codes "script") d
   Some (record { name = name; level = level; budget = budget; script = script })
 
--- A resource: its name and ceiling.
+-- A resource: its name and ceiling; its lock budget, 0 by default.
 unfoldable pub resource_shape : Data → Option ResourceText
 resource_shape d = do
-  _ ← only_members (codes "name" ∷ codes "ceiling" ∷ []) d
+  _ ← only_members (codes "name" ∷ codes "ceiling" ∷ codes "lock" ∷ []) d
   name ← member_of name_of (codes "name") d
   ceiling ← member_of whole_of (codes "ceiling") d
-  Some (record { name = name; ceiling = ceiling })
+  lock ← member_or whole_of (Some 0) (codes "lock") d
+  Some (record { name = name; ceiling = ceiling; lock = lock })
 
 -- A counter: its name and greatest value; its least cycle, 1 by default; whether software alone advances it, which is not so by default.
 unfoldable pub counter_shape : Data → Option CounterText
@@ -171,6 +172,9 @@ task_sizes task = record { priority = task.prio; activations = task.activations;
 abbrev pub isr_sizes : IsrText → IsrSizes
 isr_sizes isr = record { level = isr.level; budget = isr.budget }
 
+abbrev pub resource_sizes : ResourceText → ResourceSizes
+resource_sizes resource = record { ceiling = resource.ceiling; lock = resource.lock }
+
 abbrev pub counter_sizes : CounterText → CounterSizes
 counter_sizes counter = record { max = counter.max; min = counter.min }
 
@@ -198,7 +202,7 @@ core_numbers core = record {
   start = core.start;
   tasks = map task_sizes core.tasks;
   isrs = map isr_sizes core.isrs;
-  resources = map (λ (resource : ResourceText). resource.ceiling) core.resources;
+  resources = map resource_sizes core.resources;
   counters = map counter_sizes core.counters;
   alarms = [];
   tables = [];
@@ -208,7 +212,7 @@ core_numbers core = record {
 
 -- Those of a configuration, without its cores.
 abbrev pub text_numbers : ConfigText → Sizes
-text_numbers t = record { modes = length t.modes; spinlocks = length t.spinlocks; cap = t.cap; cores = [] }
+text_numbers t = record { version = t.version; modes = length t.modes; spinlocks = length t.spinlocks; cap = t.cap; cores = [] }
 
 -- ---- the objects of a text
 

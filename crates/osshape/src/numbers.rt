@@ -23,7 +23,7 @@ pub(crate) fn most_activations(extended: bool) -> u64
     if extended { 1 } else { 64 }
 }
 
-/// Whether it is an execution budget.
+/// Whether it is a budget, of execution or of a lock.
 pub(crate) fn is_budget(budget: Whole) -> bool
     ensures { result ≡ is_budget budget }
 {

@@ -4,12 +4,12 @@
 ghost use Rattle.std.specs.Prelude.{◌≡◌, [], ◌∷◌, IfOk, IsTrue, codes, map, option_copied, option_map, true};
 ghost use Rattle.std.specs.List.{list_all};
 ghost use Rattle.osbase.specs.Names.{is_name};
-ghost use Rattle.osplan.specs.Limits.{is_ceiling, is_counter_within, is_isr_within, is_start_within, is_task_within};
+ghost use Rattle.osplan.specs.Limits.{is_counter_within, is_isr_within, is_resource_within, is_start_within, is_task_within};
 ghost use Rattle.osread.specs.Json.{each_of, member_or};
 ghost use Rattle.osread.specs.Reading.{Gives};
 ghost use Rattle.serde_json.specs.View.{view};
 ghost use Rattle.osshape.specs.Declarations.{declared_sizes};
-ghost use Rattle.osshape.specs.Shape.{task_sizes, isr_sizes, counter_sizes, start_numbers, task_shape, isr_shape, resource_shape, counter_shape, alarm_start_shape, alarm_shape, common_in, core_shape, config_shape, has_named_objects, is_named, mode_shape, numbered, objects_in, protection_of, spinlock_shape, unnumbered};
+ghost use Rattle.osshape.specs.Shape.{task_sizes, isr_sizes, resource_sizes, counter_sizes, start_numbers, task_shape, isr_shape, resource_shape, counter_shape, alarm_start_shape, alarm_shape, common_in, core_shape, config_shape, has_named_objects, is_named, mode_shape, numbered, objects_in, protection_of, spinlock_shape, unnumbered};
 ghost use Rattle.osshape.specs.declared.shapes.Named.{Named as NamedValue};
 
 use crate::declarations::Declaration;
@@ -71,14 +71,15 @@ impl IsrText<'_> {
 pub struct ResourceText<'v> {
     pub name: Text<'v>,
     pub ceiling: Whole,
+    pub lock: Whole,
 }
 
 impl ResourceText<'_> {
-    /// Whether its ceiling is a priority.
+    /// Whether its numbers keep their limits.
     pub fn is_within(&self) -> bool
-        ensures { result ≡ is_ceiling self.now.ceiling }
+        ensures { result ≡ is_resource_within (resource_sizes self.now) }
     {
-        is_between(0, 31, self.ceiling)
+        is_between(0, 31, self.ceiling) && is_budget(self.lock)
     }
 }
 
@@ -397,10 +398,11 @@ impl<'v> JsonReader<'v, ResourceText<'v>> for ResourceReader {
 
     #[tactic(auto, unfolding(crate::specs::Shape::resource_shape))]
     fn read(&self, alloc: Global, value: &'v Value) -> Result<ResourceText<'v>, Refusal> {
-        only_members(value, &["name", "ceiling"])?;
+        only_members(value, &["name", "ceiling", "lock"])?;
         Ok(ResourceText {
             name: at(alloc, value, "name", &NameReader)?,
             ceiling: at(alloc, value, "ceiling", &WholeReader)?,
+            lock: at_or(alloc, value, "lock", &WholeReader, Some(0))?,
         })
     }
 }

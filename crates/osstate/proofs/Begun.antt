@@ -4,12 +4,12 @@ use Rattle.std.specs.List.{find, list_all, slice_get}
 use Rattle.std.specs.Option.{option_map_or}
 use Rattle.std.proofs.lemmas.Bool.{false≢true, and_parts}
 use Rattle.std.proofs.lemmas.Bool.Decides.{nat_tests}
-use Rattle.std.proofs.lemmas.List.Folds.{list_all-map}
+use Rattle.std.proofs.lemmas.List.{Elements.All-replicate, Folds.list_all-map}
 use Rattle.osbase.specs.declared.references.CoreId.{CoreId}
 use Rattle.osbase.specs.declared.references.Runner.{Runner}
 use Rattle.osbase.specs.declared.histories.GotSpinlock.{GotSpinlock}
 use Rattle.osbase.specs.declared.histories.Sent.{Sent}
-use Rattle.osbase.specs.declared.limits.TheConstants.{CORES, RUNNERS}
+use Rattle.osbase.specs.declared.limits.TheConstants.{CORES, RESOURCES, RUNNERS}
 use Rattle.osbase.specs.History.{same_core}
 use Rattle.osbase.specs.Phases.{is_past_first_gate}
 use Rattle.osbase.specs.Sets.{numbers_from}
@@ -34,7 +34,7 @@ use Rattle.osstate.specs.declared.progress.Progress.{Progress}
 use Rattle.osstate.specs.State.{state_of}
 use Rattle.osstate.specs.Steps.{state_from, first_border, first_progress, first_state}
 use Rattle.osstate.specs.Readings.{script_of}
-use Rattle.osstate.specs.Sound.{IsSound, is_agreed, has_objects_of}
+use Rattle.osstate.specs.Sound.{IsSound, UsesAtMost, is_agreed, has_objects_of}
 use Rattle.osbase.proofs.Same.{same_core-comm, same_core-true}
 use Rattle.osplan.proofs.Tests.{all-weaker, find-holds, find-passes}
 use Rattle.osbase.proofs.Places.{passes-at}
@@ -91,9 +91,12 @@ zeros_low zero k = omega arith
 zeros_low (suc n) zero = omega arith
 zeros_low (suc n) (suc k) = zeros_low n k
 
-unused : (n place : ℕ) → (row_at place (replicate n first_row)).used ≤ 0
-unused zero place = omega arith
-unused (suc n) zero = omega arith
+none-used : UsesAtMost 0 first_row
+none-used = record { ticks = omega arith; locks = All-replicate (λ (n : ℕ). n ≤ 0) RESOURCES 0 (omega arith) }
+
+unused : (n place : ℕ) → UsesAtMost 0 (row_at place (replicate n first_row))
+unused zero place = none-used
+unused (suc n) zero = none-used
 unused (suc n) (suc place) = unused n place
 
 -- A task that can wait for events has one job at a time.

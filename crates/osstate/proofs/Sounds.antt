@@ -3,6 +3,7 @@ use Rattle.std.proofs.Common.{◌≡◌, ◌||◌, ℕ, zero, suc, ◌+◌, ◌�
 use Rattle.std.specs.List.{list_all, slice_get, slice_set}
 use Rattle.std.specs.Option.{option_map_or}
 use Rattle.std.proofs.lemmas.Bool.{false≢true, leb-true}
+use Rattle.std.proofs.lemmas.List.Elements.{All-map, All-set, All-weaker}
 use Rattle.osbase.specs.declared.references.CoreId.{CoreId}
 use Rattle.osbase.specs.declared.references.TaskRef.{TaskRef}
 use Rattle.osbase.specs.declared.items.Item.{Item}
@@ -38,7 +39,7 @@ use Rattle.osstate.specs.State.{BorderState, KernelState}
 use Rattle.osstate.specs.Readings.{script_of}
 use Rattle.osstate.specs.Steps.{one_more, progress_after, received_after, runner_by, state_after, tasks_after}
 use Rattle.osbase.specs.Phases.{is_before_live, is_past_first_gate}
-use Rattle.osstate.specs.Sound.{HasBorder, HasClocks, HasJobs, IsSound, IsUnderWay, activation_limit, entered_limit, interrupt_limit, is_agreed, is_awaited_known, is_first_gate}
+use Rattle.osstate.specs.Sound.{HasBorder, HasClocks, HasJobs, IsSound, IsUnderWay, UsesAtMost, activation_limit, entered_limit, interrupt_limit, is_agreed, is_awaited_known, is_first_gate}
 use Rattle.osstate.proofs.JobLists.{within_append, job_count-stamped_anew, job_count-without_oldest}
 use Rattle.osstate.proofs.Room.{entered_on, isr_count-without, length_within}
 
@@ -51,6 +52,13 @@ older-still entries jobs older = each-weaker (λ (j : Job). j.stamp < entries) (
 pub under-way : {p : Progress} → IsUnderWay p → IsUnderWay (record p { entries = p.entries + 1 })
 under-way sound = record { agreed = sound.agreed; began = omega (arith, sound.began); items = omega (arith, sound.items) }
 
+-- what is at most so many is at most one more
+uses-later : {most : ℕ} {row : Row} → UsesAtMost most row → UsesAtMost (most + 1) row
+uses-later {most = most} {row = row} few = record {
+  ticks = omega (arith, few.ticks);
+  locks = All-weaker (λ (n : ℕ). n ≤ most) (λ (n : ℕ). n ≤ most + 1) (λ n less. omega (arith, less)) row.lock_used few.locks;
+}
+
 pub jobs-later : {core : Core} {phase : Phase} {entries : ℕ} {s : JobState} → HasJobs core phase entries s → HasJobs core phase (entries + 1) s
 jobs-later {entries = entries} {s = s} sound = record {
   within = sound.within;
@@ -58,28 +66,34 @@ jobs-later {entries = entries} {s = s} sound = record {
   idle = sound.idle;
   interrupts = sound.interrupts;
   entered = sound.entered;
-  used = (λ place. omega (arith, sound.used place));
+  used = (λ place. uses-later (sound.used place));
   tasks = sound.tasks;
 }
 
--- an entry charges a job with one tick at most
-used-step : (script : List Op) (e : Entry) (row : Row) (most : ℕ) → row.used ≤ most → (row_step script e row).used ≤ most + 1
-used-step script (Printed Mark.Tick) row most few = omega (arith, few)
-used-step script (Printed (Mark.Terminated t)) row most few = omega arith
-used-step script (Printed (Mark.IsrLeft i)) row most few = omega arith
-used-step script (Printed (Mark.EventAwaited t mask)) row most few = omega arith
-used-step script (Noted (Taken r x)) row most few = omega (arith, few)
-used-step script e row most few = omega (arith, few)
+-- an entry charges a job with one tick of each budget at most
+uses-step : (script : List Op) (e : Entry) (row : Row) (most : ℕ) → UsesAtMost most row → UsesAtMost (most + 1) (row_step script e row)
+uses-step script (Printed Mark.Tick) row most few = record {
+  ticks = omega (arith, few.ticks);
+  locks = All-map (λ (n : ℕ). n ≤ most + 1) suc row.lock_used (All-weaker (λ (n : ℕ). n ≤ most) (λ (n : ℕ). suc n ≤ most + 1) (λ n less. omega (arith, less)) row.lock_used few.locks);
+}
+uses-step script (Printed (Mark.Terminated t)) row most few = record { ticks = omega arith; locks = (uses-later few).locks }
+uses-step script (Printed (Mark.IsrLeft i)) row most few = record { ticks = omega arith; locks = (uses-later few).locks }
+uses-step script (Printed (Mark.EventAwaited t mask)) row most few = record { ticks = omega arith; locks = (uses-later few).locks }
+uses-step script (Noted (Taken r x)) row most few = record {
+  ticks = omega (arith, few.ticks);
+  locks = All-set (λ (n : ℕ). n ≤ most + 1) row.lock_used x.index 0 (omega arith) (uses-later few).locks;
+}
+uses-step script e row most few = record { ticks = omega (arith, few.ticks); locks = (uses-later few).locks }
 
-used-by : (script : List Op) (e : Entry) (who : Option Runner) (rows : List Row) (most : ℕ) → ((place : ℕ) → (row_at place rows).used ≤ most) → (place : ℕ) → (row_at place (rows_by script e who rows)).used ≤ most + 1
-used-by script e None rows most few place = omega (arith, few place)
-used-by script e (Some r) rows most few place = at (row_step script e (row_at (slot_of r) rows)) (used-step script e (row_at (slot_of r) rows) most (few (slot_of r))) rows (slot_of r) place few
+uses-by : (script : List Op) (e : Entry) (who : Option Runner) (rows : List Row) (most : ℕ) → ((place : ℕ) → UsesAtMost most (row_at place rows)) → (place : ℕ) → UsesAtMost (most + 1) (row_at place (rows_by script e who rows))
+uses-by script e None rows most few place = uses-later (few place)
+uses-by script e (Some r) rows most few place = at (row_step script e (row_at (slot_of r) rows)) (uses-step script e (row_at (slot_of r) rows) most (few (slot_of r))) rows (slot_of r) place few
   where
-    at : (row : Row) → row.used ≤ most + 1 → (all : List Row) (i k : ℕ) → ((j : ℕ) → (row_at j all).used ≤ most) → (row_at k (slice_set all i row)).used ≤ most + 1
-    at row h [] i k each = omega (arith, each k)
+    at : (row : Row) → UsesAtMost (most + 1) row → (all : List Row) (i k : ℕ) → ((j : ℕ) → UsesAtMost most (row_at j all)) → UsesAtMost (most + 1) (row_at k (slice_set all i row))
+    at row h [] i k each = uses-later (each k)
     at row h (x ∷ all) zero zero each = h
-    at row h (x ∷ all) zero (suc k) each = omega (arith, each (suc k))
-    at row h (x ∷ all) (suc i) zero each = omega (arith, each zero)
+    at row h (x ∷ all) zero (suc k) each = uses-later (each (suc k))
+    at row h (x ∷ all) (suc i) zero each = uses-later (each zero)
     at row h (x ∷ all) (suc i) (suc k) each = at row h all i k (λ j. each (suc j))
 
 -- what an entry leaves of the jobs: how those of tasks and of ISRs are within their limits is given anew
@@ -93,7 +107,7 @@ jobs-on {entries = entries} {s = s} script e stamp sound within stamps idle inte
   idle = idle;
   interrupts = interrupts;
   entered = entered;
-  used = used-by script e (runner_by e s) s.rows entries sound.used;
+  used = uses-by script e (runner_by e s) s.rows entries sound.used;
   tasks = sound.tasks;
 }
 
@@ -271,7 +285,7 @@ taken priorities room item outbox got s sound forward onward = record {
     idle = (λ e. sound.jobs.idle (forward e));
     interrupts = sound.jobs.interrupts;
     entered = sound.jobs.entered;
-    used = (λ place. omega (arith, sound.jobs.used place));
+    used = (λ place. uses-later (sound.jobs.used place));
     tasks = sound.jobs.tasks;
   };
   progress = record {

@@ -72,7 +72,7 @@ abbrev pub rows_of : Core → History → List Row
 rows_of core h = map (λ (n : ℕ). row_of (script_of core (runner_at core n)) (runner_at core n) h) (numbers_from 0 RUNNERS)
 
 -- The row of one of the core's tasks or ISRs, and its fields: what its oldest live job holds, the newest first; its events; where that
--- job stands; how often it has suspended interrupts; and how many ticks of its budget it has used.
+-- job stands; how often it has suspended interrupts; and how many ticks of its execution budget it has used.
 abbrev pub row_at : View → Runner → History → Row
 row_at v r h = row_in r (rows_of v.own h)
 

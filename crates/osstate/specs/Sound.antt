@@ -1,6 +1,6 @@
 -- What holds of the state of every kernel: that nothing runs out of its room. All of it is this project's own.
 use Rattle.std.specs.Prelude.{◌≡◌, ℕ, ◌<◌, ◌≤◌, nat_le, nat_lt, Bool, true, false, if◌then◌else◌, IsTrue, IfSome, Option, Some, is_some, [], length, slice_index, sum_by}
-use Rattle.std.specs.List.{list_all}
+use Rattle.std.specs.List.{All, list_all}
 use Rattle.std.specs.Option.{option_map_or}
 use Rattle.osbase.specs.declared.references.IsrRef.{IsrRef}
 use Rattle.osbase.specs.declared.references.Runner.{Runner}
@@ -16,6 +16,7 @@ use Rattle.osbase.specs.Interrupts.{isr_count}
 use Rattle.osbase.specs.Phases.{is_before_live, is_past_first_gate}
 use Rattle.oscript.specs.declared.Op.{Op}
 use Rattle.oscript.specs.Rows.{objects_of}
+use Rattle.oscript.specs.Runners.{Row}
 use Rattle.oscript.specs.declared.Action.{Action}
 use Rattle.oscript.specs.declared.Action.TheVariants.{Perform, End}
 use Rattle.osplan.specs.declared.plans.Core.{Core}
@@ -120,17 +121,21 @@ pub record HasObjects (priorities : ℕ) (core : Core) : Type 0 where
   pub resources : length core.resources ≤ RESOURCES
   pub ceilings : IsTrue (list_all (λ (r : Resource). nat_lt r.ceiling priorities) core.resources)
 
+-- Of its execution budget, and of the lock budget of each resource, a runner with this row has used at most so many ticks.
+pub record UsesAtMost (most : ℕ) (row : Row) : Type 0 where
+  pub ticks : row.used ≤ most
+  pub locks : All (λ (ticks : ℕ). ticks ≤ most) row.lock_used
+
 -- No task has more live jobs than it may have, and none before the core schedules. Each began or was released at an entry that the
 -- history has, so the stamp of the next entry is greater than theirs. No ISR has more live jobs than it may have, and at most one of
--- them was entered. No job has used more ticks than the history has entries. The tasks are
--- those of this core.
+-- them was entered. No job has used more ticks of any budget than the history has entries. The tasks are those of this core.
 pub record HasJobs (core : Core) (phase : Phase) (entries : ℕ) (s : JobState) : Type 0 where
   pub within : (r : Runner) → job_count r s.jobs ≤ activation_limit core r
   pub stamps : Each (λ (j : Job). j.stamp < entries) s.jobs
   pub idle : IsTrue (is_before_live phase) → s.jobs ≡ []
   pub interrupts : (r : Runner) → job_count r s.isrs.live ≤ interrupt_limit core r
   pub entered : (i : IsrRef) → isr_count i s.isrs.entered ≤ entered_limit core i
-  pub used : (place : ℕ) → (row_at place s.rows).used ≤ entries
+  pub used : (place : ℕ) → UsesAtMost entries (row_at place s.rows)
   pub tasks : s.tasks ≡ own_tasks core
 
 -- A core that goes on past the first gate met no conflict of modes there. Nothing is counted more often than the history has entries.

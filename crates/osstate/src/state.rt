@@ -13,12 +13,13 @@ ghost use Rattle.osplan.specs.Objects.{is_own_object};
 ghost use Rattle.osplan.specs.Stimuli.{knows_stimulus};
 ghost use Rattle.osplan.specs.View.{core_of, is_configured, view_of};
 ghost use Rattle.osjobs.specs.Jobs.{is_current, is_plain};
-ghost use Rattle.osrunner.specs.Rows.{depth_in, events_in, frame_in, held_in, is_occupied, used_in};
+ghost use Rattle.osrunner.specs.Rows.{depth_in, events_in, frame_in, held_in, is_occupied, row_in, used_in};
 ghost use Rattle.osbudget.specs.Budget.{is_reached};
+ghost use Rattle.osjobs.specs.Locks.{is_overheld};
 ghost use Rattle.osjobs.specs.Priorities.{holds_any, is_extended, is_newest, is_own_runner, static_priority};
 ghost use Rattle.osstate.specs.Does.{Effects, HasRoom, Notes, Reads, Remarks};
 ghost use Rattle.osstate.specs.Queries.{best_in, is_at_limit_in, is_suspended, is_suspended_in, next_action_in, running_in};
-ghost use Rattle.osstate.specs.Readings.{best_job, budget_of, events_at, frame_at, is_locked, is_own, is_pending, next_start, resource_of, resources_of, rows_of, script_of, used_at};
+ghost use Rattle.osstate.specs.Readings.{best_job, budget_of, events_at, frame_at, is_locked, is_own, is_pending, next_start, resource_of, resources_of, row_at, rows_of, script_of, used_at};
 ghost use Rattle.oscript.specs.Frames.{action_at};
 ghost use Rattle.osstate.specs.Sound.{activation_limit, interrupt_limit, is_action_known, is_agreed, is_awaited_known, is_first_gate, is_grant_known, is_posted, is_sender_known};
 ghost use Rattle.osstate.specs.State.{state_of};
@@ -188,7 +189,8 @@ impl<'a, const P: usize, const J: usize, const OUT: usize> CoreState<'a, P, J, O
         self.progress.record(Mark::IsrLeft(isr), marks);
     }
 
-    /// A tick: the running job, if there is one, has used one more of its budget (AUTOSAR SWS OS 4.x, SWS_Os_00028).
+    /// A tick: the running job, if there is one, has used one more of its budget (AUTOSAR SWS OS 4.x, SWS_Os_00028), and of
+    /// the lock budget of each resource that it holds (the project's own).
     pub fn tick(&mut self, marks: &mut Vec<Mark>)
         requires { HasRoom 1 1 self.old marks.old }
         ensures state { self.new ≡ state_after (Printed Mark.Tick) self.old }
@@ -620,6 +622,15 @@ impl<'a, const P: usize, const J: usize, const OUT: usize> CoreState<'a, P, J, O
         ensures reads { Reads (λ v h. is_reached (budget_of v.own runner) (used_at v runner h)) self.now result }
     {
         self.jobs.is_spent(runner, budget_of(self.core, runner))
+    }
+
+    /// Whether the oldest job of one of the core's tasks or ISRs has reached the lock budget of a resource that it holds, of
+    /// ticks since it took that (the project's own).
+    pub fn is_overheld(&self, runner: Runner) -> bool
+        ensures value { result ≡ is_overheld self.now.view.own (row_in runner self.now.tasks.rows) }
+        ensures reads { Reads (λ v h. is_overheld v.own (row_at v runner h)) self.now result }
+    {
+        self.jobs.is_overheld(self.core, runner)
     }
 
     /// What the core does when a job has reached its budget (AUTOSAR SWS OS 4.x, ProtectionReturnType).

@@ -1,12 +1,14 @@
 //! The worked examples, from text to text.
 
 mod alarms;
+mod cores;
 mod counters;
 mod events;
 mod files;
 mod interrupts;
 mod kernel;
 mod limits;
+mod locks;
 mod logs;
 mod player;
 mod program;

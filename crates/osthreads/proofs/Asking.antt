@@ -1,6 +1,6 @@
 -- What a worker's turns ask, and which items the answers result in.
 use Rattle.std.proofs.Common.{◌≡◌, ◌⊎◌, ◌<◌, Bool, true, false, cond, Option, Some, None, is_some, IsSome, IsTrue, List, [], ◌∷◌, ◌++◌, length, inl, inr, refl, sym, ap, subst, ◌∙◌, arith, unwrap_or}
-use Rattle.std.proofs.lemmas.Bool.{eqb-true, ltb-true}
+use Rattle.std.proofs.lemmas.Bool.{ltb-true}
 use Rattle.std.proofs.lemmas.Option.{same_Some}
 use Rattle.osbase.specs.declared.statuses.Status.TheVariants.{EOk, EOsId, EOsState}
 use Rattle.osbase.specs.declared.references.CoreId.{CoreId}
@@ -13,10 +13,11 @@ use Rattle.osbase.specs.History.{same_core}
 use Rattle.osbase.specs.Sets.{has_core}
 use Rattle.osplan.specs.declared.plans.Plan.{Plan}
 use Rattle.osplan.specs.declared.plans.Core.{Core}
-use Rattle.osplan.specs.Limits.{core_sizes, is_between, is_core_known, is_core_mode, is_core_within, is_within_limits, sizes_of}
+use Rattle.osplan.specs.Limits.{is_core_known, is_core_mode, is_within_limits, sizes_of}
 use Rattle.osplan.specs.View.{View, core_of, is_configured, no_core, view_of}
-use Rattle.osplan.proofs.Tests.{find-holds, find-passes}
-use Rattle.osplan.proofs.Within.{between, few-modes, limit-parts}
+use Rattle.osplan.proofs.Numbered.{configured-low}
+use Rattle.osplan.proofs.Tests.{find-passes}
+use Rattle.osplan.proofs.Within.{few-modes, limit-parts}
 use Rattle.osstate.proofs.Begun.{is_some-core_of}
 use Rattle.osstate.specs.State.{KernelState}
 use Rattle.osadmit.specs.Admission.{takes_in}
@@ -30,9 +31,9 @@ use Rattle.osseat.specs.Histories.{IsLegal, IsLegalFrom, Object, entry}
 use Rattle.osseat.specs.Seats.{Extends, Held}
 use Rattle.osboard.specs.declared.calls.BoardState.{BoardState}
 use Rattle.osboard.specs.declared.calls.BoardCall.{BoardCall}
-use Rattle.osboard.specs.declared.calls.BoardCall.TheVariants.{Start, Enter, MakeReady, Drain, Look, AskHalt, LookHalt}
+use Rattle.osboard.specs.declared.calls.BoardCall.TheVariants.{Start, Enter, MakeReady, Drain, Look, LookDrained, AskHalt, LookHalt}
 use Rattle.osboard.specs.declared.calls.BoardReply.{BoardReply}
-use Rattle.osboard.specs.declared.calls.BoardReply.TheVariants.{Started, Acknowledged, Shown, Decided, Halting}
+use Rattle.osboard.specs.declared.calls.BoardReply.TheVariants.{Started, Acknowledged, Shown, Drained, Decided, Halting}
 use Rattle.osboard.specs.Boards.{HasPlace, IsMode, board_reply, first_asked, start_answer}
 use Rattle.osspin.specs.declared.calls.SpinReply.{SpinReply}
 use Rattle.osspin.specs.declared.calls.SpinReply.TheVariants.{Answered}
@@ -44,7 +45,7 @@ use Rattle.osturn.specs.declared.asks.Answer.TheVariants.{Replied, Spun, Unasked
 use Rattle.oskernel.specs.declared.wants.SpinWish.{SpinWish}
 use Rattle.oskernel.specs.declared.wants.SpinWish.TheVariants as Wish
 use Rattle.osturn.specs.Asking.{asked_by, look_asked, named_by, no_calls, own_asked, spin_call_of, spun, starting, told_by}
-use Rattle.osturn.proofs.Leading.{halted-item, is-item, passing-item, spun-item}
+use Rattle.osturn.proofs.Leading.{closing-item, halted-item, is-item, passing-item, spun-item}
 use Rattle.osthreads.specs.Calling.{ChangesBoard, LoadsBoard, item_of_call, item_of_wish}
 use Rattle.osthreads.specs.declared.turns.Turned.{Turned}
 use Rattle.osthreads.specs.declared.turns.Turned.TheVariants.{Took, Nothing, Refused}
@@ -176,7 +177,8 @@ board-no-mail id watch (Start k) (Started status) i e = is-item NoMail (Item.Beg
 board-no-mail id watch (Enter mode) Acknowledged i e = is-item NoMail Item.Entered i refl e
 board-no-mail id watch MakeReady Acknowledged i e = is-item NoMail Item.Readied i refl e
 board-no-mail id watch Drain Acknowledged i e = is-item NoMail Item.Drained i refl e
-board-no-mail id watch Look (Shown view) i e = passing-item NoMail refl (λ agreement. refl) (λ cores. refl) refl id view watch i e
+board-no-mail id watch Look (Shown view) i e = passing-item NoMail refl (λ agreement. refl) (λ cores. refl) id view watch i e
+board-no-mail id watch LookDrained (Drained drained) i e = closing-item NoMail refl watch drained i e
 board-no-mail id watch (AskHalt status) (Decided asked) i e = is-item NoMail (Item.Halt asked.0 asked.1) i refl e
 board-no-mail id watch LookHalt (Halting halt) i e = halted-item NoMail (λ asked. refl) (λ core status. refl) watch halt i e
 board-no-mail id watch call reply i e = cc
@@ -199,25 +201,8 @@ unasked-no-mail id watch ask i e = cc
 -- ---- what the board has a place for
 
 module _ (plan : Plan) (limits : IsTrue (is_within_limits plan)) where
-  number-low : (core : Core) → is_core_within (core_sizes plan core) ≡ true → core.id.number < 8
-  number-low core h =
-      let within : is_between 0 7 (Some core.id.number) ≡ true = grind arith in
-      let number = between 0 7 core.id.number within in
-      omega arith
-
-  core-low : (k : CoreId) (o : Option Core) → core_of plan k ≡ o → is_some o ≡ true → k.number < 8
-  core-low k (Some core) found there =
-      let within = find-passes (λ (c : Core). same_core c.id k) (λ (c : Core). is_core_within (core_sizes plan c)) plan.cores core (limit-parts plan limits).cores found in
-      let low = number-low core within in
-      let same : core.id.number ≡ k.number = eqb-true core.id.number k.number (find-holds (λ (c : Core). same_core c.id k) plan.cores core found) in
-      omega arith
-  core-low k None found there = cc
-
-  pub configured-low : (k : CoreId) → is_some (core_of plan k) ≡ true → k.number < 8
-  configured-low k there = core-low k (core_of plan k) refl there
-
-  pub known-low : (k : CoreId) → IsSome (core_of plan k) → k.number < 8
-  known-low k there = configured-low k (is-there (core_of plan k) there)
+  pub known-low : (k : CoreId) → IsSome (core_of plan k) → k.number < 16
+  known-low k there = configured-low plan k limits (is-there (core_of plan k) there)
     where
       is-there : (o : Option Core) → IsSome o → is_some o ≡ true
       is-there None some = cc
@@ -246,7 +231,7 @@ module _ (plan : Plan) (limits : IsTrue (is_within_limits plan)) where
   own-asks id next (Want.Start k) = by (is_configured (view_of plan id) k) refl
     where
       by : (b : Bool) → is_configured (view_of plan id) k ≡ b → IsOwn (Some (starting k b))
-      by true e = (tt, configured-low k (is_some-core_of k plan.cores ∙ e))
+      by true e = (tt, configured-low plan k limits (is_some-core_of k plan.cores ∙ e))
       by false e = tt
   own-asks id next Want.Enter = (tt, mode-of id (core_of plan id) refl)
   own-asks id next Want.Ready = (tt, tt)
@@ -267,6 +252,7 @@ IsLookAsk (OfBoard call) = LoadsBoard call × HasPlace call
 IsLookAsk ask = ⊥
 
 pub look-asks : (watch : Watch) → IsLookAsk (look_asked watch)
-look-asks Watch.Halt = (inr refl, tt)
-look-asks Watch.Last = (inr refl, tt)
+look-asks Watch.Halt = (inr (inr refl), tt)
+look-asks Watch.Last = (inr (inr refl), tt)
+look-asks (Watch.PassEnd started) = (inr (inl refl), tt)
 look-asks watch = (inl refl, tt)

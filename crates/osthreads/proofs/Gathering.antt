@@ -1,6 +1,6 @@
 -- What the workers of all cores gave back, gathered: their reports are sound.
 use Rattle.std.proofs.lemmas.List.{take_more}
-use Rattle.std.proofs.Common.{⊎_elim, ◌≡◌, ◌<◌, ◌+◌, ℕ, take, filter, cond, Bool, true, false, Option, None, is_some, IsSome, IsTrue, List, [], ◌∷◌, ◌++◌, map, length, get_or, refl, sym, ap, subst, ◌∙◌, append_assoc, append-nil, arith}
+use Rattle.std.proofs.Common.{◌≡◌, ◌<◌, ◌+◌, ℕ, take, filter, cond, Bool, true, false, Option, None, is_some, IsSome, IsTrue, List, [], ◌∷◌, ◌++◌, map, length, get_or, refl, sym, ap, subst, ◌∙◌, append_assoc, append-nil, arith}
 use Rattle.std.specs.List.{AllByRecursion, list_all, list_any}
 use Rattle.std.proofs.lemmas.Bool.{and_parts, false≢true, or_parts}
 use Rattle.osbase.specs.declared.references.CoreId.{CoreId}
@@ -13,13 +13,14 @@ use Rattle.osplan.specs.Limits.{is_within_limits}
 use Rattle.osplan.specs.Stimuli.{AreKnown}
 use Rattle.osplan.specs.View.{core_of}
 use Rattle.osseat.specs.declared.histories.Plan.{Plan as SeatPlan}
-use Rattle.osseat.specs.Runs.{AreIdle, AreLogged, IsOneRun}
+use Rattle.osseat.specs.Runs.{AreLogged, IsOneRun}
 use Rattle.osseat.specs.Histories.{IsLegal, calls_by}
 use Rattle.osseat.specs.Seats.{AllApart, AllAt, AllStand, Held, IsOneHistory, cores_of, fresh, has}
 use Rattle.osseat.proofs.Runs.{one_run}
 use Rattle.osboard.specs.declared.calls.BoardCall.{BoardCall}
 use Rattle.osboard.specs.declared.calls.BoardReply.{BoardReply}
-use Rattle.osboard.specs.Boards.{IsLook, board_after, one_board}
+use Rattle.osboard.specs.Boards.{IsLook, one_board}
+use Rattle.osboard.proofs.Boards.{looks_idle}
 use Rattle.osspin.specs.declared.calls.SpinCall.{SpinCall}
 use Rattle.osspin.specs.declared.calls.SpinReply.{SpinReply}
 use Rattle.osspin.specs.Spins.{IsRefusedCall, spinlocks}
@@ -76,10 +77,6 @@ spins_of es = map (λ (e : Ending). e.seats.spins) es
 pub seats_cores-push : (ss : List Seats) (s : Seats) → seats_cores (ss ++ s ∷ []) ≡ seats_cores ss ++ s.board.core ∷ []
 seats_cores-push [] s = refl
 seats_cores-push (t ∷ ss) s = ap (λ (cs : List CoreId). t.board.core ∷ cs) (seats_cores-push ss s)
-
--- A look leaves the board as it is.
-looks-idle : AreIdle one_board IsLook
-looks-idle s e look answered = ⊎_elim (λ p. ap (λ (k : BoardCall). board_after e.core k s) p) (λ p. ap (λ (k : BoardCall). board_after e.core k s) p) look
 
 -- ---- endings
 
@@ -210,7 +207,7 @@ module _ (plan : Plan) (stimuli : List CoreStimuli) (turns : ℕ) (shared : Shar
         (one_run IsLook one_board shared.board.plan (boards_of es) (map (λ (log : Calls). log.board) (logs_of ids es ended))
         (subst (λ (p : SeatPlan CoreId). AllApart p.cores) (sym one.new_board) (ids-apart plan))
         (boards-cores ids es ended ∙ cores ∙ ap (λ (p : SeatPlan CoreId). p.cores) (sym one.new_board))
-        looks-idle (boards-logged ids es ended) one.board)
+        looks_idle (boards-logged ids es ended) one.board)
 
     one-spins : AreOneSpins plan (logs_of ids es ended)
     one-spins =

@@ -25,9 +25,9 @@ use Rattle.osseat.specs.declared.histories.Entry.{Entry}
 use Rattle.osseat.specs.Histories.{Thinned, entry}
 use Rattle.osseat.proofs.Thins.{logged}
 use Rattle.osboard.specs.declared.calls.BoardCall.{BoardCall}
-use Rattle.osboard.specs.declared.calls.BoardCall.TheVariants.{Start, Enter, MakeReady, Drain, Look, AskHalt, LookHalt}
+use Rattle.osboard.specs.declared.calls.BoardCall.TheVariants.{Start, Enter, MakeReady, Drain, Look, LookDrained, AskHalt, LookHalt}
 use Rattle.osboard.specs.declared.calls.BoardReply.{BoardReply}
-use Rattle.osboard.specs.declared.calls.BoardReply.TheVariants.{Started, Acknowledged, Shown, Decided, Halting}
+use Rattle.osboard.specs.declared.calls.BoardReply.TheVariants.{Started, Acknowledged, Shown, Drained, Decided, Halting}
 use Rattle.osboard.specs.Boards.{BoardEntry, IsLook}
 use Rattle.osspin.specs.declared.calls.SpinReply.{SpinReply}
 use Rattle.osspin.specs.declared.calls.SpinReply.TheVariants.{Answered}
@@ -46,7 +46,7 @@ use Rattle.osturn.specs.Fits.{AreAnswered, FitsCore, Leads, history_by, stimuli_
 use Rattle.osturn.specs.Seats.{stimulus_count}
 use Rattle.osturn.proofs.Answered.{answered-push}
 use Rattle.osturn.proofs.Asked.{IsOwnAsk, asks-own}
-use Rattle.osturn.proofs.Leading.{halted-item, is-item, passing-item, spun-item}
+use Rattle.osturn.proofs.Leading.{closing-item, halted-item, is-item, passing-item, spun-item}
 use Rattle.osturn.proofs.Longer.{IsInTurn, core-on, history_from-push, length-stimuli_in}
 use Rattle.osturn.proofs.Seated.{Keeps, Took, seated-kept, seated-on}
 use Rattle.osturn.proofs.Streams.{envelope_in, is_from, is_post_to, posted-after, received-is}
@@ -71,11 +71,12 @@ module _ (v : View) (listed : List Stimulus) (s : KernelState) (past : List Item
   is j i e next = is-item (IsInTurn listed course past) j i next e
 
   follows : (watch : Watch) (ask : Ask) (answer : Answer) (i : Item) → IsOwnAsk v s (slice_get listed (length (stimuli_in past))) (Some ask) → named_by v.core watch ask answer ≡ Some i → IsInTurn listed course past i
-  follows watch (OfBoard Look) (Replied (Shown view)) i own e = passing-item (IsInTurn listed course past) tt (λ agreement. tt) (λ cores. tt) tt v.core view watch i e
+  follows watch (OfBoard Look) (Replied (Shown view)) i own e = passing-item (IsInTurn listed course past) tt (λ agreement. tt) (λ cores. tt) v.core view watch i e
   follows watch (OfBoard (Start k)) (Replied (Started status)) i own e = is (Item.Began k status) i e tt
   follows watch (OfBoard (Enter mode)) (Replied Acknowledged) i own e = is Item.Entered i e tt
   follows watch (OfBoard MakeReady) (Replied Acknowledged) i own e = is Item.Readied i e tt
   follows watch (OfBoard Drain) (Replied Acknowledged) i own e = is Item.Drained i e own
+  follows watch (OfBoard LookDrained) (Replied (Drained drained)) i own e = closing-item (IsInTurn listed course past) tt watch drained i e
   follows watch (OfBoard LookHalt) (Replied (Halting halt)) i own e = halted-item (IsInTurn listed course past) (λ asked. tt) (λ core status. tt) watch halt i e
   follows watch (OfBoard (AskHalt status)) (Replied (Decided asked)) i own e = is (Item.Halt asked.0 asked.1) i e tt
   follows watch (OfSpins wish) (Spun reply) i own e = spun-item (IsInTurn listed course past) (λ l. tt) (λ l taken. tt) (λ l. tt) wish reply i e
@@ -184,7 +185,8 @@ module _ (id : CoreId) where
   Called wish reply i = (told_by id (OfSpins wish) (Spun reply)).spins ≡ call_of_item id i
 
   called-for : (watch : Watch) (ask : Ask) (answer : Answer) (i : Item) → named_by id watch ask answer ≡ Some i → (told_by id ask answer).spins ≡ call_of_item id i
-  called-for watch (OfBoard Look) (Replied (Shown view)) i e = sym (passing-item NoCall refl (λ agreement. refl) (λ cores. refl) refl id view watch i e)
+  called-for watch (OfBoard Look) (Replied (Shown view)) i e = sym (passing-item NoCall refl (λ agreement. refl) (λ cores. refl) id view watch i e)
+  called-for watch (OfBoard LookDrained) (Replied (Drained drained)) i e = sym (closing-item NoCall refl watch drained i e)
   called-for watch (OfBoard (Start k)) (Replied (Started status)) i e = sym (is-item NoCall (Item.Began k status) i refl e)
   called-for watch (OfBoard (Enter mode)) (Replied Acknowledged) i e = sym (is-item NoCall Item.Entered i refl e)
   called-for watch (OfBoard MakeReady) (Replied Acknowledged) i e = sym (is-item NoCall Item.Readied i refl e)

@@ -4,7 +4,7 @@ use Rattle.osbase.specs.declared.statuses.Status.TheVariants.{EOk}
 use Rattle.osbase.specs.declared.references.CoreId.{CoreId}
 use Rattle.osbase.specs.declared.items.Item.{Item}
 use Rattle.osboard.specs.declared.calls.BoardCall.{BoardCall}
-use Rattle.osboard.specs.declared.calls.BoardCall.TheVariants.{Start, Enter, MakeReady, Drain, Look, AskHalt, LookHalt}
+use Rattle.osboard.specs.declared.calls.BoardCall.TheVariants.{Start, Enter, MakeReady, Drain, Look, LookDrained, AskHalt, LookHalt}
 use Rattle.osspin.specs.Spins.{SpinEntry, free_call, try_take_call}
 use Rattle.oskernel.specs.declared.wants.SpinWish.{SpinWish}
 use Rattle.oskernel.specs.declared.wants.SpinWish.TheVariants as Wish
@@ -19,7 +19,7 @@ ChangesBoard (AskHalt status) = Unit {0}
 ChangesBoard call = ⊥
 
 abbrev pub LoadsBoard : BoardCall → Type 0
-LoadsBoard call = (call ≡ Look) ⊎ (call ≡ LookHalt)
+LoadsBoard call = (call ≡ Look) ⊎ ((call ≡ LookDrained) ⊎ (call ≡ LookHalt))
 
 -- The item that this core's call results in that changes the board, where a core that it starts was not started yet, and no other core
 -- asked for a shutdown before.

@@ -128,7 +128,7 @@ fn prepare(alloc: Global, config: &Config) -> Result<Prepared, AllocError>
     let (board, at_board) = Board::new(alloc, List::from_vec(ids_of(alloc, plan)?), plan.master)?;
     let (bank, at_spins) = SpinBank::new(alloc, List::from_vec(ids_of(alloc, plan)?))?;
     let seats = pair(alloc, at_board, at_spins)?;
-    let mail = LockedMail::new(alloc, usize::from(plan.cap))?;
+    let mail = LockedMail::new(alloc, cores.as_slice(), usize::from(plan.cap))?;
     let endings = Vec::with_capacity(alloc, seats.len())?;
     let returned = Returned::new(alloc, seats.len())?;
     Ok(Prepared {

@@ -117,7 +117,7 @@ impl<'a, M: Mail> Shift<'a, M> {
         let Shift { worker, .. } = self;
         let Worker {
             run: _,
-            core,
+            mut core,
             seats,
             mail,
         } = worker;

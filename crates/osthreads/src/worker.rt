@@ -1,7 +1,7 @@
 //! A core at work.
 
 ghost use Rattle.std.specs.Prelude.{◌≡◌, ◌<◌, ◌≤◌, length};
-ghost use Rattle.osboard.specs.declared.calls.TheConstants.{BOARD_CORES};
+ghost use Rattle.osbase.specs.declared.limits.TheConstants.{CORES};
 
 use crate::run::Run;
 use crate::seats::Seats;
@@ -18,7 +18,7 @@ pub struct Worker<'a, M> {
     pub mail: M,
     ghost same: { seats.board.core ≡ core.id },
     ghost placed: { seats.board.place ≡ run.now.board.now },
-    ghost low: { seats.board.core.number < BOARD_CORES },
+    ghost low: { seats.board.core.number < CORES },
     ghost same_spins: { seats.spins.core ≡ core.id },
     ghost placed_spins: { seats.spins.place ≡ run.now.bank.now },
 }

@@ -1,19 +1,23 @@
--- A job that has used up its execution budget, and how its core answers.
+-- A job that has used up its execution budget or a lock budget, and how its core answers.
 use Rattle.std.specs.Prelude.{if◌then◌else◌, Option, Some, None}
 use Rattle.osbase.specs.declared.statuses.Status.{Status}
-use Rattle.osbase.specs.declared.statuses.Status.TheVariants.{EOsProtectionTime}
+use Rattle.osbase.specs.declared.statuses.Status.TheVariants.{EOsProtectionLocked, EOsProtectionTime}
 use Rattle.osbase.specs.declared.references.Runner.{Runner}
 use Rattle.osbase.specs.declared.marks.Mark.TheVariants as Mark
 use Rattle.osplan.specs.declared.protection.Protection.{Protection}
+use Rattle.osjobs.specs.Locks.{is_overheld}
 use Rattle.osstate.specs.Readings.{budget_of}
 use Rattle.osbudget.specs.Budget.{is_reached}
 use Rattle.osact.specs.Acts.{Acts, Prints, nothing, one_then, prints}
 use Rattle.osact.specs.Seen.{Seen}
 use Rattle.oscall.specs.Shutdown.{goes_down}
 
--- The status of the budget that the runner's oldest job has reached. [AUTOSAR SWS OS 4.x, SWS_Os_00064, SWS_Os_00210]
+-- The status of the budget that the runner's oldest job has reached: its execution budget, or else the lock budget of a resource that it
+-- holds. [AUTOSAR SWS OS 4.x, SWS_Os_00064, SWS_Os_00210; that a lock budget is reached as an execution budget is, and comes second: own]
 abbrev pub fault_of : Seen → Runner → Option Status
-fault_of s r = if is_reached (budget_of s.core r) (s.row r).used then Some EOsProtectionTime else None
+fault_of s r =
+    if is_reached (budget_of s.core r) (s.row r).used then Some EOsProtectionTime
+    else (if is_overheld s.core (s.row r) then Some EOsProtectionLocked else None)
 
 -- The runner's oldest job is ended by the OS: no PostTaskHook is called, and further activations of its task stay.
 -- [AUTOSAR SWS OS 4.x, SWS_Os_00553]

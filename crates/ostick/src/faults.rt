@@ -1,4 +1,4 @@
-//! The time fault: a job that has used up its execution budget.
+//! The time fault: a job that has used up its execution budget, or the lock budget of a resource that it holds.
 
 ghost use Rattle.std.specs.Prelude.{◌≡◌, IsTrue};
 ghost use Rattle.osjobs.specs.Priorities.{is_own_runner};
@@ -12,7 +12,7 @@ use oscall::shutdown::go_down;
 use osplan::Protection;
 use osstate::CoreState;
 
-/// The running job is looked at, if there is one: where it has used up its budget, ProtectionHook is called, and then it ends, or the
+/// The running job is looked at, if there is one: where it has used up a budget, ProtectionHook is called once, and then it ends, or the
 /// core goes down (AUTOSAR SWS OS 4.x, section 8.6.1 and ProtectionReturnType). No envelope joins the outbox.
 pub(crate) fn protect<const P: usize, const J: usize, const OUT: usize>(
     state: &mut CoreState<'_, P, J, OUT>,
@@ -43,7 +43,7 @@ fn protect_from<const P: usize, const J: usize, const OUT: usize>(
     }
 }
 
-// The status of the budget that the oldest job of one of the core's tasks or ISRs has reached.
+// The status of the budget that the oldest job of one of the core's tasks or ISRs has reached: its execution budget comes first.
 fn fault_of<const P: usize, const J: usize, const OUT: usize>(
     state: &CoreState<'_, P, J, OUT>,
     runner: Runner,
@@ -53,6 +53,8 @@ fn fault_of<const P: usize, const J: usize, const OUT: usize>(
 {
     if state.is_spent(runner) {
         Some(Status::EOsProtectionTime)
+    } else if state.is_overheld(runner) {
+        Some(Status::EOsProtectionLocked)
     } else {
         None
     }

@@ -25,9 +25,9 @@ use Rattle.oskernel.proofs.Holding.{quiet_after}
 use Rattle.oskernel.proofs.Stages.{mail-schedules, solo-parts, stage}
 use Rattle.osseat.specs.Histories.{IsLegalFrom, calls_by}
 use Rattle.osboard.specs.declared.calls.BoardCall.{BoardCall}
-use Rattle.osboard.specs.declared.calls.BoardCall.TheVariants.{Start, Enter, MakeReady, Drain, Look, AskHalt, LookHalt}
+use Rattle.osboard.specs.declared.calls.BoardCall.TheVariants.{Start, Enter, MakeReady, Drain, Look, LookDrained, AskHalt, LookHalt}
 use Rattle.osboard.specs.declared.calls.BoardReply.{BoardReply}
-use Rattle.osboard.specs.declared.calls.BoardReply.TheVariants.{Started, Acknowledged, Shown, Decided, Halting}
+use Rattle.osboard.specs.declared.calls.BoardReply.TheVariants.{Started, Acknowledged, Shown, Drained, Decided, Halting}
 use Rattle.osboard.specs.declared.calls.BoardState.{BoardState}
 use Rattle.osboard.specs.Boards.{BoardEntry, board_after, board_reply, one_board}
 use Rattle.osturn.specs.declared.asks.Ask.{Ask}
@@ -40,7 +40,7 @@ use Rattle.osturn.specs.Fits.{AreAnswered}
 use Rattle.osturn.specs.Seats.{is_ended_phase}
 use Rattle.osturn.specs.Sound.{end_by}
 use Rattle.osturn.proofs.Ending.{ended-by, phase-after}
-use Rattle.osturn.proofs.Leading.{halted-item, passing-item, spun-item}
+use Rattle.osturn.proofs.Leading.{closing-item, halted-item, passing-item, spun-item}
 use Rattle.osturn.proofs.Members.{has_core-more}
 
 -- The item is how a start of this core was answered.
@@ -162,7 +162,8 @@ module _ (v : View) (k : CoreId) where
   item-called there h watch (OfBoard MakeReady) (Replied Acknowledged) i e begun taken = unlike k _ i e refl begun
   item-called there h watch (OfBoard Drain) (Replied Acknowledged) i e begun taken = unlike k _ i e refl begun
   item-called there h watch (OfBoard (AskHalt status)) (Replied (Decided asked)) i e begun taken = unlike k _ i e refl begun
-  item-called there h watch (OfBoard Look) (Replied (Shown b)) i e begun taken = absurd (both_ways (begins k i) (passing-item (λ j. begins k j ≡ false) refl (λ agreement. refl) (λ cores. refl) refl v.core b watch i e) begun)
+  item-called there h watch (OfBoard Look) (Replied (Shown b)) i e begun taken = absurd (both_ways (begins k i) (passing-item (λ j. begins k j ≡ false) refl (λ agreement. refl) (λ cores. refl) v.core b watch i e) begun)
+  item-called there h watch (OfBoard LookDrained) (Replied (Drained cores)) i e begun taken = absurd (both_ways (begins k i) (closing-item (λ j. begins k j ≡ false) refl watch cores i e) begun)
   item-called there h watch (OfBoard LookHalt) (Replied (Halting halt)) i e begun taken = absurd (both_ways (begins k i) (halted-item (λ j. begins k j ≡ false) (λ asked. refl) (λ core status. refl) watch halt i e) begun)
   item-called there h watch (OfSpins wish) (Spun reply) i e begun taken = absurd (both_ways (begins k i) (spun-item (λ j. begins k j ≡ false) (λ l. refl) (λ l taken. refl) (λ l. refl) wish reply i e) begun)
   item-called there h watch (Room to) (HasRoom true) i e begun taken = unlike k _ i e refl begun

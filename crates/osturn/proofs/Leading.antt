@@ -15,7 +15,7 @@ use Rattle.osboard.specs.declared.calls.BoardView.{BoardView}
 use Rattle.osboard.specs.Boards.{agreement_in, have_all}
 use Rattle.oskernel.specs.declared.wants.SpinWish.{SpinWish}
 use Rattle.oskernel.specs.declared.wants.SpinWish.TheVariants as Wish
-use Rattle.osturn.specs.Asking.{halted, passing, spun}
+use Rattle.osturn.specs.Asking.{closing, halted, passing, spun}
 
 -- An open gate leads to one item.
 pub opens : (b : Bool) (i j : Item) → cond b (Some i) None ≡ Some j → (b ≡ true) × (i ≡ j)
@@ -30,13 +30,17 @@ module _ (P : Item → Type 0) where
   open-item b i j has e = subst P (opens b i j e).1 has
 
   -- At a gate.
-  pub passing-item : P Item.On → ((agreement : Agreement) → P (Item.Pass1 agreement)) → ((cores : CoreSet) → P (Item.Pass2 cores)) → P Item.PassEnd
+  pub passing-item : P Item.On → ((agreement : Agreement) → P (Item.Pass1 agreement)) → ((cores : CoreSet) → P (Item.Pass2 cores))
       → (id : CoreId) (view : BoardView) (watch : Watch) (i : Item) → passing id view watch ≡ Some i → P i
-  passing-item on first second end id view Watch.On i e = open-item (has_core view.started id) Item.On i on e
-  passing-item on first second end id view Watch.FirstGate i e = open-item (have_all view.started view.entered) (Item.Pass1 (agreement_in view.modes)) i (first (agreement_in view.modes)) e
-  passing-item on first second end id view Watch.SecondGate i e = open-item (have_all view.started view.ready) (Item.Pass2 view.started) i (second view.started) e
-  passing-item on first second end id view Watch.PassEnd i e = open-item (have_all view.started view.drained) Item.PassEnd i end e
-  passing-item on first second end id view watch i e = cc
+  passing-item on first second id view Watch.On i e = open-item (has_core view.started id) Item.On i on e
+  passing-item on first second id view Watch.FirstGate i e = open-item (have_all view.started view.entered) (Item.Pass1 (agreement_in view.modes)) i (first (agreement_in view.modes)) e
+  passing-item on first second id view Watch.SecondGate i e = open-item (have_all view.started view.ready) (Item.Pass2 view.started) i (second view.started) e
+  passing-item on first second id view watch i e = cc
+
+  -- By the drained cores.
+  pub closing-item : P Item.PassEnd → (watch : Watch) (drained : CoreSet) (i : Item) → closing watch drained ≡ Some i → P i
+  closing-item end (Watch.PassEnd started) drained i e = open-item (have_all started drained) Item.PassEnd i end e
+  closing-item end watch drained i e = cc
 
   -- By a shutdown of all cores, and at the end.
   pub halted-item : ((asked : Option (CoreId × Status)) → P (Item.Last asked)) → ((core : CoreId) (status : Status) → P (Item.Halt core status))

@@ -43,9 +43,9 @@ use Rattle.oskernel.proofs.Stages.{only-on, solo-parts, stage}
 use Rattle.osseat.specs.Histories.{IsLegal, entry}
 use Rattle.osboard.specs.declared.calls.BoardState.{BoardState}
 use Rattle.osboard.specs.declared.calls.BoardCall.{BoardCall}
-use Rattle.osboard.specs.declared.calls.BoardCall.TheVariants.{Start, Enter, MakeReady, Drain, Look, AskHalt, LookHalt}
+use Rattle.osboard.specs.declared.calls.BoardCall.TheVariants.{Start, Enter, MakeReady, Drain, Look, LookDrained, AskHalt, LookHalt}
 use Rattle.osboard.specs.declared.calls.BoardReply.{BoardReply}
-use Rattle.osboard.specs.declared.calls.BoardReply.TheVariants.{Started, Acknowledged, Shown, Decided, Halting}
+use Rattle.osboard.specs.declared.calls.BoardReply.TheVariants.{Started, Acknowledged, Shown, Drained, Decided, Halting}
 use Rattle.osboard.specs.declared.calls.BoardView.{BoardView}
 use Rattle.osboard.specs.Boards.{agreement_by, agreement_in, board_after, board_reply, first_board, one_board, with_mode}
 use Rattle.osturn.specs.declared.asks.Ask.{Ask}
@@ -55,7 +55,7 @@ use Rattle.osturn.specs.declared.asks.Answer.TheVariants.{Replied, Spun, HasRoom
 use Rattle.osturn.specs.Asking.{Calls, calls_of, halted, named_by, passing, replied, told_by}
 use Rattle.osturn.specs.Fits.{AreAnswered, Leads}
 use Rattle.osturn.proofs.Asked.{IsOwnAsk, asks-own}
-use Rattle.osturn.proofs.Leading.{halted-item, opens, passing-item, spun-item}
+use Rattle.osturn.proofs.Leading.{closing-item, halted-item, opens, passing-item, spun-item}
 use Rattle.osturn.proofs.Members.{has_core-more, nobody-there}
 use Rattle.osturn.proofs.Relying.{AllSee, Relies, Sees, only-seen}
 
@@ -169,6 +169,7 @@ module _ (plan : Plan) (m : ModeId) where
 
     saw : (watch : Watch) (ask : Ask) (answer : Answer) (i : Item) → named_by core watch ask answer ≡ Some i → is_seen i ≡ true → Saw watch i ask answer
     saw watch (OfBoard Look) (Replied (Shown b)) i e seen = (b, refl, refl, e)
+    saw watch (OfBoard LookDrained) (Replied (Drained cores)) i e seen = absurd (both_ways (is_seen i) (closing-item (λ j. is_seen j ≡ false) refl watch cores i e) seen)
     saw watch (OfBoard (Start k)) (Replied (Started status)) i e seen = unlike is_seen _ i e refl seen
     saw watch (OfBoard (Enter mode)) (Replied Acknowledged) i e seen = unlike is_seen _ i e refl seen
     saw watch (OfBoard MakeReady) (Replied Acknowledged) i e seen = unlike is_seen _ i e refl seen
@@ -190,7 +191,6 @@ module _ (plan : Plan) (m : ModeId) where
     in-conflict Watch.On b e = let same = (opens _ _ _ e).1 in cc
     in-conflict Watch.FirstGate b e = let same = (opens _ _ _ e).1 in cc
     in-conflict Watch.SecondGate b e = let same = (opens _ _ _ e).1 in cc
-    in-conflict Watch.PassEnd b e = let same = (opens _ _ _ e).1 in cc
     in-conflict watch b e = cc
 
     -- It is off, or it is started.
@@ -312,7 +312,8 @@ module _ (plan : Plan) (m : ModeId) where
 
     heard : (h : History) → Asks but_halt h → (next : Option Stimulus) (watch : Watch) (ask : Ask) (answer : Answer) (i : Item) → IsOwnAsk v (state_of v h) next (Some ask) → named_by core watch ask answer ≡ Some i → is_halting i ≡ true → Heard watch i ask answer
     heard h never next watch (OfBoard LookHalt) (Replied (Halting halt)) i own e halts = (halt, refl, refl, e)
-    heard h never next watch (OfBoard Look) (Replied (Shown b)) i own e halts = absurd (both_ways (is_halting i) (passing-item (λ j. is_halting j ≡ false) refl (λ agreement. refl) (λ cores. refl) refl core b watch i e) halts)
+    heard h never next watch (OfBoard Look) (Replied (Shown b)) i own e halts = absurd (both_ways (is_halting i) (passing-item (λ j. is_halting j ≡ false) refl (λ agreement. refl) (λ cores. refl) core b watch i e) halts)
+    heard h never next watch (OfBoard LookDrained) (Replied (Drained cores)) i own e halts = absurd (both_ways (is_halting i) (closing-item (λ j. is_halting j ≡ false) refl watch cores i e) halts)
     heard h never next watch (OfBoard (AskHalt status)) answer i own e halts = absurd (never-asked v h never own)
     heard h never next watch (OfBoard (Start k)) (Replied (Started status)) i own e halts = unlike is_halting _ i e refl halts
     heard h never next watch (OfBoard (Enter mode)) (Replied Acknowledged) i own e halts = unlike is_halting _ i e refl halts

@@ -4,6 +4,7 @@ use Rattle.std.specs.Prelude.{nat_lt, if◌then◌else◌, Bool, true, Option, S
 use Rattle.osbase.specs.declared.statuses.Status.{Status}
 use Rattle.osbase.specs.declared.statuses.Status.TheVariants.{EOsId}
 use Rattle.osbase.specs.declared.references.CoreId.{CoreId}
+use Rattle.osbase.specs.declared.items.CoreSet.{CoreSet}
 use Rattle.osbase.specs.declared.items.Item.{Item}
 use Rattle.osbase.specs.declared.items.Stimulus.{Stimulus}
 use Rattle.osbase.specs.declared.limits.TheConstants.{SPINLOCKS}
@@ -18,9 +19,9 @@ use Rattle.osspin.specs.declared.calls.SpinReply.{SpinReply}
 use Rattle.osspin.specs.declared.calls.SpinReply.TheVariants.{Answered}
 use Rattle.osspin.specs.Spins.{SpinEntry, spin_call}
 use Rattle.osboard.specs.declared.calls.BoardCall.{BoardCall}
-use Rattle.osboard.specs.declared.calls.BoardCall.TheVariants.{Start, Enter, MakeReady, Drain, Look, AskHalt, LookHalt}
+use Rattle.osboard.specs.declared.calls.BoardCall.TheVariants.{Start, Enter, MakeReady, Drain, Look, LookDrained, AskHalt, LookHalt}
 use Rattle.osboard.specs.declared.calls.BoardReply.{BoardReply}
-use Rattle.osboard.specs.declared.calls.BoardReply.TheVariants.{Started, Acknowledged, Shown, Decided, Halting}
+use Rattle.osboard.specs.declared.calls.BoardReply.TheVariants.{Started, Acknowledged, Shown, Drained, Decided, Halting}
 use Rattle.osboard.specs.declared.calls.BoardView.{BoardView}
 use Rattle.osboard.specs.Boards.{BoardEntry, agreement_in, have_all}
 use Rattle.oskernel.specs.declared.wants.SpinWish.{SpinWish}
@@ -53,11 +54,12 @@ own_asked v next Want.GoOn = Some (going_on next)
 own_asked v next Want.Drain = Some (OfBoard Drain)
 own_asked v next Want.Nothing = None
 
--- A look loads one word of the board: that of the shutdown of all cores, where it waits for one or for the end, and else
--- that of the sets.
+-- A look loads one word of the board: that of the shutdown of all cores, where it waits for one or for the end; that of the drained
+-- cores, where it waits for them; and else that of the other sets.
 abbrev pub look_asked : Watch → Ask
 look_asked Watch.Halt = OfBoard LookHalt
 look_asked Watch.Last = OfBoard LookHalt
+look_asked (Watch.PassEnd started) = OfBoard LookDrained
 look_asked watch = OfBoard Look
 
 abbrev pub asked_by : View → Want → Watch → Option Stimulus → Choice → Option Ask
@@ -70,13 +72,17 @@ abbrev pub asked : View → History → Option Stimulus → Choice → Option As
 asked v h next choice = asked_by v (want_of v h) (watch_of v h) next choice
 
 -- The gates open where all started cores have come to them.
--- [AUTOSAR SWS OS 4.x, SWS_Os_00579 and SWS_Os_00580; that a core drains is this project's own]
+-- [AUTOSAR SWS OS 4.x, SWS_Os_00579 and SWS_Os_00580]
 abbrev pub passing : CoreId → BoardView → Watch → Option Item
 passing id view Watch.On = if has_core view.started id then Some Item.On else None
 passing id view Watch.FirstGate = if have_all view.started view.entered then Some (Item.Pass1 (agreement_in view.modes)) else None
 passing id view Watch.SecondGate = if have_all view.started view.ready then Some (Item.Pass2 view.started) else None
-passing id view Watch.PassEnd = if have_all view.started view.drained then Some Item.PassEnd else None
 passing id view watch = None
+
+-- A core that has drained closes where the cores have that were started when its second gate opened. [own]
+abbrev pub closing : Watch → CoreSet → Option Item
+closing (Watch.PassEnd started) drained = if have_all started drained then Some Item.PassEnd else None
+closing watch drained = None
 
 -- A core halts where a shutdown of all cores was asked for, and at its end learns whether one was.
 -- [AUTOSAR SWS OS 4.x, ShutdownAllCores; that a core looks for it is this project's own]
@@ -91,6 +97,7 @@ replied id watch (Enter mode) Acknowledged = Some Item.Entered
 replied id watch MakeReady Acknowledged = Some Item.Readied
 replied id watch Drain Acknowledged = Some Item.Drained
 replied id watch Look (Shown view) = passing id view watch
+replied id watch LookDrained (Drained drained) = closing watch drained
 replied id watch (AskHalt status) (Decided asked) = Some (Item.Halt asked.0 asked.1)
 replied id watch LookHalt (Halting halt) = halted watch halt
 replied id watch call reply = None

@@ -3,10 +3,10 @@
 ghost use Rattle.std.specs.Prelude.{◌≡◌};
 ghost use Rattle.osbase.specs.declared.references.CoreId.{CoreId as CoreIdValue};
 ghost use Rattle.osplan.specs.View.{is_configured, view_of};
-ghost use Rattle.osturn.specs.Asking.{going_on, halted, look_asked, named_by, own_asked, passing, replied, spin_call_of, spun, starting};
+ghost use Rattle.osturn.specs.Asking.{closing, going_on, halted, look_asked, named_by, own_asked, passing, replied, spin_call_of, spun, starting};
 
-use osbase::{CoreId, CoreMode, Envelope, Item, Status, Stimulus};
-use osboard::{BoardCall, BoardReply, BoardView};
+use osbase::{CoreId, CoreMode, CoreSet, Envelope, Item, Status, Stimulus};
+use osboard::{BoardCall, BoardReply, BoardView, have_all};
 use oskernel::{SpinWish, Want, Watch};
 use osplan::Plan;
 use osspin::{SpinAction, SpinCall, SpinReply};
@@ -121,6 +121,7 @@ pub fn look_asked(watch: Watch) -> Ask
 {
     match watch {
         Watch::Halt | Watch::Last => Ask::OfBoard(BoardCall::LookHalt),
+        Watch::PassEnd(_) => Ask::OfBoard(BoardCall::LookDrained),
         _ => Ask::OfBoard(BoardCall::Look),
     }
 }
@@ -161,6 +162,7 @@ fn replied(id: CoreId, watch: Watch, call: BoardCall, reply: &BoardReply) -> Opt
         (BoardCall::MakeReady, BoardReply::Acknowledged) => Some(Item::Readied),
         (BoardCall::Drain, BoardReply::Acknowledged) => Some(Item::Drained),
         (BoardCall::Look, BoardReply::Shown(view)) => passing(id, view, watch),
+        (BoardCall::LookDrained, BoardReply::Drained(drained)) => closing(watch, drained),
         (BoardCall::AskHalt(_), BoardReply::Decided(asked)) => Some(halt_by(*asked)),
         (BoardCall::LookHalt, BoardReply::Halting(halt)) => halted(watch, *halt),
         (_, _) => None,
@@ -175,7 +177,16 @@ fn passing(id: CoreId, view: &BoardView, watch: Watch) -> Option<Item>
         Watch::On if view.started.contains(id) => Some(Item::On),
         Watch::FirstGate if view.have_all_entered() => Some(Item::Pass1(view.agreement())),
         Watch::SecondGate if view.are_all_ready() => Some(Item::Pass2(view.started)),
-        Watch::PassEnd if view.have_all_drained() => Some(Item::PassEnd),
+        _ => None,
+    }
+}
+
+// A core that has drained closes where the cores have that were started when its second gate opened.
+fn closing(watch: Watch, drained: &CoreSet) -> Option<Item>
+    ensures { result ≡ closing watch drained.now }
+{
+    match watch {
+        Watch::PassEnd(started) if have_all(&started, drained) => Some(Item::PassEnd),
         _ => None,
     }
 }

@@ -18,9 +18,10 @@ use osbase::{
     CORES, Choice, CoreId, CoreStimuli, Item, List, Mark, OUTBOX, Phase, Report, Stimulus,
     stimuli_for,
 };
-use oskernel::{Kernel, STEP_MARKS};
+use oskernel::{Kernel, STEP_MARKS, Watch};
 use osplan::{Config, Core, Plan};
 use std::alloc::{AllocError, Global};
+use std::mem;
 
 /// A kernel of the sizes that every configuration within the limits fits: 32 priorities, 64 jobs, and an
 /// outbox of `OUTBOX` envelopes.
@@ -85,7 +86,12 @@ impl<'a> Seat<'a> {
     pub fn named(&self, ask: Ask, answer: &Answer) -> Option<Item>
         ensures { result ≡ named_by self.now.id (watch_in self.now.kernel) ask answer.now }
     {
-        named(self.id, self.kernel.watch(), ask, answer)
+        // What the core watches for is asked where the board answered alone, since most turns ask something else.
+        let watch = match ask {
+            Ask::OfBoard(_) => self.kernel.watch(),
+            _ => Watch::Nothing,
+        };
+        named(self.id, watch, ask, answer)
     }
 
     /// Makes room for one more item and all lines that it may print. Without memory nothing changes.
@@ -130,22 +136,17 @@ impl<'a> Seat<'a> {
         matches!(self.kernel.phase(), Phase::Ended)
     }
 
-    /// What the run came to for this core.
-    pub fn report(self) -> Report
-        ensures { result ≡ record { core = self.entry.id; items = self.entry.items.items; marks = self.entry.marks.items; ended = is_ended_phase self.entry.kernel.progress.phase } }
+    /// What the run came to for this core. The seat gives its items and lines up, and its kernel stays where it is, since moving that
+    /// costs more than all else at the end of a short run.
+    pub fn report(&mut self) -> Report
+        ensures { result ≡ record { core = self.old.id; items = self.old.items.items; marks = self.old.marks.items; ended = is_ended_phase self.old.kernel.progress.phase } }
     {
-        let ended = self.has_ended();
-        let Seat {
-            id,
-            items,
-            marks,
-            ..
-        } = self;
+        let alloc = *self.items.allocator();
         Report {
-            core: id,
-            items: List::from_vec(items),
-            marks: List::from_vec(marks),
-            ended,
+            core: self.id,
+            items: List::from_vec(mem::replace(&mut self.items, Vec::new(alloc))),
+            marks: List::from_vec(mem::replace(&mut self.marks, Vec::new(alloc))),
+            ended: self.has_ended(),
         }
     }
 }

@@ -12,7 +12,7 @@ use Rattle.osplan.specs.declared.plans.Plan.{Plan}
 use Rattle.osplan.specs.View.{view_of}
 use Rattle.osstate.specs.State.{state_of}
 use Rattle.oskernel.specs.declared.wants.Watch.{Watch}
-use Rattle.osboard.specs.declared.calls.BoardCall.TheVariants.{Drain, Look, LookHalt}
+use Rattle.osboard.specs.declared.calls.BoardCall.TheVariants.{Drain, Look, LookDrained, LookHalt}
 use Rattle.osspin.specs.Spins.{spin_reply}
 use Rattle.osturn.specs.declared.asks.Ask.{Ask}
 use Rattle.osturn.specs.declared.asks.Ask.TheVariants.{OfBoard, OfSpins, Room, Oldest, StartUnknown, TakeStimulus}
@@ -21,7 +21,7 @@ use Rattle.osturn.specs.Asking.{named_by, spin_call_of}
 use Rattle.osworld.specs.World.{World, answer_in, board_in, has_room, history_in, holders_in, items_in, next_stimulus}
 use Rattle.osturn.specs.Seats.{stimulus_count}
 use Rattle.osturn.proofs.Asked.{IsOwnAsk}
-use Rattle.osturn.proofs.Leading.{halted-item, is-item, passing-item, spun-item}
+use Rattle.osturn.proofs.Leading.{closing-item, halted-item, is-item, passing-item, spun-item}
 
 -- What is known of an item that a turn of this core names.
 abbrev pub IsNext : Plan → List CoreStimuli → World → CoreId → Item → Type 0
@@ -35,7 +35,8 @@ module _ (plan : Plan) (stimuli : List CoreStimuli) (w : World) (id : CoreId) wh
   is j i e next = is-item (IsNext plan stimuli w id) j i next e
 
   pub follows : (watch : Watch) (ask : Ask) (i : Item) → IsOwnAsk (view_of plan id) (state_of (view_of plan id) (history_in plan w id)) (next_stimulus stimuli w id) (Some ask) → named_by id watch ask (answer_in plan w id ask) ≡ Some i → IsNext plan stimuli w id i
-  follows watch (OfBoard Look) i own e = passing-item (IsNext plan stimuli w id) tt (λ agreement. tt) (λ cores. tt) tt id (board_in plan w).view watch i e
+  follows watch (OfBoard Look) i own e = passing-item (IsNext plan stimuli w id) tt (λ agreement. tt) (λ cores. tt) id (board_in plan w).view watch i e
+  follows watch (OfBoard LookDrained) i own e = closing-item (IsNext plan stimuli w id) tt watch (board_in plan w).drained i e
   follows watch (OfBoard Drain) i own e = is Item.Drained i e own
   follows watch (OfBoard LookHalt) i own e = halted-item (IsNext plan stimuli w id) (λ asked. tt) (λ core status. tt) watch (board_in plan w).halt i e
   follows watch (OfBoard call) i own e = is _ i e tt

@@ -15,3 +15,4 @@ pub mod Reported
 pub mod Served
 pub mod Short
 pub mod Default
+pub mod Told

@@ -24,9 +24,9 @@ use Rattle.oskernel.specs.Step.{outbox_size, takes}
 use Rattle.oskernel.specs.declared.wants.Watch.{Watch}
 use Rattle.oskernel.specs.Wants.{front_of, watch_in}
 use Rattle.osboard.specs.declared.calls.BoardCall.{BoardCall}
-use Rattle.osboard.specs.declared.calls.BoardCall.TheVariants.{Start, Enter, MakeReady, Drain, Look, AskHalt, LookHalt}
+use Rattle.osboard.specs.declared.calls.BoardCall.TheVariants.{Start, Enter, MakeReady, Drain, Look, LookDrained, AskHalt, LookHalt}
 use Rattle.osboard.specs.declared.calls.BoardReply.{BoardReply}
-use Rattle.osboard.specs.declared.calls.BoardReply.TheVariants.{Started, Acknowledged, Shown, Decided, Halting}
+use Rattle.osboard.specs.declared.calls.BoardReply.TheVariants.{Started, Acknowledged, Shown, Drained, Decided, Halting}
 use Rattle.osboard.specs.Boards.{board_reply}
 use Rattle.osturn.specs.declared.seats.Seat.{Seat}
 use Rattle.osturn.specs.declared.asks.Ask.{Ask}
@@ -41,7 +41,7 @@ use Rattle.osworld.specs.Answering.{answer_by, carried, IsPlaced, next_by, settl
 use Rattle.osturn.specs.Seats.{IsSeated}
 use Rattle.osturn.specs.Asking.{named_by, replied, spin_call_of}
 use Rattle.osworld.specs.Playing.{IsAnswered, IsCutShort, IsPlayed, Plays}
-use Rattle.osturn.proofs.Leading.{halted-item, is-item, passing-item, spun-item}
+use Rattle.osturn.proofs.Leading.{closing-item, halted-item, is-item, passing-item, spun-item}
 use Rattle.osworld.proofs.Listed.{is_seat_of, seat_is_of, seat_nowhere, seat_place}
 use Rattle.osworld.proofs.Turning.{turn-nobody, turn-nothing, turn-refused, turn-taken, turn-appends}
 use Rattle.osturn.proofs.Seated.{Took, Keeps, seated-kept, took-kept}
@@ -166,7 +166,8 @@ module _ (mail : Mail) (id : CoreId) (item : Item) where
   replied-placed watch (Enter mode) Acknowledged leads = is-placed Item.Entered tt leads
   replied-placed watch MakeReady Acknowledged leads = is-placed Item.Readied tt leads
   replied-placed watch Drain Acknowledged leads = is-placed Item.Drained tt leads
-  replied-placed watch Look (Shown view) leads = passing-item (IsPlaced mail id) tt (λ agreement. tt) (λ cores. tt) tt id view watch item leads
+  replied-placed watch Look (Shown view) leads = passing-item (IsPlaced mail id) tt (λ agreement. tt) (λ cores. tt) id view watch item leads
+  replied-placed watch LookDrained (Drained drained) leads = closing-item (IsPlaced mail id) tt watch drained item leads
   replied-placed watch (AskHalt status) (Decided asked) leads = is-placed (Item.Halt asked.0 asked.1) tt leads
   replied-placed watch LookHalt (Halting halt) leads = halted-item (IsPlaced mail id) (λ asked. tt) (λ core status. tt) watch halt item leads
   replied-placed watch call reply leads = cc

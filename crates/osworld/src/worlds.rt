@@ -1,6 +1,6 @@
 //! The world of a listed run: its cores and what stands between them, turn by turn.
 
-ghost use Rattle.std.specs.Prelude.{IsTrue, ◌≡◌, ◌+◌, ◌<◌, ◌≤◌, ◌∷◌, [], Some, IfSome, IfOk, OnErr, false, vec_len, vec_capacity, map, not, ◌||◌, position, slice_get};
+ghost use Rattle.std.specs.Prelude.{IsTrue, ◌≡◌, ◌+◌, ◌<◌, ◌≤◌, ◌∷◌, [], Some, IfSome, IfOk, OnErr, false, vec_len, vec_capacity, length, map, not, ◌||◌, position, slice_get};
 ghost use Rattle.std.specs.List.{list_all};
 ghost use Rattle.std.proofs.Props.{props};
 ghost use Rattle.osbase.specs.declared.limits.TheConstants.{CORES};
@@ -12,7 +12,7 @@ ghost use Rattle.osturn.specs.declared.seats.Seat.{Seat as SeatValue};
 ghost use Rattle.osbase.specs.Sets.{has_core};
 ghost use Rattle.osworld.specs.Answering.{answer_by};
 ghost use Rattle.osworld.specs.World.{first_world};
-ghost use Rattle.osturn.specs.Seats.{is_ended_phase};
+ghost use Rattle.osturn.specs.Seats.{is_ended_phase, report_of};
 ghost use Rattle.osworld.specs.Runs.{round_by, serves_of, turns_in_round};
 
 use crate::answering::Between;
@@ -34,7 +34,6 @@ pub struct World<'a> {
 }
 
 impl<'a> World<'a> {
-    ghost use Rattle.osturn.specs.Seats.{report_of};
     ghost use Rattle.osworld.specs.Playing.{IsAnswered, Plays, PlaysTurns, StopsShort};
 
     /// The world before the first turn, with place for the reports at its end.
@@ -50,7 +49,7 @@ impl<'a> World<'a> {
         ensures limits { IsTrue (is_within_limits config.now) }
     {
         let plan = config.plan();
-        let mut seats = Vec::with_capacity(alloc, CORES)?;
+        let mut seats = Vec::with_capacity(alloc, plan.cores.len())?;
         for number in 0..CORE_NUMBERS {
             let id = CoreId { number };
             if plan.core(id).is_some() {
@@ -219,13 +218,11 @@ impl<'a> World<'a> {
         ensures { result.items ≡ map report_of self.entry.seats.items }
     {
         let World {
-            seats,
+            mut seats,
             mut reports,
             ..
         } = self;
-        for seat in seats {
-            reports.push_reserved(seat.report());
-        }
+        report_each(seats.as_mut_slice(), &mut reports);
         reports
     }
 
@@ -240,6 +237,17 @@ impl<'a> World<'a> {
         } else {
             None
         }
+    }
+}
+
+// The report of each seat, in order.
+fn report_each(seats: &mut [Seat], reports: &mut Vec<Report>)
+    requires none { reports.old.items ≡ [] }
+    requires room { length seats.old ≤ vec_capacity reports.old }
+    ensures { reports.new.items ≡ map report_of seats.old }
+{
+    for seat in seats.iter_mut() {
+        reports.push_reserved(seat.report());
     }
 }
 

@@ -11,7 +11,7 @@ use Rattle.osplan.specs.Expressible as said
 use Rattle.osplan.specs.Objects as plans
 use Rattle.osplan.specs.{Names.name_of_mode, Names.name_of, Names.spinlock_name, Spinlocks.are_links_ordered, Spinlocks.links_of, Protection.protection_named, Protection.protection_word, declared.protection.Protection.Protection, View.core_of, View.counter_in, Fault.if_faultless, Fault.failing}
 use Rattle.osplan.proofs.{Scripts.all_scripts, SpinlockObjects.there-spinlock, Found.IsFound, Found.each-found, Numbered.master-low, ModeObjects.mode-named, ModeObjects.mode-said, ModeObjects.nobody, ModeObjects.there-mode}
-use Rattle.osplan.proofs.{Tests.each-flat, Tests.any-find, Tests.any-mapped, Within.limit-parts, Within.text-parts, Within.core-text-parts, Within.TextParts, Within.LimitParts}
+use Rattle.osplan.proofs.{Tests.each-flat, Tests.any-find, Tests.any-mapped, Within.between, Within.cap-within, Within.version-within, Within.limit-parts, Within.text-parts, Within.core-text-parts, Within.TextParts, Within.LimitParts}
 use Rattle.oscript.specs.{declared.Op.TheVariants.Work, Calls.action_of_op, Calls.op_of_call, Rows.has_masks, Rows.is_in_form}
 use Rattle.oscript.proofs.Acting.{action-back as action-of, call-objects}
 use Rattle.osforms.specs.{Operation.op_meant, Operation.has_masks as text_has_masks, Action.is_action as is_action_text}
@@ -82,7 +82,7 @@ protection-back p = refl
 
 -- ---- the parts of what is known of a core
 
-core-limits : (s : CoreSizes) → is_core_within s ≡ true → (is_between 0 7 s.number ≡ true) × (list_all is_start s.start ≡ true) × (list_all is_task_within s.tasks ≡ true) × (list_all limits.is_ceiling s.resources ≡ true)
+core-limits : (s : CoreSizes) → is_core_within s ≡ true → (is_between 0 15 s.number ≡ true) × (list_all is_start s.start ≡ true) × (list_all is_task_within s.tasks ≡ true) × (list_all limits.is_resource_within s.resources ≡ true)
     × (are_counters_within s.counters ≡ true) × (list_all limits.is_counter_within s.counters ≡ true) × (list_all is_alarm_within s.alarms ≡ true) × (list_all is_table_within s.tables ≡ true)
     × (list_all is_isr_within s.isrs ≡ true)
 core-limits s h = (grind arith, grind arith, grind arith, grind arith, grind arith, grind arith, grind arith, grind arith, grind arith)
@@ -176,7 +176,7 @@ module _ (plan : Plan) (inside : IsTrue (limits.is_within_limits plan)) (sayable
       let tests = and_parts _ _ within in
       let limit = core-limits (limits.core_sizes plan core) tests.0 in
       let same : map counter_sizes (map counter_said core.counters) ≡ map limits.counter_sizes core.counters = map-map counter_sizes counter_said core.counters in
-      let id = id-back core.id (is-byte 0 7 (number_of core.id) limit.0 (omega arith)) in
+      let id = id-back core.id (is-byte 0 15 (number_of core.id) limit.0 (omega arith)) in
       (record { core = core; found = ap (core_of plan) id ∙ found.0; same = sym same; within = ap are_counters_within same ∙ limit.4 }, cores-have cores tests.1 found.1)
 
   -- The name of a counter of the configuration stands for it, and has its numbers.
@@ -220,7 +220,7 @@ module _ (plan : Plan) (inside : IsTrue (limits.is_within_limits plan)) (sayable
       let script = script-back id isr.script known tests.1 in
       record { shaped = rw tests.0 refl; meant = rw script.meant (grind (arith, nat_tests)); passed = grind (arith, script.passed, ap said.is_free_of_resources script.meant ∙ tests.2) }
 
-  resource-back : (resource : Resource) → limits.is_ceiling (limits.ceiling_of resource) ≡ true → said.is_resource_expressible resource ≡ true → Back resource_data resource_said resource_shape resource_plan (λ _. true) resource
+  resource-back : (resource : Resource) → limits.is_resource_within (limits.resource_sizes resource) ≡ true → said.is_resource_expressible resource ≡ true → Back resource_data resource_said resource_shape resource_plan (λ _. true) resource
   unfolding resource_shape
   resource-back resource within says = record { shaped = rw says refl; meant = grind (arith, nat_tests); passed = refl }
 
@@ -324,7 +324,7 @@ module _ (plan : Plan) (inside : IsTrue (limits.is_within_limits plan)) (sayable
       let tables = backs core.tables (λ table here. table-back id table (here _ within) (here _ timed) (here _ known.4) (here _ texts.tables)) in
       record {
         shaped = rw (alarms.shaped, counters.shaped, isrs.shaped, mode.shaped, protection-back core.protection, resources.shaped, start.shaped, tables.shaped, tasks.shaped) refl;
-        meant = rw (mode.meant, start.meant, tasks.meant, isrs.meant, resources.meant, counters.meant, alarms.meant, tables.meant, id-back core.id (is-byte 0 7 (number_of core.id) limit.0 (omega arith))) refl;
+        meant = rw (mode.meant, start.meant, tasks.meant, isrs.meant, resources.meant, counters.meant, alarms.meant, tables.meant, id-back core.id (is-byte 0 15 (number_of core.id) limit.0 (omega arith))) refl;
         passed = grind (
           arith,
           mode.passed,
@@ -386,7 +386,9 @@ module _ (plan : Plan) (inside : IsTrue (limits.is_within_limits plan)) (sayable
   plan-back : plan_of (config_said plan) ≡ plan
   plan-back =
       let master : plan.master.number < 16 = master-low plan inside in
-      rw (id-back plan.master (ap Some (byte-small plan.master.number (omega arith))), spinlocks-back.meant, cores-back.meant) (grind (arith, nat_tests, bounds.sizes))
+      let version = byte-small plan.version (omega (arith, (between 1 2 plan.version (version-within (limits.sizes_of plan) bounds.sizes)).1)) in
+      let cap = byte-small plan.cap (omega (arith, (between 1 16 plan.cap (cap-within (limits.sizes_of plan) bounds.sizes)).1)) in
+      rw (id-back plan.master (ap Some (byte-small plan.master.number (omega arith))), spinlocks-back.meant, cores-back.meant, version, cap) refl
 
   faultless : failing (tests_of (config_said plan)) ≡ []
   faultless =

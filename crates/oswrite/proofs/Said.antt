@@ -3,7 +3,7 @@ use Rattle.std.proofs.Common.{ℕ, List, map, Some, option_map}
 use Rattle.osbase.specs.Objects.{counter_place}
 use Rattle.oscheck.specs.Words.{Alarm, AlarmStart, AlarmStartText, AlarmText, ConfigText, Core, CoreText, Counter, CounterRef, CounterText, ExpiryPoint, Isr, IsrText, ObjectKind, Plan, PointText, RemoteCall, Resource, ResourceText, Spinlock, SpinlockText, Table, TableStart, TableStartText, TableText, Task, TaskText}
 use Rattle.oscript.specs.Calls.{op_of_call}
-use Rattle.osplan.specs.{Limits.ceiling_of, Limits.number_of, Names.name_of, Names.name_of_mode, Names.spinlock_name}
+use Rattle.osplan.specs.{Limits.number_of, Names.name_of, Names.name_of_mode, Names.spinlock_name}
 use Rattle.osdata.specs.Data.{core_mode_word, op_text, script_text}
 
 abbrev pub task_said : Plan → Task → TaskText
@@ -13,7 +13,7 @@ abbrev pub isr_said : Plan → Isr → IsrText
 isr_said plan isr = record { name = isr.name; level = Some isr.level; budget = Some isr.budget; script = script_text plan isr.script }
 
 abbrev pub resource_said : Resource → ResourceText
-resource_said resource = record { name = resource.name; ceiling = ceiling_of resource }
+resource_said resource = record { name = resource.name; ceiling = Some resource.ceiling; lock = Some resource.lock }
 
 abbrev pub counter_said : Counter → CounterText
 counter_said counter = record { name = counter.name; max = Some counter.max; min = Some counter.min; software = counter.software }
@@ -64,4 +64,4 @@ abbrev pub spinlock_said : Plan → Spinlock → SpinlockText
 spinlock_said plan spinlock = record { name = spinlock.name; next = option_map (spinlock_name plan) spinlock.next }
 
 abbrev pub config_said : Plan → ConfigText
-config_said plan = record { version = Some 1; cap = Some plan.cap; master = number_of plan.master; modes = plan.modes; spinlocks = map (spinlock_said plan) plan.spinlocks; cores = map (core_said plan) plan.cores }
+config_said plan = record { version = Some plan.version; cap = Some plan.cap; master = number_of plan.master; modes = plan.modes; spinlocks = map (spinlock_said plan) plan.spinlocks; cores = map (core_said plan) plan.cores }

@@ -6,7 +6,7 @@ use Rattle.osplan.specs.declared.plans.Plan.{Plan}
 use Rattle.osdata.specs.Data.{core_data, id_data, list_data, name_data, spinlock_data, whole_data}
 
 -- A configuration, with every member of its text, in ascending order of names: the size of a mailbox, its cores, the master core, its
--- application modes, its spinlocks and the version, 1. [own]
+-- application modes, its spinlocks and the version of the format. [own]
 abbrev pub config_data : Plan → Data
 config_data plan = object
     (member (codes "cap") (whole_data plan.cap)
@@ -14,7 +14,7 @@ config_data plan = object
     (member (codes "master") (id_data plan.master)
     (member (codes "modes") (list_data name_data plan.modes)
     (member (codes "spinlocks") (list_data (spinlock_data plan) plan.spinlocks)
-    (member (codes "version") (whole_data 1) no_members))))))
+    (member (codes "version") (whole_data plan.version) no_members))))))
 
 -- Its text: compact JSON. [own]
 abbrev pub config_text : Plan → List ℕ

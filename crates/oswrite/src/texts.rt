@@ -19,11 +19,11 @@ fn plan_value(alloc: Global, plan: &Plan) -> Result<Value, AllocError>
         "master": u64::from(plan.master.number),
         "modes": modes_value(alloc, plan)?,
         "spinlocks": spinlocks_value(alloc, plan)?,
-        "version": 1u64
+        "version": u64::from(plan.version)
     })
 }
 
-/// The text of a configuration, version 1 of the format: compact JSON with every member written, in
+/// The text of a configuration, of its version of the format: compact JSON with every member written, in
 /// ascending order of names. Reading it gives the configuration back. `NoMemory` where memory runs out,
 /// and no other fault.
 pub fn config_text(alloc: Global, config: &Config) -> Result<String, ConfFault>

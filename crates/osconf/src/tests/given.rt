@@ -1,5 +1,8 @@
 //! Stimuli and schedules.
 
+// Three cores of version 2.
+pub(super) const SECOND: &str = r#"{"version":2,"cores":[{"id":0},{"id":9},{"id":15}]}"#;
+
 pub(super) const NO_STIMULI: &str = r#"
 // Words that are no stimuli.
 text {"1":"op","0":"@"}
@@ -95,4 +98,16 @@ Limit 1000000
 text ["0o @"]
 each [ ] 1l
 BadSchedule 1000000
+"#;
+
+pub(super) const SECOND_STIMULI: &str = r#"
+text {"0":"op","@":""}
+fine 9|15
+BadStimulus 1|8|10|16|09|015|9 |15.0|150
+"#;
+
+pub(super) const SECOND_SCHEDULES: &str = r#"
+text "15o @"
+fine 9o|15l|9s15|15s9|0s15|15s0
+BadSchedule 1o|8o|16o|9s9|15s15|15s1|9s16|09o|9s09|015o|150o|9s150|15|15s|9 s15
 "#;

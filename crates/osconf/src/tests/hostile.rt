@@ -40,6 +40,7 @@ text {"cores":[{"id":0,"start":[@]}]}
 text {"cores":[{"id":0,"tasks":[{"name":"A","prio":@,"script":""}]}]}
 text {"cores":[{"id":0,"tasks":[{"name":"A","prio":1,"activations":@,"script":""}]}]}
 text {"cores":[{"id":0,"resources":[{"name":"R","ceiling":@}]}]}
+text {"cores":[{"id":0,"resources":[{"name":"R","ceiling":1,"lock":@}]}]}
 text {"cores":[{"id":0,"counters":[{"name":"K","max":@}]}]}
 text {"cores":[{"id":0,"counters":[{"name":"K","max":1,"min":@}]}]}
 text {"cores":[{"id":0,"tasks":[{"name":"A","prio":1,"script":""}],"counters":[{"name":"K","max":1}],"alarms":[{"name":"W","counter":"K","action":"ActivateTask A","auto":{"modes":[],"start":@,"cycle":0}}]}]}

@@ -3,16 +3,21 @@
 pub(super) const TEXTS: &str = r#"
 // A member's lowest and highest numbers, then what is just outside.
 text {"version":@,"cores":[{"id":0}]}
-fine 1|1
-Limit 0|2
+fine 1|2
+Limit 0|3
 
 text {"cap":@,"cores":[{"id":0}]}
 fine 1|16
 Limit 0|17
 
 text {"master":1,"cores":[{"id":1},{"id":@}]}
+text {"version":1,"master":1,"cores":[{"id":1},{"id":@}]}
 fine 0|7
-Limit -1|8
+Limit -1|8|9|15|16
+
+text {"version":2,"master":1,"cores":[{"id":1},{"id":@}]}
+fine 0|7|8|9|15
+Limit -1|16
 
 text {"cores":[{"id":0,"start":[1,@]}]}
 fine 0|255
@@ -30,10 +35,15 @@ text {"cores":[{"id":0,"resources":[{"name":"R","ceiling":@}]}]}
 fine 0|31
 Limit -1|32
 
+text {"cores":[{"id":0,"resources":[{"name":"R","ceiling":1,"lock":@}]}]}
+fine 0|1000000000
+Limit -1|1000000001
+
 // What is far outside.
 text {"version":@,"cores":[{"id":0}]}
 text {"cap":@,"cores":[{"id":0}]}
 text {"master":1,"cores":[{"id":1},{"id":@}]}
+text {"version":2,"master":1,"cores":[{"id":1},{"id":@}]}
 text {"cores":[{"id":0,"start":[1,@]}]}
 text {"cores":[{"id":0,"tasks":[{"name":"A","prio":@,"script":""}]}]}
 text {"cores":[{"id":0,"tasks":[{"name":"A","prio":1,"activations":@,"script":""}]}]}
@@ -53,10 +63,27 @@ text {"cores":[{"id":0,"tasks":[{"name":"A","prio":31,"script":""},{"name":"B","
 fine 0|31
 Limit -1|32
 
-// A configuration has 1 to 8 cores.
+// A configuration of version 1 has 1 to 8 cores, and one of version 2 has 1 to 16. They are counted before their numbers are compared.
 text {"cores":[@]}
+text {"version":1,"cores":[@]}
 fine {"id":0}|{"id":7},{"id":6},{"id":5},{"id":4},{"id":3},{"id":2},{"id":1},{"id":0}
 Limit |{"id":0},{"id":1},{"id":2},{"id":3},{"id":4},{"id":5},{"id":6},{"id":7},{"id":0}
+each [,] {"id":0}
+DuplicateName 2|8
+Limit 9|16|17
+
+text {"version":2,"cores":[@]}
+each [,] {"id":@}
+fine 1|8|9|16
+Limit 0|17
+each [,] {"id":0}
+DuplicateName 2|9|16
+Limit 17|300
+
+// No other number is a version, however many cores there are.
+text {"version":3,"cores":[@]}
+each [,] {"id":@}
+Limit 0|1|9|16|17
 
 // The jobs of all a core's tasks are at most 64 at once.
 text {"cores":[{"id":0,"tasks":[{"name":"A","prio":1,"activations":63,"script":""},{"name":"B","prio":1,"activations":@,"script":""}]}]}
@@ -73,7 +100,7 @@ text @
 NotJson {"cores":[
 Shape []|{}|{"cores":[{"id":0}],"x":1}|{"cores":[{"id":0.5}]}|{"cores":[{"id":0}],"spinlock":[]}
 Shape {"cores":[{"id":0,"tasks":[{"name":"9","prio":1,"script":""}]}]}
-Limit {"cores":[]}|{"cores":[{"id":8}]}|{"cores":[{"id":-1}]}|{"version":2,"cores":[{"id":0}]}
+Limit {"cores":[]}|{"cores":[{"id":8}]}|{"cores":[{"id":-1}]}|{"version":3,"cores":[{"id":0}]}
 DuplicateName {"cores":[{"id":0},{"id":0}]}|{"cores":[{"id":0,"tasks":[{"name":"M","prio":1,"script":""}]}]}
 UnknownName {"master":1,"cores":[{"id":0}]}
 UnknownName {"cores":[{"id":0,"tasks":[{"name":"A","prio":1,"auto":["N"],"script":""}]}]}
@@ -83,8 +110,8 @@ BadScript {"cores":[{"id":0,"tasks":[{"name":"A","prio":1,"script":"work;"}]}]}
 Limit {"cores":[{"id":0,"tasks":[{"name":"A","prio":32,"script":"jump 2"}]}]}
 
 // Of two faults the smaller is told. For each two neighbours: the larger stands first, then the smaller.
-Shape {"version":2,"cores":[{"id":0}],"x":1}|{"cap":1.0,"cores":[{"id":8}]}
-Limit {"cores":[{"id":0},{"id":0}],"cap":17}
+Shape {"version":3,"cores":[{"id":0}],"x":1}|{"cap":1.0,"cores":[{"id":8}]}
+Limit {"cores":[{"id":0},{"id":0}],"cap":17}|{"cores":[{"id":0},{"id":0}],"version":3}|{"cores":[{"id":8},{"id":8}]}
 Limit {"cores":[{"id":0,"tasks":[{"name":"A","prio":32,"script":""}]},{"id":1,"tasks":[{"name":"A","prio":1,"script":""}]}]}
 DuplicateName {"master":1,"cores":[{"id":0},{"id":0}]}
 DuplicateName {"cores":[{"id":0,"tasks":[{"name":"M","prio":1,"auto":["N"],"script":""}]}]}

@@ -28,6 +28,18 @@ text {"cores":[{"id":0,"resources":[{"name":"R","ceiling":31},{"name":"S","ceili
 fine 0|31
 Limit -1|32
 
+text {"cores":[{"id":0,"resources":[{"name":"R","ceiling":1,"lock":1000000000},{"lock":@,"name":"S","ceiling":2}]}]}
+fine 0|1|1000000000
+Limit -1|1000000001|4294967296|18446744073709551615|-9223372036854775808
+Shape 1.5|"2"|[2]
+
+// A lock budget is a resource's.
+text {"cores":[{"id":0,"tasks":[{"name":"A","prio":1,"lock":@,"script":""}]}]}
+text {"cores":[{"id":0,"isrs":[{"name":"I","level":1,"lock":@,"script":""}]}]}
+text {"cores":[{"id":0,"resources":[{"name":"R","ceiling":1,"budget":@}]}]}
+text {"cores":[{"id":0}],"spinlocks":[{"name":"S","lock":@}]}
+Shape 0|2
+
 // The name of a resource.
 text {"cores":[{"id":0,"resources":[{"name":"@","ceiling":1}]}]}
 Shape |_R|9|R S|?|R-S|Ä

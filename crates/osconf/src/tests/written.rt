@@ -8,6 +8,17 @@ is {"cap":16,"cores":[{"alarms":[],"counters":[],"id":0,"isrs":[],"mode":"M","pr
 // A core without a mode is of the first, and one of any has the word for it.
 text {"modes":["B","N"],"cores":[{"id":0,"mode":"DONOTCARE","start":[1]},{"id":1,"mode":"N","tasks":[{"name":"A","prio":1,"auto":["N"],"script":""}]},{"id":2}]}
 is {"cap":16,"cores":[{"alarms":[],"counters":[],"id":0,"isrs":[],"mode":"DONOTCARE","protection":"PRO_SHUTDOWN","resources":[],"start":[1],"tables":[],"tasks":[]},{"alarms":[],"counters":[],"id":1,"isrs":[],"mode":"N","protection":"PRO_SHUTDOWN","resources":[],"start":[],"tables":[],"tasks":[{"activations":1,"auto":["N"],"budget":0,"extended":false,"name":"A","preemptable":true,"prio":1,"script":""}]},{"alarms":[],"counters":[],"id":2,"isrs":[],"mode":"B","protection":"PRO_SHUTDOWN","resources":[],"start":[],"tables":[],"tasks":[]}],"master":0,"modes":["B","N"],"spinlocks":[],"version":1}
+
+// A resource without a lock budget is written with 0.
+text {"cores":[{"id":0,"resources":[{"name":"R","ceiling":1,"lock":2},{"name":"S","ceiling":3}]}]}
+is {"cap":16,"cores":[{"alarms":[],"counters":[],"id":0,"isrs":[],"mode":"M","protection":"PRO_SHUTDOWN","resources":[{"ceiling":1,"lock":2,"name":"R"},{"ceiling":3,"lock":0,"name":"S"}],"start":[],"tables":[],"tasks":[]}],"master":0,"modes":["M"],"spinlocks":[],"version":1}
+
+// The version stays.
+text {"version":2,"master":15,"cores":[{"id":9},{"id":15}]}
+is {"cap":16,"cores":[{"alarms":[],"counters":[],"id":9,"isrs":[],"mode":"M","protection":"PRO_SHUTDOWN","resources":[],"start":[],"tables":[],"tasks":[]},{"alarms":[],"counters":[],"id":15,"isrs":[],"mode":"M","protection":"PRO_SHUTDOWN","resources":[],"start":[],"tables":[],"tasks":[]}],"master":15,"modes":["M"],"spinlocks":[],"version":2}
+
+text {"version":2,"cores":[{"id":0}]}
+is {"cap":16,"cores":[{"alarms":[],"counters":[],"id":0,"isrs":[],"mode":"M","protection":"PRO_SHUTDOWN","resources":[],"start":[],"tables":[],"tasks":[]}],"master":0,"modes":["M"],"spinlocks":[],"version":2}
 "#;
 
 // Texts that are written as they were read.
@@ -30,7 +41,7 @@ is
 text {"cap":16,"cores":[{"alarms":[],"counters":[],"id":0,"isrs":[],"mode":"M","protection":"PRO_SHUTDOWN","resources":[],"start":[],"tables":[],"tasks":[{"activations":1,"auto":["M"],"budget":0,"extended":true,"name":"A","preemptable":true,"prio":1,"script":"SetEvent A 4294967295;WaitEvent 1;ClearEvent 10;GetEvent A v7;SetEvent ? 2;GetEvent ? v0;ChainTask ?;ChainTask B"},{"activations":2,"auto":[],"budget":0,"extended":false,"name":"B","preemptable":true,"prio":1,"script":"SetEvent A 1;TerminateTask"}]}],"master":0,"modes":["M"],"spinlocks":[],"version":1}
 is
 
-text {"cap":16,"cores":[{"alarms":[],"counters":[],"id":0,"isrs":[],"mode":"M","protection":"PRO_SHUTDOWN","resources":[{"ceiling":31,"name":"S"},{"ceiling":0,"name":"R"}],"start":[],"tables":[],"tasks":[{"activations":1,"auto":["M"],"budget":0,"extended":false,"name":"A","preemptable":true,"prio":1,"script":"GetResource R;GetResource S;ReleaseResource S;GetResource ?;ReleaseResource R;TerminateTask"}]}],"master":0,"modes":["M"],"spinlocks":[],"version":1}
+text {"cap":16,"cores":[{"alarms":[],"counters":[],"id":0,"isrs":[],"mode":"M","protection":"PRO_SHUTDOWN","resources":[{"ceiling":31,"lock":1000000000,"name":"S"},{"ceiling":0,"lock":0,"name":"R"}],"start":[],"tables":[],"tasks":[{"activations":1,"auto":["M"],"budget":0,"extended":false,"name":"A","preemptable":true,"prio":1,"script":"GetResource R;GetResource S;ReleaseResource S;GetResource ?;ReleaseResource R;TerminateTask"}]}],"master":0,"modes":["M"],"spinlocks":[],"version":1}
 is
 
 text {"cap":16,"cores":[{"alarms":[],"counters":[{"max":1000000000,"min":1000000000,"name":"L","software":true},{"max":1,"min":1,"name":"K","software":false}],"id":0,"isrs":[],"mode":"M","protection":"PRO_SHUTDOWN","resources":[],"start":[],"tables":[],"tasks":[{"activations":1,"auto":["M"],"budget":0,"extended":false,"name":"A","preemptable":true,"prio":1,"script":"IncrementCounter K;GetCounterValue L v7;IncrementCounter ?;GetCounterValue ? v0;IncrementCounter L"}]}],"master":0,"modes":["M"],"spinlocks":[],"version":1}
@@ -65,4 +76,10 @@ pub(super) const THIRD: &str = r#"
 // A separate core beside others.
 text {"cap":2,"cores":[{"id":0,"start":[1,9],"tasks":[{"name":"A","prio":2,"script":"ActivateTask B;ActivateTask ?"}]},{"id":1,"start":[2],"tasks":[{"name":"B","prio":1,"script":""}]},{"id":2,"tasks":[{"name":"V","prio":1,"auto":["M"],"script":"work;ActivateTask V;ActivateTask ?;TerminateTask"}]},{"id":3}]}
 is {"cap":2,"cores":[{"alarms":[],"counters":[],"id":2,"isrs":[],"mode":"M","protection":"PRO_SHUTDOWN","resources":[],"start":[],"tables":[],"tasks":[{"activations":1,"auto":["M"],"budget":0,"extended":false,"name":"V","preemptable":true,"prio":1,"script":"work;ActivateTask V;ActivateTask ?;TerminateTask"}]}],"master":2,"modes":["M"],"spinlocks":[],"version":1}
+"#;
+
+pub(super) const LAST: &str = r#"
+// A core alone is of the same version.
+text {"version":2,"cores":[{"id":0,"start":[15]},{"id":15}]}
+is {"cap":16,"cores":[{"alarms":[],"counters":[],"id":15,"isrs":[],"mode":"M","protection":"PRO_SHUTDOWN","resources":[],"start":[],"tables":[],"tasks":[]}],"master":15,"modes":["M"],"spinlocks":[],"version":2}
 "#;

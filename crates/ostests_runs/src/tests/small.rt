@@ -13,8 +13,8 @@ use std::test::Fail;
 /// Room for eight jobs and sixteen envelopes; priorities and ceilings are below 8.
 type SmallKernel<'a> = Kernel<'a, 8, 8, 16>;
 
-/// Preemption, events, a resource, Schedule, and a chain.
-const EXAMPLES: [(&str, &str); 5] = [
+/// Preemption, events, a resource, Schedule, a chain, and a call to another core. No alarm or schedule table acts.
+const EXAMPLES: [(&str, &str); 6] = [
     (
         r#"{"cores":[{"id":0,"tasks":[{"name":"X","prio":1,"auto":["M"],"script":"ActivateTask Y;ActivateTask H;TerminateTask"},{"name":"Y","prio":1,"script":"TerminateTask"},{"name":"Z","prio":1,"script":"TerminateTask"},{"name":"H","prio":2,"script":"ActivateTask Z;TerminateTask"}]}]}"#,
         r#"{"0":"op op op op op op op"}"#,
@@ -34,6 +34,10 @@ const EXAMPLES: [(&str, &str); 5] = [
     (
         r#"{"cores":[{"id":0,"tasks":[{"name":"S","prio":1,"auto":["M"],"script":"ChainTask S"}]}]}"#,
         r#"{"0":"op op"}"#,
+    ),
+    (
+        r#"{"cores":[{"id":0,"start":[1],"tasks":[{"name":"A","prio":1,"auto":["M"],"script":"ActivateTask B;TerminateTask"}]},{"id":1,"tasks":[{"name":"B","prio":1,"script":"TerminateTask"}]}]}"#,
+        r#"{"0":"op op","1":"op op"}"#,
     ),
 ];
 
@@ -55,7 +59,8 @@ fn reports_of(alloc: Global, config: &Config, stimuli: &Stimuli) -> Result<Vec<R
     run_default(alloc, config, stimuli)
 }
 
-// The small kernel may take each item of the report in turn, and prints its marks.
+// The small kernel may take each item of the report in turn, and prints its marks. It just fits: a call and fifteen replies need
+// sixteen places.
 fn replay_small(
     rt: &impl Abort,
     alloc: Global,
@@ -65,6 +70,7 @@ fn replay_small(
     if !SmallKernel::fits(config, report.core) {
         return Err(Fail::from("a core that fits"));
     }
+    assert!(rt; !Kernel::<8, 8, 15>::fits(config, report.core));
     let mut kernel = SmallKernel::new(config, report.core);
     let mut marks: Vec<Mark> = Vec::with_capacity(alloc, 2 * STEP_MARKS)?;
     for item in report.items.as_slice() {
@@ -104,13 +110,13 @@ fn a_kernel_fits_exactly_the_cores_that_it_is_large_enough_for(
     rt: HostRuntime,
 ) -> Result<(), Fail> {
     let config = read_config(rt.alloc(), BOUNDS)?;
-    assert!(rt; Kernel::<8, 4, 11>::fits(&config, CORE_0));
-    assert!(rt; !Kernel::<8, 4, 10>::fits(&config, CORE_0));
-    assert!(rt; !Kernel::<8, 3, 11>::fits(&config, CORE_0));
-    assert!(rt; !Kernel::<7, 4, 11>::fits(&config, CORE_0));
+    assert!(rt; Kernel::<8, 4, 19>::fits(&config, CORE_0));
+    assert!(rt; !Kernel::<8, 4, 18>::fits(&config, CORE_0));
+    assert!(rt; !Kernel::<8, 3, 19>::fits(&config, CORE_0));
+    assert!(rt; !Kernel::<7, 4, 19>::fits(&config, CORE_0));
     assert!(rt; !SmallKernel::fits(&config, CORE_1));
-    assert!(rt; Kernel::<9, 1, 8>::fits(&config, CORE_1));
-    assert!(rt; !Kernel::<9, 1, 7>::fits(&config, CORE_1));
+    assert!(rt; Kernel::<9, 1, 16>::fits(&config, CORE_1));
+    assert!(rt; !Kernel::<9, 1, 15>::fits(&config, CORE_1));
     assert!(rt; !SmallKernel::fits(&config, CORE_2));
     Ok(())
 }

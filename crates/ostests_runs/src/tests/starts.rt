@@ -382,7 +382,7 @@ core 0 bound
 const SCRIPTS: &str = r#"
 // Operations that are in form, in a script of a task, and in one of an ISR. Core 0 starts cores, so it is bound in
 // any case.
-with StartCore ?|StartCore 0|StartCore 255|GetNumberOfActivatedCores v7|ShutdownOS 0|ShutdownOS 15|ShutdownAllCores 0|ShutdownAllCores 15
+with StartCore ?|StartCore 0|StartCore 255|GetNumberOfActivatedCores v7|ShutdownOS 0|ShutdownOS 16|ShutdownAllCores 0|ShutdownAllCores 16
 config {"cores":[{"id":0,"start":[0],"tasks":[{"name":"A","prio":1,"script":"@"}]},{"id":1}]}
 check
 ok
@@ -396,7 +396,7 @@ core 0 bound
 core 1 off
 
 // Operations that are not.
-with StartCore|StartCore 256|StartCore 01|StartCore -1|StartCore x|StartCore A|StartCore 1 2|StartCore 18446744073709551616|GetNumberOfActivatedCores|GetNumberOfActivatedCores v8|GetNumberOfActivatedCores ?|GetNumberOfActivatedCores 0|ShutdownOS|ShutdownOS 16|ShutdownOS 00|ShutdownOS ?|ShutdownOS E_OK|shutdownOS 0|ShutdownAllCores|ShutdownAllCores 16|ShutdownAllCores ?|ShutdownAllCores 0 0
+with StartCore|StartCore 256|StartCore 01|StartCore -1|StartCore x|StartCore A|StartCore 1 2|StartCore 18446744073709551616|GetNumberOfActivatedCores|GetNumberOfActivatedCores v8|GetNumberOfActivatedCores ?|GetNumberOfActivatedCores 0|ShutdownOS|ShutdownOS 17|ShutdownOS 00|ShutdownOS ?|ShutdownOS E_OK|shutdownOS 0|ShutdownAllCores|ShutdownAllCores 17|ShutdownAllCores ?|ShutdownAllCores 0 0
 config {"cores":[{"id":0,"start":[0],"tasks":[{"name":"A","prio":1,"script":"@"}]},{"id":1}]}
 check
 fault 10 BadScript

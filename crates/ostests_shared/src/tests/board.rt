@@ -2,11 +2,11 @@ ghost use Rattle.std.specs.Prelude.{◌≡◌, ◌<◌, ◌+◌, ◌≤◌, ℕ,
 ghost use Rattle.osseat.specs.Histories.{Thinned};
 ghost use Rattle.osseat.specs.Runs.{IsOneRun, IsRunOf};
 ghost use Rattle.osseat.specs.Seats.{AllApart};
-ghost use Rattle.osboard.specs.declared.calls.TheConstants.{BOARD_CORES};
+ghost use Rattle.osbase.specs.declared.limits.TheConstants.{CORES};
 ghost use Rattle.osboard.specs.Boards.{IsLook, one_board};
 
-use osbase::{CoreId, CoreMode, List, ModeId, Status};
-use osboard::{BOARD_CORES, Board, BoardCall, BoardList, BoardReply, BoardSeat, BoardView};
+use osbase::{CORES, CoreId, CoreMode, List, ModeId, Status};
+use osboard::{Board, BoardCall, BoardList, BoardReply, BoardSeat, BoardView};
 use osseat::Entry;
 use std::alloc::{AllocError, Global};
 use std::test::Fail;
@@ -81,7 +81,7 @@ fn take_part(board: &Board, alloc: Global, seat: BoardSeat) -> Run
         shown: false,
     };
     let mut run = Run { seat, work };
-    if usize::from(core.number) >= BOARD_CORES || run.work.log.reserve(5).is_err() {
+    if usize::from(core.number) >= CORES || run.work.log.reserve(5).is_err() {
         return run;
     }
     let started = board.start(&mut run.seat, one);
@@ -102,8 +102,11 @@ fn take_part(board: &Board, alloc: Global, seat: BoardSeat) -> Run
         BoardCall::AskHalt(status),
         BoardReply::Decided(decided),
     ));
+    let drained = board.look_drained(&mut run.seat);
     let halt = board.look_halt(&mut run.seat);
-    run.work.shown = run.work.shown && halt == Some(decided);
+    let has_drained = drained.contains(core);
+    let is_halting = halt == Some(decided);
+    run.work.shown = run.work.shown && has_drained && is_halting;
     run
 }
 
@@ -145,7 +148,7 @@ fn run_all<R: Threads + Sync>(
     master: CoreId,
 ) -> Result<Vec<Work>, AllocError>
     requires cores { AllApart cores }
-    requires master { master.number < BOARD_CORES }
+    requires master { master.number < CORES }
     ensures { IfOk result (λ works. IsOneRun one_board (record { cores = cores; about = master }) (map (λ work. work.log.items) works.items)) }
 {
     let (board, seats) = Board::new(alloc, cores, master)?;
@@ -174,7 +177,7 @@ fn four_threads_share_a_board(rt: HostRuntime) -> Result<(), Fail> {
     cores.push(CoreId { number: 0 })?;
     cores.push(CoreId { number: 1 })?;
     cores.push(CoreId { number: 5 })?;
-    cores.push(CoreId { number: 7 })?;
+    cores.push(CoreId { number: 15 })?;
     let works = run_all(&rt, rt.alloc(), cores, CoreId { number: 5 })?;
     assert!(rt; works.len() == 4);
     let Some(first) = works.first() else {
@@ -199,10 +202,13 @@ fn the_listed_board_answers_alike(rt: HostRuntime) -> Result<(), Fail> {
     assert!(rt; board.start(two, two) == Status::EOsState && board.start(two, five) == Status::EOk);
     board.enter(five, CoreMode::DontCare);
     board.ready(five);
+    assert!(rt; !board.look_drained().contains(five));
     board.drain(five);
     let view = board.look();
     assert!(rt; view.started.contains(five) && view.entered.contains(five));
-    assert!(rt; view.ready.contains(five) && view.drained.contains(five) && !view.modes.members[0]);
+    assert!(rt; view.ready.contains(five) && !view.modes.members[0]);
+    let drained = board.look_drained();
+    assert!(rt; drained.contains(five) && !drained.contains(two));
     assert!(rt; board.look_halt().is_none());
     assert!(rt; board.ask_halt(five, Status::EOsLimit) == (five, Status::EOsLimit));
     assert!(rt; board.ask_halt(two, Status::EOk) == (five, Status::EOsLimit));

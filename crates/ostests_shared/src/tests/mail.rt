@@ -41,7 +41,7 @@ fn envelopes_leave_in_the_order_in_which_they_came(rt: HostRuntime) -> Result<()
 #[test]
 fn what_is_taken_and_left_is_what_was_sent(rt: HostRuntime) -> Result<(), Fail> {
     let (first, second) = (CoreId { number: 0 }, CoreId { number: 7 });
-    let mut mail: LockedMail<4> = LockedMail::new(rt.alloc(), 2)?;
+    let mut mail: LockedMail<4> = LockedMail::new(rt.alloc(), &[first, second], 2)?;
     let mut sender = mail.end(&rt, rt.alloc(), first);
     let mut receiver = mail.end(&rt, rt.alloc(), second);
     for number in 0..2u64 {

@@ -3,15 +3,16 @@
 
 use super::reports::text_under;
 use super::threads::FEW;
-use osbase::CoreId;
+use osbase::{CORES, CoreId};
 use osplay::{cut_of, result_of, same};
 use osthreads::Gate;
 use std::alloc::Global;
+use std::process::Abort;
 use std::sync::Wait;
 use std::sync::atomic::{AtomicU64, Ordering};
 use std::test::Fail;
-use std::thread;
 use std::thread::Threads;
+use std::{array, thread};
 
 /// Cores 0 and 1 activate a task of each other, core 2 is separate, and nobody starts core 3.
 const FOUR_CORES: &str =
@@ -31,6 +32,13 @@ const SEPARATE: &str = "core 2\nhook Startup\nact V\npre V\nvar V v0 3\npost V\n
 
 const THREE_END: &str = "worker 0 ended\nworker 1 ended\nworker 2 ended\nworker 3 stopped\n";
 
+/// Sixteen cores without tasks, all started by the first.
+const SIXTEEN_CORES: &str =
+    r#"{"version":2,"cores":[{"id":0,"start":[1,2,3,4,5,6,7,8,9,10,11,12,13,14,15]},{"id":1},{"id":2},{"id":3},{"id":4},{"id":5},{"id":6},{"id":7},{"id":8},{"id":9},{"id":10},{"id":11},{"id":12},{"id":13},{"id":14},{"id":15}]}"#;
+
+const SIXTEEN_END: &str =
+    "worker 0 ended\nworker 1 ended\nworker 2 ended\nworker 3 ended\nworker 4 ended\nworker 5 ended\nworker 6 ended\nworker 7 ended\nworker 8 ended\nworker 9 ended\nworker 10 ended\nworker 11 ended\nworker 12 ended\nworker 13 ended\nworker 14 ended\nworker 15 ended\n";
+
 const NONE_ENDS: &str = "worker 0 stopped\nworker 1 stopped\nworker 2 stopped\nworker 3 stopped\n";
 
 const CORE_0: CoreId = CoreId { number: 0 };
@@ -39,19 +47,20 @@ const CORE_1: CoreId = CoreId { number: 1 };
 
 const CORE_3: CoreId = CoreId { number: 3 };
 
-const CORE_COUNT: usize = 4;
-
 /// Turns that change nothing before a worker stops: many where its core is to end, so that it waits for the others.
 const MANY: u64 = 100_000;
 
-// Lets each thread start but that of one core, if it names one, and counts the turns that each core began. Where cores
-// meet, each of the first turns of a core waits until every other began as many, for so many tries. A started core whose
+// Lets each thread start but that of one core, if it names one, and counts the turns that each of so many cores began. Where
+// cores meet, each of the first turns of a core waits until every other began as many, for so many tries. A started core whose
 // turn changed nothing gives way until another one began a turn, so that no core stops while the others have no processor.
 #[derive(Drop)]
 struct Watcher {
+    cores: usize,
+    // The core that nobody starts, if there is one.
+    unstarted: Option<CoreId>,
     refused: Option<CoreId>,
     meets: bool,
-    turns: [AtomicU64; CORE_COUNT],
+    turns: [AtomicU64; CORES],
     started: AtomicU64,
     missed: AtomicU64,
 }
@@ -63,19 +72,22 @@ const TRIES: u32 = 1_000_000;
 const YIELDS: u32 = 100;
 
 impl Watcher {
-    fn new(refused: Option<CoreId>, meets: bool) -> Self {
+    // The gate of cores 0 to one less than so many.
+    fn over(cores: usize, unstarted: Option<CoreId>, refused: Option<CoreId>, meets: bool) -> Self {
         Watcher {
+            cores,
+            unstarted,
             refused,
             meets,
-            turns: [
-                AtomicU64::new(0),
-                AtomicU64::new(0),
-                AtomicU64::new(0),
-                AtomicU64::new(0),
-            ],
+            turns: array::from_fn(|_| AtomicU64::new(0)),
             started: AtomicU64::new(0),
             missed: AtomicU64::new(0),
         }
+    }
+
+    // The gate of the four cores.
+    fn new(refused: Option<CoreId>, meets: bool) -> Self {
+        Watcher::over(4, Some(CORE_3), refused, meets)
     }
 
     // Whether every core has begun so many turns, within the tries. After a miss nobody waits any more.
@@ -84,6 +96,7 @@ impl Watcher {
             if self
                 .turns
                 .iter()
+                .take(self.cores)
                 .all(|begun| begun.load(Ordering::SeqCst) >= turns)
             {
                 return true;
@@ -103,12 +116,12 @@ impl Gate for Watcher {
     }
 
     fn before(&self, core: CoreId) {
-        let own = usize::from(core.number) % CORE_COUNT;
+        let own = usize::from(core.number) % CORES;
         let begun = self.turns[own].fetch_add(1, Ordering::SeqCst);
         if self.meets && begun < MEETINGS && !self.have_all_begun(begun + 1) {
             self.missed.fetch_add(1, Ordering::SeqCst);
         }
-        if core != CORE_3 {
+        if self.unstarted != Some(core) {
             self.started.fetch_add(1, Ordering::SeqCst);
         }
     }
@@ -116,7 +129,7 @@ impl Gate for Watcher {
     fn idle(&self, core: CoreId) {
         let seen = self.started.load(Ordering::SeqCst);
         for _ in 0..YIELDS {
-            if core == CORE_3 || self.started.load(Ordering::SeqCst) != seen {
+            if self.unstarted == Some(core) || self.started.load(Ordering::SeqCst) != seen {
                 return;
             }
             thread::yield_now();
@@ -185,6 +198,14 @@ fn four_under<R: Threads + Wait + Sync, G: Gate + Sync>(
     text_under(rt, alloc, (FOUR_CORES, STIMULI), gate, turns)
 }
 
+// Each core came to the gate before each of its first turns, and all others began as many.
+fn have_met(rt: &impl Abort, gate: &Watcher) {
+    assert_eq!(rt; gate.missed.load(Ordering::SeqCst), 0);
+    for begun in gate.turns.iter().take(gate.cores) {
+        assert!(rt; begun.load(Ordering::SeqCst) >= MEETINGS);
+    }
+}
+
 // The lines of a text that begin with a word are these.
 fn has(alloc: Global, text: &str, word: &str, due: &str) -> Result<(), Fail> {
     let mut lines = String::new(alloc);
@@ -210,11 +231,17 @@ fn all_cores_run_at_once(rt: HostRuntime) -> Result<(), Fail> {
     let gate = Watcher::new(None, true);
     let text = four_under(&rt, alloc, &gate, MANY)?;
     has(alloc, text.as_str(), "worker ", THREE_END)?;
-    assert_eq!(rt; gate.missed.load(Ordering::SeqCst), 0);
-    // Each core came to the gate before each of its first turns.
-    for begun in gate.turns.iter() {
-        assert!(rt; begun.load(Ordering::SeqCst) >= MEETINGS);
-    }
+    have_met(&rt, &gate);
+    Ok(())
+}
+
+#[test]
+fn sixteen_cores_run_at_once(rt: HostRuntime) -> Result<(), Fail> {
+    let alloc = rt.alloc();
+    let gate = Watcher::over(CORES, None, None, true);
+    let text = text_under(&rt, alloc, (SIXTEEN_CORES, "{}"), &gate, MANY)?;
+    has(alloc, text.as_str(), "worker ", SIXTEEN_END)?;
+    have_met(&rt, &gate);
     Ok(())
 }
 

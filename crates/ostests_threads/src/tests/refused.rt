@@ -190,7 +190,7 @@ fn has_taken(steps: &[MailStep]) -> bool {
 #[test]
 fn a_reply_that_nobody_awaits_stops_a_worker(rt: HostRuntime) -> Result<(), Fail> {
     let alloc = rt.alloc();
-    let mail: LockedMail<MAILBOX> = LockedMail::new(alloc, 1)?;
+    let mail: LockedMail<MAILBOX> = LockedMail::new(alloc, &[CORE_0, CORE_1], 1)?;
     let mut other = mail.end(&rt, alloc, CORE_1);
     other.room()?;
     assert_eq!(rt; other.send(CORE_0, REPLY), Ok(()));

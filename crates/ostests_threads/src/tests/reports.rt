@@ -106,7 +106,8 @@ pub(super) fn replays(
 ) -> Result<usize, Fail> {
     let config = read_config(alloc, text)?;
     let stimuli = read_stimuli(alloc, &config, stimuli)?;
-    match reports_under(rt, alloc, &config, &stimuli, &Yielding::new(), turns) {
+    let gate = Yielding::new(config.plan().cores.len());
+    match reports_under(rt, alloc, &config, &stimuli, &gate, turns) {
         Ok(reports) => {
             replay_all(rt, alloc, (text, &config), reports.as_slice())?;
             Ok(reports.len())

@@ -2,7 +2,7 @@
 
 use super::reports::replays;
 use super::spinlocks::{OWED, SHARED};
-use osplay::examples::{ALL_DOWN, ASKERS, MUTUAL, POLLING, REFUSED};
+use osplay::examples::{ALL_DOWN, ASKERS, MUTUAL, POLLING, REFUSED, RING};
 use osplay::{Difference, given, play_all, result_of, run_of, threads_of};
 use std::alloc::Global;
 use std::process::Abort;
@@ -145,6 +145,26 @@ hook Startup
 core 5
 ended
 
+// A core of a number above 7.
+config {"version":2,"cores":[{"id":0,"start":[9],"tasks":[{"name":"A","prio":1,"auto":["M"],"script":"ActivateTask B;TerminateTask"}]},{"id":9,"tasks":[{"name":"B","prio":1,"script":"TerminateTask"}]}]}
+stimuli {"0":"op op"}
+threads 1000000000
+core 0
+start 9 E_OK
+hook Startup
+act A
+pre A
+out 9 ActivateTask B
+stat A ActivateTask E_OK
+post A
+end A
+core 9
+hook Startup
+act B
+in 0 ActivateTask B E_OK
+pre B
+ended
+
 // Faults come in their order.
 config {}
 stimuli x
@@ -173,7 +193,7 @@ fn runs_by_threads_come_to_their_texts(rt: HostRuntime) -> Result<(), Fail> {
         &rt,
         rt.alloc(),
         &[BOUND_AND_SEPARATE, RUNS, OWED, SHARED],
-        53,
+        54,
     )
 }
 
@@ -204,6 +224,19 @@ fn cores_that_call_each_other_end_and_a_separate_one_prints_its_block(
 }
 
 #[test]
+fn sixteen_cores_in_a_ring_answer_each_other(rt: HostRuntime) -> Result<(), Fail> {
+    let alloc = rt.alloc();
+    let result = threaded(&rt, alloc, RING, MANY)?;
+    for core in 0..16u8 {
+        let answered = format!(in alloc; "stat A{core} ActivateTask E_OK\n")?;
+        assert!(rt; result.contains(answered.as_str()), "{answered}");
+    }
+    assert!(rt; !result.contains("E_OS_"));
+    assert!(rt; result.ends_with("ended\nand reports\nand exits with 0"));
+    Ok(())
+}
+
+#[test]
 fn each_log_of_a_run_by_threads_replays_to_its_block(rt: HostRuntime) -> Result<(), Fail> {
     let examples = [
         (MUTUAL, 2, MANY),
@@ -213,6 +246,7 @@ fn each_log_of_a_run_by_threads_replays_to_its_block(rt: HostRuntime) -> Result<
         (OWED, 2, MANY),
         (POLLING, 2, MANY),
         (SHARED, 3, MANY),
+        (RING, 16, MANY),
         (REFUSED, 2, FEW),
     ];
     for (table, cores, turns) in examples.as_slice() {

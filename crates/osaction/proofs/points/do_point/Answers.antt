@@ -1,11 +1,11 @@
-use Rattle.std.proofs.Common.{◌≤◌, ◌+◌, ◌*◌, IsTrue, true, false, count_by, length, rules, refl, ap, arith}
+use Rattle.std.proofs.Common.{◌≤◌, ◌+◌, ◌*◌, IsTrue, Bool, true, false, count_by, length, rules, refl, ap, arith}
 use Rattle.std.specs.List.{list_all}
 use Rattle.osplan.specs.Objects.{is_posting, may_act}
 use Rattle.osstate.specs.Does.{HasRoom}
 use Rattle.osstate.specs.State.{KernelState}
 use Rattle.osstate.proofs.Effecting.{as_effect, then}
 use Rattle.osaction.specs.Points.{of_kind}
-use Rattle.osaction.proofs.Joining.{kinds-long, kinds-posted, point-parts}
+use Rattle.osaction.proofs.Joining.{kinds-long, kinds-posted, point-parts, within-point}
 use Rattle.osaction.proofs.points.do_point.Goals as goal
 
 pub act_each-requires : goal.act_each-requires
@@ -48,7 +48,9 @@ returns-clause-effects g c =
     let long = kinds-long c.args.point.now.actions in
     let first = rw (c.as_slice-actions.ensures) at c.act_each.ensures.effects in
     let second = rw (c.as_slice-actions.ensures) at c.act_each-2.ensures.effects in
-    as_effect (λ v h stands. refl) (omega (arith, few, long)) (omega (arith, few, long)) (then (then c.print.ensures.effects first) second)
+    let kinds = λ (activating : Bool). length (of_kind activating c.args.point.now.actions) in
+    let most = within-point (kinds true) (kinds false) (length c.args.point.now.actions) long few in
+    as_effect (λ v h stands. refl) most most (then (then c.print.ensures.effects first) second)
 
 pub returns-clause-outbox : goal.returns-clause-outbox
 returns-clause-outbox g c =

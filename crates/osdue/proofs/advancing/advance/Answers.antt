@@ -14,6 +14,7 @@ use Rattle.osact.specs.Acts.{does}
 use Rattle.osdue.specs.Advancing.{posted_at_point, posted_for}
 use Rattle.osdue.specs.Expiring.{expire_each}
 use Rattle.osdue.specs.Passing.{pass_each, posted_by_table}
+use Rattle.osdue.proofs.Counted.{fewer-entries, fewer-marks}
 use Rattle.osdue.proofs.Postings.{both-posted, due-posted}
 use Rattle.osdue.proofs.advancing.advance.Goals as goal
 
@@ -57,7 +58,7 @@ returns-clause-effects g c =
     as_effect (λ v h stands.
     ap (λ (due : List DueTable). does (pass_each due) v (does (expire_each (due_by v.own c.args.counter h)) v (Noted (Counted c.args.counter) ∷ h))) (sym (c.due_tables-tables.ensures.reads v h stands))
     ∙ ap (λ (due : List AlarmRef). does (pass_each c.due_tables-tables.result.items) v (does (expire_each due) v (Noted (Counted c.args.counter) ∷ h))) (sym (c.due_next-alarms.ensures.reads v h stands)))
-    (omega (arith, c.due_next-alarms.ensures.few, c.due_tables-tables.ensures.few)) (omega (arith, c.due_next-alarms.ensures.few, c.due_tables-tables.ensures.few))
+    (fewer-entries _ _ _ _ c.due_next-alarms.ensures.few c.due_tables-tables.ensures.few) (fewer-marks _ _ _ _ c.due_next-alarms.ensures.few c.due_tables-tables.ensures.few)
     (then (then (unprinted c.count.ensures.remarks) alarms) tables)
 
 pub returns-clause-outbox : goal.returns-clause-outbox

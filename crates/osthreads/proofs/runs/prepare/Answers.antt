@@ -1,8 +1,7 @@
-use Rattle.std.proofs.Common.{List, IsTrue, map, sym, ap, subst, ◌∙◌}
+use Rattle.std.proofs.Common.{List, IsTrue, arith, map, sym, ap, subst, ◌∙◌}
 use Rattle.osbase.specs.declared.references.CoreId.{CoreId}
 use Rattle.osplan.specs.declared.plans.Plan.{Plan}
-use Rattle.osplan.specs.Limits.{is_within_limits}
-use Rattle.osplan.proofs.Within.{limit-parts}
+use Rattle.osplan.specs.Limits.{is_within_limits, sizes_of}
 use Rattle.osseat.specs.Seats.{AllApart, fresh}
 use Rattle.osboard.specs.declared.calls.BoardCall.{BoardCall}
 use Rattle.osboard.specs.declared.calls.BoardReply.{BoardReply}
@@ -10,7 +9,8 @@ use Rattle.osspin.specs.declared.calls.SpinCall.{SpinCall}
 use Rattle.osspin.specs.declared.calls.SpinReply.{SpinReply}
 use Rattle.osturn.specs.Fits.{ids_of}
 use Rattle.osthreads.specs.Seats.{paired, shared}
-use Rattle.osthreads.proofs.Asking.{configured-low}
+use Rattle.osplan.proofs.Numbered.{master-low}
+use Rattle.osplan.proofs.Within.{between, cap-within, limit-parts}
 use Rattle.osthreads.proofs.Gathering.{new-paired}
 use Rattle.osthreads.proofs.Senders.{ids-apart}
 use Rattle.osthreads.proofs.runs.prepare.Goals as goal
@@ -21,10 +21,17 @@ new-requires-clause-cores c = subst AllApart (sym (c.from_vec.ensures ∙ c.in_o
 pub new-requires-clause-master : goal.new-requires-clause-master
 new-requires-clause-master c =
     let limits = subst (λ (p : Plan). IsTrue (is_within_limits p)) (sym c.plan-plan.ensures.value) c.plan-plan.ensures.limits in
-    configured-low c.plan-plan.result.now limits c.plan-plan.result.now.master (limit-parts c.plan-plan.result.now limits).master
+    master-low c.plan-plan.result.now limits
 
 pub new-requires-2 : goal.new-requires-2
 new-requires-2 c = subst AllApart (sym (c.from_vec-2.ensures ∙ c.in_ok-ids_of-2.ensures)) (ids-apart c.plan-plan.result.now)
+
+pub new-requires-3 : goal.new-requires-3
+new-requires-3 c =
+    let plan = c.plan-plan.result.now in
+    let limits = subst (λ (p : Plan). IsTrue (is_within_limits p)) (sym c.plan-plan.ensures.value) c.plan-plan.ensures.limits in
+    let cap = between 1 16 plan.cap (cap-within (sizes_of plan) (limit-parts plan limits).sizes) in
+    (omega arith, omega (arith, c.from.ensures, cap))
 
 pub returns-clause-cores : goal.returns-clause-cores
 returns-clause-cores c = c.in_ok-cores.ensures ∙ ap ids_of c.plan-plan.ensures.value

@@ -22,3 +22,8 @@ returns-in_default g c = record {
       (lit≤ tt) (lit≤ tt) c.go_down.ensures.effects;
   outbox = c.go_down.ensures.outbox;
 }
+
+pub returns-in-TerminateTaskIsr-clause-effects : goal.returns-in-TerminateTaskIsr-clause-effects
+returns-in-TerminateTaskIsr-clause-effects g c =
+    as_effect (λ v h stands. ap (λ (p : Protection). does (answers_fault p c.args.runner c.args.status) v h) (sym (c.protection.ensures.reads v h stands) ∙ c.in-TerminateTaskIsr.is))
+    (lit≤ tt) (lit≤ tt) c.end_by_force.ensures.effects

@@ -7,7 +7,7 @@ use Rattle.osrunner.proofs.rows.Rows.raise.Goals as goal
 pub raise_at-requires : goal.raise_at-requires
 raise_at-requires c =
     let free : is_occupied c.args.resource.index c.self.inside.rows.items ≡ false = subst (λ (all : List Row). is_occupied c.args.resource.index all ≡ false) (sym c.self.view_is) c.requires.free in
-    record { place = search rules; room = room _ _ c.slot-place.result c.args.resource c.self.invariant (search rules) c.requires.resource free }
+    record { place = search rules; room = room _ _ c.slot-place.result c.args.resource c.self.invariant (search rules) c.requires.resource free; index = c.requires.resource }
 
 pub invariant_of-self : goal.invariant_of-self
 invariant_of-self c =

@@ -10,7 +10,14 @@ use Rattle.osstate.proofs.Sounds.{same-jobs}
 use Rattle.osstate.proofs.state.CoreState.tick.Goals as goal
 
 pub tick-requires : goal.tick-requires
-tick-requires g c = (search rules, λ r. omega (arith, c.self.invariant.jobs.used (slot_of r), c.requires.count, ap (λ (s : KernelState). s.progress.entries) c.self.view_is))
+tick-requires g c =
+    let same = ap (λ (s : KernelState). s.progress.entries) c.self.view_is in (
+      search rules,
+      (
+        λ r. omega (arith, (c.self.invariant.jobs.used (slot_of r)).ticks, c.requires.count, same),
+        λ r k d less. omega (arith, (c.self.invariant.jobs.used (slot_of r)).locks k d less, c.requires.count, same),
+      ),
+    )
 
 pub invariant_of-self : goal.invariant_of-self
 invariant_of-self g c = rw (c.tick.ensures [], c.record.ensures.progress) (same-jobs [] (Printed Mark.Tick) refl refl c.self.invariant)

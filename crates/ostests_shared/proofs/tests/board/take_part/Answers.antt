@@ -1,4 +1,4 @@
-use Rattle.std.proofs.Common.{rules, ◌≡◌, inr, refl}
+use Rattle.std.proofs.Common.{rules, ◌≡◌, inl, inr, refl}
 use Rattle.osbase.specs.declared.statuses.Status.TheVariants.{EOsState}
 use Rattle.osseat.specs.Histories.{Thinned}
 use Rattle.osseat.proofs.Thins.{logged, unlogged}
@@ -19,4 +19,5 @@ returns-clause-log c =
     (let e : c.entry-4.result ≡ drain_call c.ready.new.seat.core = search rules in e) in
     let asked = logged IsLook _ _ _ _ _ _ drained c.ask_halt-decided.ensures.mine c.push_reserved-5.ensures.items
     (let e : c.entry-5.result ≡ ask_halt_call c.drain.new.seat.core EOsState c.ask_halt-decided.result = search rules in e) in
-    unlogged IsLook _ _ _ _ _ asked (inr refl) c.look_halt-halt.ensures.mine refl
+    let shown_drained = unlogged IsLook _ _ _ _ _ asked (inr (inl refl)) c.look_drained-drained.ensures.mine refl in
+    unlogged IsLook _ _ _ _ _ shown_drained (inr (inr refl)) c.look_halt-halt.ensures.mine refl

@@ -1,0 +1,576 @@
+//! Worked examples of the lock budgets of resources.
+
+use osplay::play_all;
+use std::test::Fail;
+
+const RUNS: &str = r#"
+// A job that holds a resource for too many ticks ends.
+config {"cores":[{"id":0,"tasks":[{"name":"A","prio":1,"auto":["M"],"script":"GetResource R;work;ReleaseResource R;TerminateTask"}],"protection":"PRO_TERMINATETASKISR","resources":[{"name":"R","ceiling":1,"lock":2}]}]}
+stimuli {"0":"op tick op tick op"}
+run
+core 0
+hook Startup
+act A
+pre A
+stat A GetResource E_OK
+tick
+tick
+hook Protection E_OS_PROTECTION_LOCKED
+end A
+ended
+
+items 0
+entered
+pass1 M
+readied
+pass2 0
+stim op
+stim tick
+stim op
+stim tick
+stim op
+drained
+passend
+last
+
+replay 0
+core 0
+hook Startup
+act A
+pre A
+stat A GetResource E_OK
+tick
+tick
+hook Protection E_OS_PROTECTION_LOCKED
+end A
+
+// If the tick reaches the execution budget too, that alone is the fault.
+config {"cores":[{"id":0,"tasks":[{"name":"A","prio":1,"auto":["M"],"budget":2,"script":"GetResource R;work;ReleaseResource R;TerminateTask"}],"protection":"PRO_TERMINATETASKISR","resources":[{"name":"R","ceiling":1,"lock":2}]}]}
+stimuli {"0":"op tick op tick op"}
+run
+core 0
+hook Startup
+act A
+pre A
+stat A GetResource E_OK
+tick
+tick
+hook Protection E_OS_PROTECTION_TIME
+end A
+ended
+
+// The tick before the resource was taken counts for the execution budget alone, so one tick reaches both,
+config {"cores":[{"id":0,"tasks":[{"name":"A","prio":1,"auto":["M"],"budget":3,"script":"GetResource R;work;ReleaseResource R;TerminateTask"}],"protection":"PRO_TERMINATETASKISR","resources":[{"name":"R","ceiling":1,"lock":2}]}]}
+stimuli {"0":"tick op tick tick op"}
+run
+core 0
+hook Startup
+act A
+pre A
+tick
+stat A GetResource E_OK
+tick
+tick
+hook Protection E_OS_PROTECTION_TIME
+end A
+ended
+
+// and without it the lock budget is reached first.
+stimuli {"0":"op tick tick tick op"}
+run
+core 0
+hook Startup
+act A
+pre A
+stat A GetResource E_OK
+tick
+tick
+hook Protection E_OS_PROTECTION_LOCKED
+end A
+tick
+ended
+
+// The counters and alarms of that tick follow, if the job ends,
+config {"cores":[{"id":0,"protection":"PRO_TERMINATETASKISR","counters":[{"name":"C","max":9}],"alarms":[{"name":"L","counter":"C","action":"ActivateTask B","auto":{"modes":["M"],"start":2,"cycle":0}}],"resources":[{"name":"R","ceiling":1,"lock":2}],"tasks":[{"name":"A","prio":1,"auto":["M"],"script":"GetResource R;work;ReleaseResource R;TerminateTask"},{"name":"B","prio":2,"script":"TerminateTask"}]}]}
+stimuli {"0":"op tick op tick op tick"}
+run
+core 0
+hook Startup
+act A
+pre A
+stat A GetResource E_OK
+tick
+tick
+hook Protection E_OS_PROTECTION_LOCKED
+end A
+alarm L
+act B
+pre B
+post B
+end B
+tick
+ended
+
+// and are dropped with the stimuli that are left, if the core shuts down: so with each other answer, and without one.
+config {"cores":[{"id":0,@"counters":[{"name":"C","max":9}],"alarms":[{"name":"L","counter":"C","action":"ActivateTask B","auto":{"modes":["M"],"start":2,"cycle":0}}],"resources":[{"name":"R","ceiling":1,"lock":2}],"tasks":[{"name":"A","prio":1,"auto":["M"],"script":"GetResource R;work;ReleaseResource R;TerminateTask"},{"name":"B","prio":2,"script":"TerminateTask"}]}]}
+stimuli {"0":"op tick op tick op tick"}
+with |"protection":"PRO_SHUTDOWN",|"protection":"PRO_IGNORE",|"protection":"PRO_TERMINATEAPPL",|"protection":"PRO_TERMINATEAPPL_RESTART",
+run
+core 0
+hook Startup
+act A
+pre A
+stat A GetResource E_OK
+tick
+tick
+hook Protection E_OS_PROTECTION_LOCKED
+hook Shutdown E_OS_PROTECTION_LOCKED
+ended
+
+// Nested resources, of which the outer one is reached. Both are given back.
+config {"cores":[{"id":0,"protection":"PRO_TERMINATETASKISR","resources":[{"name":"R","ceiling":1,"lock":3},{"name":"S","ceiling":1,"lock":3}],"tasks":[{"name":"A","prio":1,"auto":["M"],"script":"GetResource R;GetResource S;jump 2"},{"name":"B","prio":1,"auto":["M"],"script":"GetResource S;GetResource R;ReleaseResource R;ReleaseResource S;TerminateTask"}]}]}
+stimuli {"0":"op tick op tick tick op op op op op"}
+run
+core 0
+hook Startup
+act A
+act B
+pre A
+stat A GetResource E_OK
+tick
+stat A GetResource E_OK
+tick
+tick
+hook Protection E_OS_PROTECTION_LOCKED
+end A
+pre B
+stat B GetResource E_OK
+stat B GetResource E_OK
+stat B ReleaseResource E_OK
+stat B ReleaseResource E_OK
+post B
+end B
+ended
+
+// The inner one is reached; the outer one has no budget.
+config {"cores":[{"id":0,"protection":"PRO_TERMINATETASKISR","resources":[{"name":"R","ceiling":1},{"name":"S","ceiling":1,"lock":1}],"tasks":[{"name":"A","prio":1,"auto":["M"],"script":"GetResource R;GetResource S;jump 2"}]}]}
+stimuli {"0":"op tick tick op tick op"}
+run
+core 0
+hook Startup
+act A
+pre A
+stat A GetResource E_OK
+tick
+tick
+stat A GetResource E_OK
+tick
+hook Protection E_OS_PROTECTION_LOCKED
+end A
+ended
+
+// Both are reached in one tick: the hook is called once,
+config {"cores":[{"id":0,"protection":"@","resources":[{"name":"R","ceiling":1,"lock":2},{"name":"S","ceiling":1,"lock":1}],"tasks":[{"name":"A","prio":1,"auto":["M"],"script":"GetResource R;GetResource S;jump 2"}]}]}
+stimuli {"0":"op tick op tick op"}
+with PRO_TERMINATETASKISR
+run
+core 0
+hook Startup
+act A
+pre A
+stat A GetResource E_OK
+tick
+stat A GetResource E_OK
+tick
+hook Protection E_OS_PROTECTION_LOCKED
+end A
+ended
+
+// also where the core shuts down.
+with PRO_SHUTDOWN
+run
+core 0
+hook Startup
+act A
+pre A
+stat A GetResource E_OK
+tick
+stat A GetResource E_OK
+tick
+hook Protection E_OS_PROTECTION_LOCKED
+hook Shutdown E_OS_PROTECTION_LOCKED
+ended
+
+// The ticks of an ISR count for its own budget, and not for the resource of the job that it interrupts.
+config {"cores":[{"id":0,"protection":"PRO_TERMINATETASKISR","resources":[{"name":"R","ceiling":1,"lock":2}],"tasks":[{"name":"A","prio":1,"auto":["M"],"script":"GetResource R;jump 1"}],"isrs":[{"name":"I","level":1,"budget":2,"script":"jump 0"}]}]}
+stimuli {"0":"op tick irq=I op tick tick tick op"}
+run
+core 0
+hook Startup
+act A
+pre A
+stat A GetResource E_OK
+tick
+irq I
+enter I
+tick
+tick
+hook Protection E_OS_PROTECTION_TIME
+leave I
+tick
+hook Protection E_OS_PROTECTION_LOCKED
+end A
+ended
+
+// While the holder has interrupts suspended, its ticks count. A pending ISR starts when the job has ended.
+config {"cores":[{"id":0,"protection":"PRO_TERMINATETASKISR","resources":[{"name":"R","ceiling":1,"lock":2}],"tasks":[{"name":"A","prio":1,"auto":["M"],"script":"GetResource R;SuspendAllInterrupts;jump 2"}],"isrs":[{"name":"I","level":1,"script":"work"}]}]}
+stimuli {"0":"op op irq=I tick tick op op"}
+run
+core 0
+hook Startup
+act A
+pre A
+stat A GetResource E_OK
+irq I
+tick
+tick
+hook Protection E_OS_PROTECTION_LOCKED
+end A
+enter I
+leave I
+ended
+
+// The ticks of a job that preempts the holder do not count,
+config {"cores":[{"id":0,"protection":"PRO_TERMINATETASKISR","resources":[{"name":"R","ceiling":1,"lock":2}],"tasks":[{"name":"A","prio":1,"auto":["M"],"script":"GetResource R;ActivateTask H;jump 2"},{"name":"H","prio":2,"script":"TerminateTask"}]}]}
+stimuli {"0":"op tick op tick tick op tick op"}
+run
+core 0
+hook Startup
+act A
+pre A
+stat A GetResource E_OK
+tick
+act H
+stat A ActivateTask E_OK
+post A
+pre H
+tick
+tick
+post H
+end H
+pre A
+tick
+hook Protection E_OS_PROTECTION_LOCKED
+end A
+ended
+
+// and that job has a resource and a budget of its own.
+config {"cores":[{"id":0,"protection":"PRO_TERMINATETASKISR","resources":[{"name":"R","ceiling":1,"lock":3},{"name":"S","ceiling":2,"lock":1}],"tasks":[{"name":"A","prio":1,"auto":["M"],"script":"GetResource R;ActivateTask H;jump 2"},{"name":"H","prio":2,"script":"GetResource S;jump 1"}]}]}
+stimuli {"0":"op tick op op tick tick tick op"}
+run
+core 0
+hook Startup
+act A
+pre A
+stat A GetResource E_OK
+tick
+act H
+stat A ActivateTask E_OK
+post A
+pre H
+stat H GetResource E_OK
+tick
+hook Protection E_OS_PROTECTION_LOCKED
+end H
+pre A
+tick
+tick
+hook Protection E_OS_PROTECTION_LOCKED
+end A
+ended
+
+// The tick at which the holder is preempted is its own.
+config {"cores":[{"id":0,"protection":"PRO_TERMINATETASKISR","counters":[{"name":"C","max":9}],"alarms":[{"name":"L","counter":"C","action":"ActivateTask H","auto":{"modes":["M"],"start":1,"cycle":0}}],"resources":[{"name":"R","ceiling":1,"lock":2}],"tasks":[{"name":"A","prio":1,"auto":["M"],"script":"GetResource R;jump 1"},{"name":"H","prio":2,"script":"TerminateTask"}]}]}
+stimuli {"0":"op tick tick op tick op"}
+run
+core 0
+hook Startup
+act A
+pre A
+stat A GetResource E_OK
+tick
+alarm L
+act H
+post A
+pre H
+tick
+post H
+end H
+pre A
+tick
+hook Protection E_OS_PROTECTION_LOCKED
+end A
+ended
+
+// Given back, a resource reaches nothing, and taken again it counts from zero.
+config {"cores":[{"id":0,"protection":"PRO_TERMINATETASKISR","resources":[{"name":"R","ceiling":1,"lock":2}],"tasks":[{"name":"A","prio":1,"auto":["M"],"script":"GetResource R;ReleaseResource R;GetResource R;jump 3"}]}]}
+stimuli {"0":"op tick op tick tick tick op tick tick op"}
+run
+core 0
+hook Startup
+act A
+pre A
+stat A GetResource E_OK
+tick
+stat A ReleaseResource E_OK
+tick
+tick
+tick
+stat A GetResource E_OK
+tick
+tick
+hook Protection E_OS_PROTECTION_LOCKED
+end A
+ended
+
+// A call that is refused takes nothing, so the count goes on.
+config {"cores":[{"id":0,"protection":"PRO_TERMINATETASKISR","resources":[{"name":"R","ceiling":1,"lock":2}],"tasks":[{"name":"A","prio":1,"auto":["M"],"script":"GetResource R;GetResource R;jump 2"}]}]}
+stimuli {"0":"op tick op tick op"}
+run
+core 0
+hook Startup
+act A
+pre A
+stat A GetResource E_OK
+tick
+stat A GetResource E_OS_ACCESS
+hook Error E_OS_ACCESS
+tick
+hook Protection E_OS_PROTECTION_LOCKED
+end A
+ended
+
+// The inner resource is taken again, and the outer one counts on.
+config {"cores":[{"id":0,"protection":"PRO_TERMINATETASKISR","resources":[{"name":"R","ceiling":1,"lock":3},{"name":"S","ceiling":1,"lock":2}],"tasks":[{"name":"A","prio":1,"auto":["M"],"script":"GetResource R;GetResource S;ReleaseResource S;GetResource S;ReleaseResource S;jump 5"}]}]}
+stimuli {"0":"op op tick op op tick op tick op"}
+run
+core 0
+hook Startup
+act A
+pre A
+stat A GetResource E_OK
+stat A GetResource E_OK
+tick
+stat A ReleaseResource E_OK
+stat A GetResource E_OK
+tick
+stat A ReleaseResource E_OK
+tick
+hook Protection E_OS_PROTECTION_LOCKED
+end A
+ended
+
+// The budget is the resource's: each holder has it, and begins with it anew. Further activations stay.
+config {"cores":[{"id":0,"protection":"PRO_TERMINATETASKISR","resources":[{"name":"R","ceiling":1,"lock":2}],"tasks":[{"name":"A","prio":1,"auto":["M"],"activations":2,"script":"ActivateTask A;GetResource R;jump 2"},{"name":"B","prio":1,"auto":["M"],"script":"GetResource R;jump 1"}]}]}
+stimuli {"0":"op op tick tick op tick tick op op tick tick"}
+run
+core 0
+hook Startup
+act A
+act B
+pre A
+act A
+stat A ActivateTask E_OK
+stat A GetResource E_OK
+tick
+tick
+hook Protection E_OS_PROTECTION_LOCKED
+end A
+pre B
+stat B GetResource E_OK
+tick
+tick
+hook Protection E_OS_PROTECTION_LOCKED
+end B
+pre A
+act A
+stat A ActivateTask E_OK
+stat A GetResource E_OK
+tick
+tick
+hook Protection E_OS_PROTECTION_LOCKED
+end A
+pre A
+ended
+
+// A job that ends with a resource, by its script, has given it back: the next one may hold it as long.
+config {"cores":[{"id":0,"protection":"PRO_TERMINATETASKISR","resources":[{"name":"R","ceiling":1,"lock":2}],"tasks":[{"name":"A","prio":1,"auto":["M"],"activations":2,"script":"ActivateTask A;GetResource R"}]}]}
+stimuli {"0":"op op tick op op op tick tick op"}
+run
+core 0
+hook Startup
+act A
+pre A
+act A
+stat A ActivateTask E_OK
+stat A GetResource E_OK
+tick
+hook Error E_OS_MISSINGEND
+post A
+end A
+pre A
+act A
+stat A ActivateTask E_OK
+stat A GetResource E_OK
+tick
+tick
+hook Protection E_OS_PROTECTION_LOCKED
+end A
+pre A
+act A
+stat A ActivateTask E_OK
+ended
+
+// A budget of 0 is none.
+config {"cores":[{"id":0,"resources":[{"name":"R","ceiling":1,"lock":0},{"name":"S","ceiling":1,"lock":1000000000}],"tasks":[{"name":"A","prio":1,"auto":["M"],"script":"GetResource R;GetResource S;ReleaseResource S;ReleaseResource R;TerminateTask"}]}]}
+stimuli {"0":"op op tick tick tick op op op"}
+run
+core 0
+hook Startup
+act A
+pre A
+stat A GetResource E_OK
+stat A GetResource E_OK
+tick
+tick
+tick
+stat A ReleaseResource E_OK
+stat A ReleaseResource E_OK
+post A
+end A
+ended
+
+// The job that ends has a spinlock: its core gives that back before another job runs.
+config {"spinlocks":[{"name":"S"}],"cores":[{"id":0,"protection":"PRO_TERMINATETASKISR","resources":[{"name":"R","ceiling":2,"lock":2}],"tasks":[{"name":"A","prio":2,"auto":["M"],"script":"GetResource R;GetSpinlock S;jump 2"},{"name":"N","prio":1,"auto":["M"],"script":"GetSpinlock S;ReleaseSpinlock S;TerminateTask"}]}]}
+stimuli {"0":"op op tick tick op op op"}
+run
+core 0
+hook Startup
+act A
+act N
+pre A
+stat A GetResource E_OK
+stat A GetSpinlock E_OK
+tick
+tick
+hook Protection E_OS_PROTECTION_LOCKED
+end A
+pre N
+stat N GetSpinlock E_OK
+stat N ReleaseSpinlock E_OK
+post N
+end N
+ended
+
+// A core that is down takes no tick, and answers other cores with E_OS_CORE.
+config {"cores":[{"id":0,"start":[1],"tasks":[{"name":"A","prio":1,"auto":["M"],"script":"work;work;work;ActivateTask B;TerminateTask"}]},{"id":1,"resources":[{"name":"R","ceiling":1,"lock":2}],"tasks":[{"name":"X","prio":1,"auto":["M"],"script":"GetResource R;jump 1"},{"name":"B","prio":2,"script":"TerminateTask"}]}]}
+stimuli {"0":"op op op op op","1":"op tick tick tick tick"}
+run
+core 0
+start 1 E_OK
+hook Startup
+act A
+pre A
+out 1 ActivateTask B
+stat A ActivateTask E_OS_CORE
+hook Error E_OS_CORE
+post A
+end A
+core 1
+hook Startup
+act X
+pre X
+stat X GetResource E_OK
+tick
+tick
+hook Protection E_OS_PROTECTION_LOCKED
+hook Shutdown E_OS_PROTECTION_LOCKED
+ended
+
+// A core that is halted takes none either: its job would have reached the lock budget by the next one.
+config {"cores":[{"id":0,"start":[1],"tasks":[{"name":"A","prio":1,"auto":["M"],"script":"ShutdownAllCores 16"}]},{"id":1,"resources":[{"name":"R","ceiling":1,"lock":2}],"tasks":[{"name":"B","prio":1,"auto":["M"],"script":"GetResource R;jump 1"}]}]}
+stimuli {"0":"op","1":"op tick tick tick"}
+run
+core 0
+start 1 E_OK
+hook Startup
+act A
+pre A
+halt 0 E_OS_PROTECTION_LOCKED
+hook Shutdown E_OS_PROTECTION_LOCKED
+core 1
+hook Startup
+act B
+pre B
+stat B GetResource E_OK
+tick
+halt 0 E_OS_PROTECTION_LOCKED
+hook Shutdown E_OS_PROTECTION_LOCKED
+ended
+
+// A core may shut down with this status by itself.
+config {"cores":[{"id":0,"tasks":[{"name":"A","prio":1,"auto":["M"],"script":"ShutdownOS 16"}]}]}
+stimuli {"0":"op tick"}
+run
+core 0
+hook Startup
+act A
+pre A
+hook Shutdown E_OS_PROTECTION_LOCKED
+ended
+
+// A separate core that goes down,
+config {"cores":[{"id":0,"start":[1],"tasks":[{"name":"A","prio":1,"auto":["M"],"script":"TerminateTask"}]},{"id":1,"resources":[{"lock":2,"name":"R","ceiling":1},{"name":"S","ceiling":0}],"tasks":[{"name":"X","prio":1,"auto":["M"],"script":"GetResource R;jump 1"}]}]}
+stimuli {"0":"op","1":"op tick tick op"}
+run
+core 0
+start 1 E_OK
+hook Startup
+act A
+pre A
+post A
+end A
+core 1
+hook Startup
+act X
+pre X
+stat X GetResource E_OK
+tick
+tick
+hook Protection E_OS_PROTECTION_LOCKED
+hook Shutdown E_OS_PROTECTION_LOCKED
+ended
+
+cut 1
+{"cap":16,"cores":[{"alarms":[],"counters":[],"id":1,"isrs":[],"mode":"M","protection":"PRO_SHUTDOWN","resources":[{"ceiling":1,"lock":2,"name":"R"},{"ceiling":0,"lock":0,"name":"S"}],"start":[],"tables":[],"tasks":[{"activations":1,"auto":["M"],"budget":0,"extended":false,"name":"X","preemptable":true,"prio":1,"script":"GetResource R;jump 1"}]}],"master":1,"modes":["M"],"spinlocks":[],"version":1}
+
+// prints the same by its own configuration.
+config
+stimuli {"1":"op tick tick op"}
+run
+core 1
+hook Startup
+act X
+pre X
+stat X GetResource E_OK
+tick
+tick
+hook Protection E_OS_PROTECTION_LOCKED
+hook Shutdown E_OS_PROTECTION_LOCKED
+ended
+"#;
+
+#[test]
+fn lock_budgets_come_to_their_texts(rt: HostRuntime) -> Result<(), Fail> {
+    play_all(&rt, rt.alloc(), &[RUNS], 34)
+}
