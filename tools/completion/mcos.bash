@@ -97,7 +97,7 @@ _mcos() {
     elif [[ $wanted == --items ]]; then
         _mcos_offer_cores "${current#=}" "${arguments[0]}"
     elif [[ $wanted == --mail ]]; then
-        _mcos_offer "${current#=}" 'locked'
+        _mcos_offer "${current#=}" 'ring locked'
     elif [[ $wanted ]]; then
         return 0
     elif [[ $current == -* ]]; then

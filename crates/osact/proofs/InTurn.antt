@@ -58,7 +58,7 @@ module _ {X : Type 0} (one : X → History → History) (each : List X → Histo
 
 -- ---- a loop that acts for each element
 
--- Each of these acted, by at most so many entries and marks, and at most so many envelopes joined the outbox.
+-- Each of these acted, by at most so many entries and marks, and at most so many letters joined the outbox.
 pub record InTurn {X : Type 0} (f : X → Acts) (posted : Core → X → ℕ) (entries marks : ℕ) (done : List X) (old now : KernelState) (old_vec vec : Vec Mark Global) : Type 0 where
   pub effects : Effects (entries * length done) (marks * length done) (does (for_each f done)) old now old_vec vec
   pub outbox : length now.border.outbox ≤ length old.border.outbox + sum_by (posted old.view.own) done

@@ -59,7 +59,7 @@ pub record Leave : Type 0 where
 abbrev pub is_allowed : Leave → Act → Bool
 is_allowed l (Prints m) = names_only l.names m
 is_allowed l (Notes (Opened call)) = may_open l.may call
-is_allowed l (Notes (Queued core envelope)) = false
+is_allowed l (Notes (Queued core letter)) = false
 is_allowed l (Notes n) = true
 is_allowed l (Sends core (Message.Reply status)) = l.answered core
 is_allowed l (Sends core (Message.Value status n)) = l.answered core
@@ -71,7 +71,7 @@ abbrev pub is_local : (CoreId → Bool) → Entry → Bool
 is_local names (Took item) = false
 is_local names (Printed m) = names_only names m
 is_local names (Noted (Opened call)) = false
-is_local names (Noted (Queued core envelope)) = false
+is_local names (Noted (Queued core letter)) = false
 is_local names entry = true
 
 -- What the core reads is its own, and marks may name the runner that it goes on with and the one whose call is open.
@@ -82,7 +82,7 @@ pub record IsSeen (l : Leave) (s : Seen) : Type 0 where
   pub running : option_map_or (λ (r : Runner). l.names (core_of_runner r)) s.running true ≡ true
   pub awaits : option_map_or (λ (call : OpenCall). l.names (core_of_runner call.runner)) s.awaits true ≡ true
 
--- Each kind of entry that acts may add keeps it: one of the core itself, an envelope to a core that may be asked, a reply to
+-- Each kind of entry that acts may add keeps it: one of the core itself, a letter to a core that may be asked, a reply to
 -- one that may be answered, and a call whose answer may be asked for.
 pub record KeepsEntries (l : Leave) (R : History → History → Type 0) : Type 0 where
   pub local : (e : Entry) (h k : History) → is_local l.names e ≡ true → R h k → R (e ∷ h) (e ∷ k)
@@ -116,7 +116,7 @@ module _ (l : Leave) where
     one-kept : (a : Act) → is_allowed l a ≡ true → (h k : History) → R h k → R (act a h) (act a k)
     one-kept (Prints m) ok h k p = kept.holds.local (Printed m) h k ok p
     one-kept (Notes (Opened call)) ok h k p = kept.holds.opened call h k ok p
-    one-kept (Notes (Queued core envelope)) ok h k p = cc
+    one-kept (Notes (Queued core letter)) ok h k p = cc
     one-kept (Notes n) ok h k p = kept.holds.local (Noted n) h k ok p
     one-kept (Sends core (Message.Reply status)) ok h k p = kept.holds.replied core status None h k ok p
     one-kept (Sends core (Message.Value status n)) ok h k p = kept.holds.replied core status (Some n) h k ok p

@@ -1,4 +1,4 @@
--- Whom a core asks beside itself: another core, by an envelope; what all cores share, which is who of them is configured and who is
+-- Whom a core asks beside itself: another core, by a letter; what all cores share, which is who of them is configured and who is
 -- started; and all of them, that they shut down.
 use Rattle.osbase.specs.declared.references.CoreId.{CoreId}
 use Rattle.osbase.specs.declared.histories.Awaited.{Awaited}

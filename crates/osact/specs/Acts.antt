@@ -7,12 +7,12 @@ use Rattle.std.specs.List.{enumerate_from}
 use Rattle.osbase.specs.declared.references.CoreId.{CoreId}
 use Rattle.osbase.specs.declared.messages.Message.{Message}
 use Rattle.osbase.specs.declared.marks.Mark.{Mark}
-use Rattle.osbase.specs.History.{History, Note, Printed, Noted, Queued, queued_count, envelope_with}
+use Rattle.osbase.specs.History.{History, Note, Printed, Noted, Queued, queued_count, letter_with}
 use Rattle.osplan.specs.View.{View}
 use Rattle.osstate.specs.Readings.{knows_started}
 use Rattle.osact.specs.Seen.{AllCores, Seen, all_cores, seen_of}
 
--- One act: a line is printed, something happens without a line, or an envelope joins the outbox, with the next number
+-- One act: a line is printed, something happens without a line, or a letter joins the outbox, with the next number
 -- for its core. [own]
 pub data Act : Type 0 where
   Prints : Mark → Act
@@ -22,7 +22,7 @@ pub data Act : Type 0 where
 abbrev pub act : Act → History → History
 act (Prints m) h = Printed m ∷ h
 act (Notes n) h = Noted n ∷ h
-act (Sends core message) h = Noted (Queued core (envelope_with (queued_count core h) message)) ∷ h
+act (Sends core message) h = Noted (Queued core (letter_with (queued_count core h) message)) ∷ h
 
 -- Acts: none, one and then others, some and then others, of two the first where a test holds, of two the first where a
 -- core was started, and those that follow from what is read now of the core itself, or of all cores. [own]

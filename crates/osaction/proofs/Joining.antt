@@ -1,4 +1,4 @@
--- The actions of a core's alarms and of its tables' points: how many envelopes join the outbox by them.
+-- The actions of a core's alarms and of its tables' points: how many letters join the outbox by them.
 use Rattle.std.proofs.Common.{◌≡◌, ◌<◌, ◌≤◌, ◌+◌, ◌*◌, ℕ, suc, nat_le, Bool, true, false, not, cond, List, length, count_by, refl, arith}
 use Rattle.std.specs.List.{list_all}
 use Rattle.std.proofs.lemmas.Bool.{and_parts, leb-true}
@@ -11,7 +11,7 @@ use Rattle.osplan.specs.Objects.{is_posting, may_act}
 use Rattle.oscall.specs.Border.{is_known_call}
 use Rattle.osaction.specs.Points.{is_known_point, is_of_kind, of_kind}
 
--- How many envelopes join the outbox by one.
+-- How many letters join the outbox by one.
 abbrev pub posted_by_action : Core → RemoteCall → ℕ
 posted_by_action core action = cond (is_posting core action) 1 0
 

@@ -15,7 +15,7 @@ use osbase::{CoreId, Mark, Message, RemoteCall, Status};
 use oscall::serve;
 use osstate::CoreState;
 
-/// A task of the core is acted on at once, another core's by an envelope without a reply; on a core that was never started nothing
+/// A task of the core is acted on at once, another core's by a letter without a reply; on a core that was never started nothing
 /// acts, and ErrorHook is called with E_OS_CORE (AUTOSAR SWS OS 4.x, SWS_Os_00632 and SWS_Os_00633).
 pub fn act<const P: usize, const J: usize, const OUT: usize>(
     state: &mut CoreState<'_, P, J, OUT>,

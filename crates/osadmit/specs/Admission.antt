@@ -62,7 +62,7 @@ abbrev pub is_front_for : CoreId → List Sent → Bool
 is_front_for core [] = false
 is_front_for core (s ∷ ss) = same_core s.to core
 
--- An envelope may be taken: its sender was started and is another core, its number is the next from there.
+-- A letter may be taken: its sender was started and is another core, its number is the next from there.
 -- [own]
 abbrev pub is_next_from : ℕ → KernelState → CoreId → ℕ → Message → Bool
 is_next_from places s from number message =
@@ -106,7 +106,7 @@ is_next_release s l =
     option_map_or (λ (call : OpenCall). is_release_of l call.awaits) s.border.open_call
     (option_map_or (same_spinlock l) (newest_owed s.border.spins) false)
 
--- An item may be taken: one line for each kind. `places` is how many envelopes the outbox may hold. [own]
+-- An item may be taken: one line for each kind. `places` is how many letters the outbox may hold. [own]
 abbrev pub admits : ℕ → KernelState → Item → Bool
 admits places s Item.On = stands_in Phase.Off s.progress.phase
 admits places s (Item.Began core status) =

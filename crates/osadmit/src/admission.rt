@@ -42,7 +42,7 @@ pub fn is_admitted<const P: usize, const J: usize, const OUT: usize>(
             from,
             number,
             message,
-        } => phase.is_scheduling() & is_next_envelope(state, *from, *number, message),
+        } => phase.is_scheduling() & is_next_letter(state, *from, *number, message),
         Item::Granted(lock) => phase.stands_in(Phase::Live) & awaits_get(state, *lock),
         Item::Tried { spinlock, taken: _ } => {
             phase.stands_in(Phase::Live) & awaits_try(state, *spinlock)
@@ -173,9 +173,9 @@ fn is_absent_or_configured<const P: usize, const J: usize, const OUT: usize>(
     true
 }
 
-// An envelope may be taken: its sender was started and is another core, its number is the next from there,
+// A letter may be taken: its sender was started and is another core, its number is the next from there,
 // and it is one that this core awaits or serves.
-fn is_next_envelope<const P: usize, const J: usize, const OUT: usize>(
+fn is_next_letter<const P: usize, const J: usize, const OUT: usize>(
     state: &CoreState<'_, P, J, OUT>,
     from: CoreId,
     number: u64,

@@ -18,7 +18,7 @@ use Rattle.osbase.specs.declared.references.CounterRef.{CounterRef}
 use Rattle.osbase.specs.declared.references.AlarmRef.{AlarmRef}
 use Rattle.osbase.specs.declared.references.TableRef.{TableRef}
 use Rattle.osbase.specs.declared.references.Runner.{Runner}
-use Rattle.osbase.specs.declared.messages.Envelope.{Envelope}
+use Rattle.osbase.specs.declared.messages.Letter.{Letter}
 use Rattle.osbase.specs.declared.messages.Message.{Message}
 use Rattle.osbase.specs.declared.items.CoreSet.{CoreSet}
 use Rattle.osbase.specs.declared.items.Agreement.{Agreement}
@@ -38,8 +38,8 @@ use Rattle.osbase.specs.Phases.{halted_from}
 pub data Note : Type 0 where
   -- a call of a job stays open until what it awaits comes
   Opened : OpenCall → Note
-  -- an envelope for the core that is named joins the outbox
-  Queued : CoreId → Envelope → Note
+  -- a letter for the core that is named joins the outbox
+  Queued : CoreId → Letter → Note
   -- the runner's oldest live job takes a resource, and gives one back
   Taken : Runner → HeldResource → Note
   Given : Runner → ℕ → Note
@@ -260,7 +260,7 @@ open_call (e ∷ h) = open_after e (open_call h)
 
 -- The outbox, its front first: what was queued and not posted. A post takes the front. [own]
 abbrev pub outbox_after : Entry → List Sent → List Sent
-outbox_after (Noted (Queued d e)) outbox = outbox ++ record { to = d; envelope = e } ∷ []
+outbox_after (Noted (Queued d x)) outbox = outbox ++ record { to = d; letter = x } ∷ []
 outbox_after (Took (Item.Posted d)) outbox = drop 1 outbox
 outbox_after e outbox = outbox
 
@@ -268,7 +268,7 @@ abbrev pub outbox : History → List Sent
 outbox [] = []
 outbox (e ∷ h) = outbox_after e (outbox h)
 
--- How many envelopes were queued for a core, and received from one. [own]
+-- How many letters were queued for a core, and received from one. [own]
 abbrev pub queued_count : CoreId → History → ℕ
 queued_count d [] = 0
 queued_count d (Noted (Queued e x) ∷ h) = if same_core e d then suc (queued_count d h) else queued_count d h
@@ -279,28 +279,28 @@ received_count s [] = 0
 received_count s (Took (Item.Received from number m) ∷ h) = if same_core from s then suc (received_count s h) else received_count s h
 received_count s (e ∷ h) = received_count s h
 
-abbrev pub envelope_with : ℕ → Message → Envelope
-envelope_with number message = record { number = number; message = message }
+abbrev pub letter_with : ℕ → Message → Letter
+letter_with number message = record { number = number; message = message }
 
 -- The streams between cores: what this core queued for d, what of it left by posts, and what it
 -- received from s, the oldest first. [own; the code has mailboxes.]
-abbrev pub sent : CoreId → History → List Envelope
+abbrev pub sent : CoreId → History → List Letter
 sent d [] = []
 sent d (Noted (Queued e x) ∷ h) = if same_core e d then sent d h ++ x ∷ [] else sent d h
 sent d (e ∷ h) = sent d h
 
-abbrev pub front_envelope : List Sent → List Envelope
-front_envelope [] = []
-front_envelope (s ∷ ss) = s.envelope ∷ []
+abbrev pub front_letter : List Sent → List Letter
+front_letter [] = []
+front_letter (s ∷ ss) = s.letter ∷ []
 
-abbrev pub posted : CoreId → History → List Envelope
+abbrev pub posted : CoreId → History → List Letter
 posted d [] = []
-posted d (Took (Item.Posted e) ∷ h) = if same_core e d then posted d h ++ front_envelope (outbox h) else posted d h
+posted d (Took (Item.Posted e) ∷ h) = if same_core e d then posted d h ++ front_letter (outbox h) else posted d h
 posted d (e ∷ h) = posted d h
 
-abbrev pub received : CoreId → History → List Envelope
+abbrev pub received : CoreId → History → List Letter
 received s [] = []
-received s (Took (Item.Received from number m) ∷ h) = if same_core from s then received s h ++ envelope_with number m ∷ [] else received s h
+received s (Took (Item.Received from number m) ∷ h) = if same_core from s then received s h ++ letter_with number m ∷ [] else received s h
 received s (e ∷ h) = received s h
 
 -- The phase that an item leads to: the master begins in boot, another core off, and items lead on.

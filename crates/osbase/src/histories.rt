@@ -3,7 +3,7 @@
 ghost use Rattle.std.specs.Prelude.{◌≡◌};
 ghost use Rattle.osbase.specs.Phases.{halted_from, is_down, is_going, is_scheduling, stands_in};
 
-use crate::messages::Envelope;
+use crate::messages::Letter;
 use crate::references::{CoreId, Runner, SpinlockId};
 use crate::statuses::{ServiceId, Status};
 
@@ -128,9 +128,9 @@ pub struct GotSpinlock {
     pub holder: Option<Runner>,
 }
 
-/// An envelope of the outbox, and the core that it is for.
+/// A letter of the outbox, and the core that it is for.
 #[derive(Clone, Copy, PartialEq, Eq)]
 pub struct Sent {
     pub to: CoreId,
-    pub envelope: Envelope,
+    pub letter: Letter,
 }

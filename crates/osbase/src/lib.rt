@@ -1,4 +1,4 @@
-//! The words that every layer speaks: references, statuses, items, marks, envelopes and turns.
+//! The words that every layer speaks: references, statuses, items, marks, letters and turns.
 //!
 //! Nothing here takes memory or refuses anything, but the two lists, which grow as a `Vec` does.
 #![tactic(auto)]
@@ -26,7 +26,7 @@ pub use limits::{
 };
 pub use lists::{List, Name};
 pub use marks::Mark;
-pub use messages::{Envelope, Message, RemoteCall};
+pub use messages::{Envelope, Letter, MailKind, Message, RemoteCall};
 pub use names::is_name;
 pub use objects::{NOBODY, Object, ObjectKind, Place, Reference};
 pub use references::{

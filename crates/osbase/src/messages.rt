@@ -59,9 +59,25 @@ pub enum Message {
     Value(Status, i64),
 }
 
-/// A message with its number: each ordered pair of cores counts its envelopes 0, 1, 2 and so on.
+/// A message with its number: each ordered pair of cores counts its letters 0, 1, 2 and so on. What a core sends and takes
+/// is a matter of letters alone.
 #[derive(Clone, Copy, Debug, PartialEq, Eq)]
-pub struct Envelope {
+pub struct Letter {
     pub number: u64,
     pub message: Message,
+}
+
+/// What goes from one core to another: a letter, and what the way of it needs beside that.
+#[derive(Clone, Copy, Debug, PartialEq, Eq)]
+pub struct Envelope {
+    pub letter: Letter,
+}
+
+/// How envelopes go from one core to another where each core runs on a thread of its own.
+#[derive(Clone, Copy, Debug, PartialEq, Eq)]
+pub enum MailKind {
+    /// Through a ring for each direction, without a lock.
+    Ring,
+    /// Through mailboxes under locks.
+    Locked,
 }

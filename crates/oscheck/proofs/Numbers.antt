@@ -1,4 +1,4 @@
--- The numbers of a text within its limits: how many jobs there are, how the points of tables ascend, and how many envelopes alarms and tables post.
+-- The numbers of a text within its limits: how many jobs there are, how the points of tables ascend, and how many letters alarms and tables post.
 use Rattle.std.proofs.Common.{◌≡◌, ℕ, ◌*◌, ◌≤◌, true, sum_by, List, [], ◌∷◌, length, unwrap_or, Option, arith, suc, ◌-◌, ◌<◌, map, Some, is_some, refl, ap, ◌∙◌}
 use Rattle.std.specs.List.{list_all, slice_get}
 use Rattle.std.proofs.{lemmas.Bool.Decides.nat_tests, lemmas.List.length-map, lemmas.List.Folds.fold-map, lemmas.List.Folds.list_all-map, lemmas.List.Sums.sum_by-cons, lemmas.List.Sums.count_by-le-length}

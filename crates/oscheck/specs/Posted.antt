@@ -1,4 +1,4 @@
--- How many envelopes a core's alarms and tables may add to its outbox at once, by their texts. [own]
+-- How many letters a core's alarms and tables may add to its outbox at once, by their texts. [own]
 use Rattle.std.specs.Prelude.{ℕ, ◌+◌, Bool, false, not, option_and_then, List, map, count_by, sum_by}
 use Rattle.std.specs.Option.{option_map_or}
 use Rattle.oscheck.specs.Words.{AlarmText, CoreId, CoreText, Declaration, PointText, RemoteCall, TableText}
@@ -27,6 +27,6 @@ posted_by_alarms objects id alarms = count_by (λ (alarm : AlarmText). is_postin
 abbrev pub posted_by_tables : List Declaration → CoreId → List TableText → ℕ
 posted_by_tables objects id tables = sum_by (greatest_posted objects id) tables
 
--- Each alarm that posts adds one envelope, and each table those of one point.
+-- Each alarm that posts adds one letter, and each table those of one point.
 abbrev pub posted_at_once : List Declaration → CoreText → ℕ
 posted_at_once objects core = posted_by_alarms objects (id_of core) core.alarms + posted_by_tables objects (id_of core) core.tables

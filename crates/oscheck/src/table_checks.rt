@@ -120,7 +120,7 @@ fn posted_by_tables(objects: &Objects, id: CoreId, tables: &[TableText]) -> usiz
         .sum()
 }
 
-/// Whether the core's alarms and tables add no more envelopes at once than its outbox has room for. Judged of alarms and
+/// Whether the core's alarms and tables add no more letters at once than its outbox has room for. Judged of alarms and
 /// tables within their limits, so that the sum is small.
 pub fn are_posted_few(objects: &Objects, core: &CoreText) -> bool
     requires alarms { are_alarms_within (map (alarm_sizes objects.now.declared) core.now.alarms) ≡ true }

@@ -1,16 +1,18 @@
 -- What the words of the program's command line give, where they have no fault.
-use Rattle.std.proofs.Common.{◌≡◌, ◌∙◌, ◌⊎◌, ◌||◌, Bool, cond, not, true, false, true≢false, refl, sym, inl, inr, codes, List, [], ◌∷◌}
+use Rattle.std.proofs.Common.{◌≡◌, ◌∙◌, ◌⊎◌, ◌||◌, Bool, cond, not, true, false, true≢false, refl, ap, sym, inl, inr, codes, List, [], ◌∷◌, map}
+use Rattle.std.specs.Borrow.{Bor}
+use Rattle.std.specs.List.{list_any}
 use Rattle.std.specs.Prelude.{⊤, IfSome, IsSomeAnd}
 use Rattle.std.specs.Str.{bytes_eq}
 use Rattle.std.proofs.lemmas.Slice.Eq.{bytes_eq-Decides}
 use Rattle.clap.specs.Faults.{check_fault}
 use Rattle.clap.specs.Simple.{Shape, built, built_leaf, filled, help_rule, with_index}
 use Rattle.clap.specs.Takes.{is_given}
-use Rattle.clap.specs.Words.{IsUnsignedIn, Row, Rule, Text, fault_of, first_of, subcommand_of}
+use Rattle.clap.specs.Words.{IsUnsignedIn, Row, Rule, Text, fault_of, first_of, same_text, subcommand_of}
 use Rattle.clap.specs.declared.error.kind.ErrorKind.{ErrorKind}
 use Rattle.clap.specs.declared.builder.ValueParser.TheVariants.{Unsigned}
 use Rattle.clap.proofs.ValueTestLemmas.{accepts-Accepts}
-use Rattle.oscommand.specs.CommandLine.{MailKinds, check_command, command_line, config_rule, core_rule, cut_command, items_rule, log_rule, mail_rule, replay_command, run_command, schedule_rule, stimuli_rule, threads_command, turns_rule}
+use Rattle.oscommand.specs.CommandLine.{AreMailKinds, IsMailName, MailKinds, check_command, command_line, config_rule, core_rule, cut_command, items_rule, log_rule, mail_rule, replay_command, run_command, schedule_rule, stimuli_rule, threads_command, turns_rule}
 use Rattle.oscommand.specs.declared.jobs.TheConstants.{MOST_TURNS}
 use Rattle.oscommand.proofs.Parsed.{AllGive, AllKeep, help_keeps, leaf_any, leaf_first, one_keeps, subcommand_gives}
 
@@ -161,6 +163,44 @@ threads_items_keeps kinds = (
   ),
 )
 
+-- the value of a parser of these names is one of them
+named : (names : List (Bor Text)) (text : Text)
+    → list_any (λ (name : Bor Text). same_text false name.now text) names ≡ list_any (λ t. bytes_eq t text) (map (λ (name : Bor Text). name.now) names)
+named [] text = refl
+named (name ∷ rest) text = ap (λ (b : Bool). bytes_eq name.now text || b) (named rest text)
+
+one_of_two : (text : Text) (ring locked : Bool) → bytes_eq (codes "ring") text ≡ ring → bytes_eq (codes "locked") text ≡ locked
+    → (ring || (locked || false)) ≡ true → IsMailName text
+one_of_two text true locked is_ring is_locked e = inl (sym ((bytes_eq-Decides (codes "ring") text).0 is_ring))
+one_of_two text false true is_ring is_locked e = inr (sym ((bytes_eq-Decides (codes "locked") text).0 is_locked))
+one_of_two text false false is_ring is_locked e = absurd (true≢false (sym e))
+
+names_kind : (kinds : MailKinds) → AreMailKinds kinds → (text : Text) → list_any (λ (name : Bor Text). same_text false name.now text) kinds.now ≡ true → IsMailName text
+names_kind kinds are text e = one_of_two text _ _ refl refl (ap (list_any (λ t. bytes_eq t text)) (sym are) ∙ sym (named kinds.now text) ∙ e)
+
+-- and a name that is not the first is the second
+pub not_ring : (text : Text) → IsMailName text → bytes_eq text (codes "ring") ≡ false → text ≡ codes "locked"
+not_ring text (inl ring) other = absurd (true≢false (sym ((bytes_eq-Decides text (codes "ring")).1 ring) ∙ other))
+not_ring text (inr locked) other = locked
+
+mail_keeps : (kinds : MailKinds) → AreMailKinds kinds → AllKeep (codes "mail") IsMailName false (threads_leaf kinds).rules
+mail_keeps kinds are = (
+  one_keeps (codes "mail") IsMailName false config (λ is v ok. absurd (true≢false (sym is))),
+  (
+    one_keeps (codes "mail") IsMailName false stimuli (λ is v ok. absurd (true≢false (sym is))),
+    (
+      one_keeps (codes "mail") IsMailName false (filled turns_rule) (λ is v ok. absurd (true≢false (sym is))),
+      (
+        one_keeps (codes "mail") IsMailName false (filled (mail_rule kinds)) (λ is v ok. names_kind kinds are v ok),
+        (
+          one_keeps (codes "mail") IsMailName false (filled items_rule) (λ is v ok. absurd (true≢false (sym is))),
+          (help_keeps (codes "mail") IsMailName false (filled help_rule), tt),
+        ),
+      ),
+    ),
+  ),
+)
+
 -- ---- what the checks at the end want
 
 first_wanted : (first rest : Bool) (k : ErrorKind) → cond (not first || rest) (k ∷ []) [] ≡ [] → first ≡ true
@@ -233,6 +273,7 @@ pub record IsThreads (name : Text) (rows : List Row) : Type 0 where
   pub config : Has (codes "CFG") rows
   pub stimuli : Has (codes "STIM") rows
   pub turns : IfSome (first_of (codes "turns") rows) (IsUnsignedIn 1 MOST_TURNS)
+  pub mail : IfSome (first_of (codes "mail") rows) IsMailName
   pub items : IfSome (first_of (codes "items") rows) (IsUnsignedIn 0 255)
 
 abbrev pub IsJob : Text × List Row → Type 0
@@ -248,8 +289,8 @@ no_help name other is =
     either_one true e = refl
     either_one false e = e
 
-jobs_give : (kinds : MailKinds) → AllGive IsJob (built (command_line kinds)).subs
-jobs_give kinds = (
+jobs_give : (kinds : MailKinds) → AreMailKinds kinds → AllGive IsJob (built (command_line kinds)).subs
+jobs_give kinds are = (
   (λ name other is words e. inl (record {
     is = refl;
     config = leaf_first (codes "CFG") Anything run_leaf (run_keeps _) refl (λ rows c. (run_wants rows c).0) words e;
@@ -280,6 +321,7 @@ jobs_give kinds = (
             config = leaf_first (codes "CFG") Anything (threads_leaf kinds) (threads_keeps kinds _) refl (λ rows c. (threads_wants kinds rows c).0) words e;
             stimuli = leaf_first (codes "STIM") Anything (threads_leaf kinds) (threads_keeps kinds _) refl (λ rows c. (threads_wants kinds rows c).1) words e;
             turns = leaf_any (codes "turns") (IsUnsignedIn 1 MOST_TURNS) (threads_leaf kinds) (turns_keeps kinds) refl words e;
+            mail = leaf_any (codes "mail") IsMailName (threads_leaf kinds) (mail_keeps kinds are) refl words e;
             items = leaf_any (codes "items") (IsUnsignedIn 0 255) (threads_leaf kinds) (threads_items_keeps kinds) refl words e;
           }))))),
           ((λ name other is words e. absurd (no_help name other is)), tt),
@@ -290,8 +332,8 @@ jobs_give kinds = (
 )
 
 -- the words name one of the subcommands, and give its required arguments
-pub names_job : (kinds : MailKinds) (words : List Text) → fault_of (command_line kinds) words ≡ [] → IsSomeAnd (subcommand_of (command_line kinds) words) IsJob
-names_job kinds words e = subcommand_gives IsJob (built (command_line kinds)) _ refl refl (jobs_give kinds) e
+pub names_job : (kinds : MailKinds) → AreMailKinds kinds → (words : List Text) → fault_of (command_line kinds) words ≡ [] → IsSomeAnd (subcommand_of (command_line kinds) words) IsJob
+names_job kinds are words e = subcommand_gives IsJob (built (command_line kinds)) _ refl refl (jobs_give kinds are) e
 
 -- and so what the subcommand of a name has
 apart : (a b : Text) → bytes_eq a b ≡ false → a ≡ b → ⊥

@@ -1,11 +1,13 @@
 -- The program's command line, in the terms of `clap`. [own]
 use Rattle.std.specs.Borrow.{Bor}
-use Rattle.std.specs.Prelude.{◌≡◌, ℕ, true, Option, Some, None, Result, List, [], ◌∷◌, codes, map}
+use Rattle.std.specs.Prelude.{◌≡◌, ◌⊎◌, ℕ, true, Option, Some, None, Result, List, [], ◌∷◌, codes, map}
 use Rattle.std.specs.Str.Parse.{digits_value, without_leading_plus}
 use Rattle.clap.specs.Words.{App, FailsBy, Row, Rule, fault_of, first_of, new_app, new_rule, subcommand_of, with_rule, with_subcommand}
 use Rattle.clap.specs.declared.error.Error.{Error}
 use Rattle.clap.specs.declared.builder.ArgAction.TheVariants.{Set}
 use Rattle.clap.specs.declared.builder.ValueParser.TheVariants.{Names, Unsigned}
+use Rattle.osbase.specs.declared.messages.MailKind.{MailKind}
+use Rattle.osbase.specs.declared.messages.MailKind.TheVariants.{Ring, Locked}
 use Rattle.osbase.specs.declared.references.CoreId.{CoreId}
 use Rattle.oscommand.specs.declared.jobs.Job.{Job}
 use Rattle.oscommand.specs.declared.jobs.Job.TheVariants.{Run, Check, Cut, Replay, Threads}
@@ -31,12 +33,20 @@ log_rule = record (new_rule (codes "LOG")) { required = true }
 abbrev pub turns_rule : Rule
 turns_rule = record (new_rule (codes "turns")) { long = Some (codes "turns"); value_names = 1; action = Some Set; parser = Some (Unsigned 1 MOST_TURNS) }
 
+-- The name of a kind of mail.
+abbrev pub mail_name : MailKind → List ℕ
+mail_name Ring = codes "ring"
+mail_name Locked = codes "locked"
+
+abbrev pub IsMailName : List ℕ → Type 0
+IsMailName text = (text ≡ mail_name Ring) ⊎ (text ≡ mail_name Locked)
+
 -- The names of the kinds of mail, wherever they stand in memory.
 abbrev pub MailKinds : Type 0
 MailKinds = Bor (List (Bor (List ℕ)))
 
 abbrev pub AreMailKinds : MailKinds → Type 0
-AreMailKinds kinds = map (λ (name : Bor (List ℕ)). name.now) kinds.now ≡ codes "locked" ∷ []
+AreMailKinds kinds = map (λ (name : Bor (List ℕ)). name.now) kinds.now ≡ mail_name Ring ∷ mail_name Locked ∷ []
 
 abbrev pub mail_rule : MailKinds → Rule
 mail_rule kinds = record (new_rule (codes "mail")) { long = Some (codes "mail"); value_names = 1; action = Some Set; parser = Some (Names kinds) }
@@ -92,6 +102,11 @@ abbrev pub SaysTurns : Option (List ℕ) → ℕ → Type 0
 SaysTurns None turns = turns ≡ DEFAULT_TURNS
 SaysTurns (Some text) turns = turns ≡ digits_value 10 (without_leading_plus text)
 
+-- A text that is there names the kind of mail, which else is rings.
+abbrev pub SaysMail : Option (List ℕ) → MailKind → Type 0
+SaysMail None mail = mail ≡ Ring
+SaysMail (Some text) mail = text ≡ mail_name mail
+
 -- The entries of a subcommand are the job's.
 abbrev pub HasEntries : List Row → Job → Type 0
 HasEntries rows (Run config stimuli schedule items) =
@@ -105,10 +120,11 @@ HasEntries rows (Cut config core) =
 HasEntries rows (Replay config core log) =
     (first_of (codes "CFG") rows ≡ Some config.now) × SaysNumber (first_of (codes "CORE") rows) core.number
     × (first_of (codes "LOG") rows ≡ Some log.now)
-HasEntries rows (Threads config stimuli turns items) =
+HasEntries rows (Threads config stimuli turns mail items) =
     (first_of (codes "CFG") rows ≡ Some config.now)
     × (first_of (codes "STIM") rows ≡ Some stimuli.now)
     × SaysTurns (first_of (codes "turns") rows) turns
+    × SaysMail (first_of (codes "mail") rows) mail
     × SaysCore (first_of (codes "items") rows) items
 
 abbrev pub subcommand_name : Job → List ℕ
@@ -116,7 +132,7 @@ subcommand_name (Run config stimuli schedule items) = codes "run"
 subcommand_name (Check config) = codes "check"
 subcommand_name (Cut config core) = codes "cut"
 subcommand_name (Replay config core log) = codes "replay"
-subcommand_name (Threads config stimuli turns items) = codes "threads"
+subcommand_name (Threads config stimuli turns mail items) = codes "threads"
 
 -- The words, of which the first is the program's name, name the job's subcommand with the job's entries.
 pub record AsksFor (words : List (List ℕ)) (job : Job) : Type 0 where

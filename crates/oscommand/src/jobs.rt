@@ -3,13 +3,13 @@
 ghost use Rattle.std.specs.Prelude.{◌≡◌, IfOk, IfSome, IsSome, IsSomeAnd, codes, false, map};
 ghost use Rattle.std.specs.Str.Parse.{digits_value, without_leading_plus};
 ghost use Rattle.clap.specs.Words.{IsUnsignedIn, app_of, first_of, first_value, found_of, rows_of, rule_of};
-ghost use Rattle.oscommand.specs.CommandLine.{AsksFor, FailsByWords, HasEntries, SaysCore, SaysTurns, check_command, command_line, config_rule, core_rule, cut_command, items_rule, mail_rule, replay_command, run_command, schedule_rule, stimuli_rule, subcommand_name, threads_command, turns_rule};
+ghost use Rattle.oscommand.specs.CommandLine.{AsksFor, FailsByWords, HasEntries, IsMailName, SaysCore, SaysMail, SaysTurns, check_command, command_line, config_rule, core_rule, cut_command, items_rule, mail_name, mail_rule, replay_command, run_command, schedule_rule, stimuli_rule, subcommand_name, threads_command, turns_rule};
 ghost use Rattle.oscommand.specs.declared.jobs.TheConstants.{MOST_TURNS};
 ghost use Rattle.oscommand.specs.Jobs.{paths_of};
 
 use clap::builder::ValueParser;
 use clap::{Arg, ArgAction, ArgMatches, Command, Error};
-use osbase::CoreId;
+use osbase::{CoreId, MailKind};
 use std::alloc::{AllocError, Global};
 use std::convert::AsStr;
 
@@ -23,7 +23,7 @@ pub const DEFAULT_TURNS: u64 = 1_000_000;
 pub const MOST_TURNS: u64 = 1_000_000_000;
 
 /// The names of the kinds of mail between threads.
-const MAIL_KINDS: &[&str] = &["locked"];
+const MAIL_KINDS: &[&str] = &["ring", "locked"];
 
 const RUN_HELP: &str = "\
 Reads a configuration, the stimuli of its cores and, with --schedule, the turns in order.
@@ -65,6 +65,8 @@ The order of the cores' turns is that of the threads, so two runs may print diff
 
 A core gives up once N of its turns in a row (--turns) changed nothing, also one that is never started.
 
+Envelopes go from core to core through rings without a lock, or with `--mail locked` through mailboxes under locks.
+
 With --items prints the log of that core in their place: a line for each item that it took.
 
 Exit status: 0 ended, 1 a fault (`fault N Name`), 2 wrong usage, 3 stalled.
@@ -102,6 +104,7 @@ pub enum Job<'a> {
         config: &'a str,
         stimuli: &'a str,
         turns: u64,
+        mail: MailKind,
         items: Option<CoreId>,
     },
 }
@@ -261,6 +264,7 @@ fn threads_job<'a>(threads: &ArgMatches<'a>) -> Job<'a>
     requires config { IsSome (first_value (found_of threads.now) (codes "CFG")) }
     requires stimuli { IsSome (first_value (found_of threads.now) (codes "STIM")) }
     requires turns { IfSome (first_value (found_of threads.now) (codes "turns")) (IsUnsignedIn 1 MOST_TURNS) }
+    requires mail { IfSome (first_value (found_of threads.now) (codes "mail")) IsMailName }
     requires items { IfSome (first_value (found_of threads.now) (codes "items")) (IsUnsignedIn 0 255) }
     ensures { HasEntries (rows_of (found_of threads.now)) result × (subcommand_name result ≡ codes "threads") }
 {
@@ -271,6 +275,7 @@ fn threads_job<'a>(threads: &ArgMatches<'a>) -> Job<'a>
         config,
         stimuli,
         turns: turns_of(threads),
+        mail: mail_of(threads),
         items: items_core(threads),
     }
 }
@@ -294,6 +299,28 @@ fn turns_in(word: &str) -> u64
         unreachable!();
     };
     turns
+}
+
+// The kind of `--mail`, or else rings.
+fn mail_of(threads: &ArgMatches) -> MailKind
+    requires { IfSome (first_value (found_of threads.now) (codes "mail")) IsMailName }
+    ensures { SaysMail (first_of (codes "mail") (rows_of (found_of threads.now))) result }
+{
+    match threads.get_str("mail") {
+        Some(mail) => mail_in(mail),
+        None => MailKind::Ring,
+    }
+}
+
+fn mail_in(word: &str) -> MailKind
+    requires { IsMailName word.now }
+    ensures { word.now ≡ mail_name result }
+{
+    if word == "ring" {
+        MailKind::Ring
+    } else {
+        MailKind::Locked
+    }
 }
 
 // The program's command line, with these kinds of mail.
@@ -424,7 +451,7 @@ fn mail_arg<'a>(alloc: Global, kinds: &'a [&'a str]) -> Arg<'a>
         .value_name("KIND")
         .value_parser(ValueParser::Names(kinds))
         .action(ArgAction::Set)
-        .help("how envelopes go from core to core; without it locked")
+        .help("how envelopes go from core to core; without it ring")
 }
 
 fn core_arg<'a>(alloc: Global) -> Arg<'a>

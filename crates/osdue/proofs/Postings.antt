@@ -1,4 +1,4 @@
--- How many envelopes join the outbox at a count: no more than the counter's alarms and tables may add to it.
+-- How many letters join the outbox at a count: no more than the counter's alarms and tables may add to it.
 use Rattle.std.proofs.Common.{◌≡◌, ◌≤◌, ◌+◌, ◌&&◌, ◌||◌, ℕ, suc, Bool, true, false, not, cond, count_by, Option, Some, None, is_none, option_and_then, List, [], ◌∷◌, filter, length, map, sum_by, refl, ap, sym, ◌∙◌, arith}
 use Rattle.std.specs.List.{list_all, slice_get}
 use Rattle.std.specs.Option.{option_map_or}

@@ -1,4 +1,4 @@
--- What a count of a counter leads to, and how many envelopes join the outbox by it at most.
+-- What a count of a counter leads to, and how many letters join the outbox by it at most.
 use Rattle.std.specs.Prelude.{ℕ, ◌+◌, ◌*◌, if◌then◌else◌, Bool, false, length, suc, sum_by}
 use Rattle.std.specs.Option.{option_map_or}
 use Rattle.osbase.specs.declared.references.AlarmRef.{AlarmRef}
@@ -20,7 +20,7 @@ use Rattle.osdue.specs.Passing.{pass_each}
 abbrev pub counts : CounterRef → Acts
 counts c = look (λ s. one_then (Notes (Counted c)) (both (expire_each (s.due c)) (pass_each (s.due_tables c))))
 
--- ---- how many envelopes join the outbox, at most
+-- ---- how many letters join the outbox, at most
 
 -- The core's alarm acts on another core's task.
 abbrev pub posts_by : Core → AlarmRef → Bool

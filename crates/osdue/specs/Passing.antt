@@ -64,9 +64,9 @@ passes d = both (look (λ seen. reaches d.table (due_point seen.core d))) (when 
 abbrev pub pass_each : List DueTable → Acts
 pass_each due = for_each passes due
 
--- ---- how many envelopes join the outbox, at most
+-- ---- how many letters join the outbox, at most
 
--- Of a point, if there is one: an envelope for each of its actions on another core's task.
+-- Of a point, if there is one: a letter for each of its actions on another core's task.
 abbrev pub posted_by_point : Core → Option ExpiryPoint → ℕ
 posted_by_point core point = option_map_or (posted_at core) point 0
 

@@ -7,7 +7,7 @@ use Rattle.osplan.specs.declared.plans.Resource.{Resource}
 use Rattle.osplan.specs.declared.plans.Task.{Task}
 use Rattle.osplan.specs.Objects.{outbox_needed}
 
--- The core's priorities and ceilings are below this bound; there is room for as many jobs as its tasks may have, and for as many envelopes
+-- The core's priorities and ceilings are below this bound; there is room for as many jobs as its tasks may have, and for as many letters
 -- as its outbox needs. [own]
 abbrev pub fits_core : ℕ → ℕ → ℕ → Core → Bool
 fits_core priorities jobs places core =

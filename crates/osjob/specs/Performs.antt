@@ -160,14 +160,14 @@ IsOutput (Run config stimuli schedule items) files = NoFault (IsRunOutput (path_
 IsOutput (Check config) files = NoFault (IsCheckOutput files)
 IsOutput (Cut config core) files = NoFault (IsCutOutput core files)
 IsOutput (Replay config core log) files = IsReplayOutput core files
-IsOutput (Threads config stimuli turns items) files = NoFault (IsThreadsOutput turns items files)
+IsOutput (Threads config stimuli turns mail items) files = NoFault (IsThreadsOutput turns items files)
 
 abbrev pub HasNoOutput : Job → List File → Fault → Type 0
 HasNoOutput (Run config stimuli schedule items) files fault = HasNoReports BreaksTurns (path_in schedule) items files fault
 HasNoOutput (Check config) files fault = HasNoConfig files fault
 HasNoOutput (Cut config core) files fault = HasNoCut core files fault
 HasNoOutput (Replay config core log) files fault = HasNoReplay core files fault
-HasNoOutput (Threads config stimuli turns items) files fault = HasNoReports BreaksThreads None items files fault
+HasNoOutput (Threads config stimuli turns mail items) files fault = HasNoReports BreaksThreads None items files fault
 
 -- ---- printing
 

@@ -62,6 +62,11 @@ pub fn print_from<R: Threads + Wait + Sync, S: Source + Drop, O: Sink>(
         Job::Check { .. } => check(alloc, &mut source, out),
         Job::Cut { core, .. } => cut_out(alloc, *core, &mut source, out),
         Job::Replay { core, .. } => replay_out(alloc, *core, &mut source, out),
-        Job::Threads { turns, items, .. } => run_by_threads(rt, alloc, *turns, *items, source, out),
+        Job::Threads {
+            turns,
+            mail,
+            items,
+            ..
+        } => run_by_threads(rt, alloc, *mail, *turns, *items, source, out),
     }
 }

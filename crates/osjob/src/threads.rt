@@ -9,8 +9,8 @@ use crate::outcomes::Outcome;
 use crate::runs::{input_of, print_reports};
 use crate::sources::Source;
 use crossbeam_utils::CachePadded;
-use osbase::{CORES, CoreId};
-use osthreads::{Gate, MailKind, run_threads};
+use osbase::{CORES, CoreId, MailKind};
+use osthreads::{AWAKE, Gate, run_threads};
 use ostrace::Sink;
 use std::alloc::Global;
 use std::sync::Wait;
@@ -18,12 +18,13 @@ use std::sync::atomic::{AtomicBool, AtomicU64, Ordering};
 use std::thread::Threads;
 use std::{array, thread};
 
-/// The gate of the program: each thread may start, and a core that found nothing to do in a whole round lets another one
-/// go on. Most turns of a core that works change nothing, since a round serves every other core.
+/// The gate of the program: each thread may start, and a core that found nothing to do for as long as a worker stays awake
+/// gives up its processor before it sleeps. Beside busy programs a processor that is given up comes back late. Most turns of
+/// a core that works change nothing, since a round serves every other core.
 #[derive(Drop)]
 pub struct Yielding {
-    // The turns of a whole round of the run's cores.
-    round: u64,
+    // The turns of so many whole rounds of the run's cores.
+    patience: u64,
     // Each core writes what is its own alone, on a cache line of its own.
     cores: [CachePadded<Fruitless>; CORES],
 }
@@ -39,7 +40,7 @@ impl Yielding {
     /// board.
     pub fn new(cores: usize) -> Self {
         Yielding {
-            round: (cores as u64).wrapping_add(1),
+            patience: (cores as u64).wrapping_add(1).wrapping_mul(AWAKE),
             cores: array::from_fn(|_| {
                 CachePadded::new(Fruitless {
                     turns: AtomicU64::new(0),
@@ -71,7 +72,7 @@ impl Gate for Yielding {
         };
         fruitless.was_last.store(true, Ordering::Relaxed);
         let turns = fruitless.turns.load(Ordering::Relaxed).wrapping_add(1);
-        if turns < self.round {
+        if turns < self.patience {
             fruitless.turns.store(turns, Ordering::Relaxed);
         } else {
             fruitless.turns.store(0, Ordering::Relaxed);
@@ -80,11 +81,13 @@ impl Gate for Yielding {
     }
 }
 
-/// Runs each core of the source's files on a thread of its own and prints the reports, or the log of one core alone. A core
-/// gives up once so many turns in a row changed nothing. The files' bytes are let go before the run begins.
+/// Runs each core of the source's files on a thread of its own and prints the reports, or the log of one core alone. The
+/// cores' mail is of this kind. A core gives up once so many turns in a row changed nothing. The files' bytes are let go
+/// before the run begins.
 pub fn run_by_threads<R: Threads + Wait + Sync, S: Source + Drop, O: Sink>(
     rt: &R,
     alloc: Global,
+    mail: MailKind,
     turns: u64,
     items: Option<CoreId>,
     source: S,
@@ -100,7 +103,7 @@ pub fn run_by_threads<R: Threads + Wait + Sync, S: Source + Drop, O: Sink>(
         alloc,
         &config,
         &stimuli,
-        MailKind::Locked,
+        mail,
         &Yielding::new(config.plan().cores.len()),
         turns,
     )?;

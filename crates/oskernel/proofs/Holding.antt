@@ -18,7 +18,7 @@ use Rattle.osact.proofs.Partners.{Partner}
 use Rattle.oskernel.specs.Step.{after}
 use Rattle.oskernel.proofs.Carried.{NamesActing, NamesAllow, acting-anybody, after-carried, allow-anybody, is_replied, leave_all, next_of, replied-anybody}
 
--- Each kind of entry that follows from an item keeps it: one of the core itself, an envelope to a core that may be
+-- Each kind of entry that follows from an item keeps it: one of the core itself, a letter to a core that may be
 -- asked, a reply to one that may be answered, and a call whose answer may be asked for.
 pub record Holds (may : Partner → Bool) (replies names : CoreId → Bool) (P : History → Type 0) : Type 0 where
   pub local : (e : Entry) (h : History) → is_local names e ≡ true → P h → P (e ∷ h)

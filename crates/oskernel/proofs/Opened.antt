@@ -28,7 +28,7 @@ module _ (may : Partner → Bool) where
   local : (e : Entry) (h : History) → is_local anybody e ≡ true → Asks h → Asks (e ∷ h)
   local (Took item) h is p = absurd (false≢true is)
   local (Noted (Opened call)) h is p = absurd (false≢true is)
-  local (Noted (Queued core envelope)) h is p = absurd (false≢true is)
+  local (Noted (Queued core letter)) h is p = absurd (false≢true is)
   local (Noted (Done r status value)) h is p = closed r (open_call h) p
   local (Printed (Mark.Terminated t)) h is p = closed (Runner.Task t) (open_call h) p
   local (Printed (Mark.IsrLeft i)) h is p = closed (Runner.Isr i) (open_call h) p

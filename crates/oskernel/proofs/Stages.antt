@@ -14,7 +14,7 @@ use Rattle.osadmit.specs.Admission.{admits, are_started_cores, awaits_get, await
 use Rattle.osawait.specs.Free.{is_settled, may_go_on}
 use Rattle.oskernel.specs.Step.{after, history_from, outbox_size, solo_from, takes}
 
--- An envelope goes, or comes.
+-- A letter goes, or comes.
 abbrev pub is_mail : Item → Bool
 is_mail (Item.Posted to) = true
 is_mail (Item.Received from number message) = true

@@ -33,7 +33,7 @@ acting places s (Item.Stim stimulus) a b = in_phase Phase.Live s.progress.phase 
 acting places s (Item.Received from number message) a b = scheduling_past s.progress.phase (and_parts (is_scheduling s.progress.phase) _ a).0
 acting places s item a b = absurd (false≢true b)
 
--- an envelope's sender is one of the started cores
+-- a letter's sender is one of the started cores
 pub sender : (places : ℕ) (s : KernelState) (item : Item) → admits places s item ≡ true → is_sender_known item ≡ true
 sender places s (Item.Received from number message) a =
     (and_parts (nat_lt from.number CORES) _ (and_parts (has_core s.progress.started from) _ (and_parts _ _ (and_parts _ (is_awaited places s from message) (and_parts (is_scheduling s.progress.phase) _ a).1).0).0).0).0

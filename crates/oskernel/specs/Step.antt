@@ -46,7 +46,7 @@ use Rattle.osadmit.specs.Admission.{serves_in, takes_in}
 use Rattle.osawait.specs.Free.{may_dispatch}
 use Rattle.ostick.specs.Ticks.{ticks}
 
--- An item may be taken where the state may take it to which the history leads. `places` is how many envelopes the outbox
+-- An item may be taken where the state may take it to which the history leads. `places` is how many letters the outbox
 -- may hold. [own]
 abbrev pub takes : ℕ → View → History → Item → Bool
 takes places v h item = takes_in places (state_of v h) item
@@ -189,7 +189,7 @@ dispatches v h = if may_dispatch (state_of v h) then goes_to v (best_job v h) h 
 abbrev pub after : View → History → Item → History
 after v h item = dispatches v (does (effect item) v (Took item ∷ h))
 
--- How many envelopes a core's outbox may hold. [own]
+-- How many letters a core's outbox may hold. [own]
 abbrev pub outbox_size : ℕ
 outbox_size = OUTBOX
 

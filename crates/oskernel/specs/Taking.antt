@@ -48,7 +48,7 @@ is_known s (Item.Stim stimulus) = knows_stimulus s.view.own stimulus
 is_known s (Item.Received from number message) = is_for_core s message
 is_known s item = true
 
--- The items after which jobs begin or go on, and those after which an envelope may join the outbox.
+-- The items after which jobs begin or go on, and those after which a letter may join the outbox.
 abbrev pub is_acting : Item → Bool
 is_acting (Item.Pass2 cores) = true
 is_acting (Item.Stim stimulus) = true

@@ -4,6 +4,7 @@ use Rattle.std.specs.Option.{option_map_or}
 use Rattle.osbase.specs.declared.references.CoreId.{CoreId}
 use Rattle.osbase.specs.declared.references.SpinlockId.{SpinlockId}
 use Rattle.osbase.specs.declared.messages.Envelope.{Envelope}
+use Rattle.osbase.specs.declared.messages.Letter.{Letter}
 use Rattle.osbase.specs.declared.histories.Awaited.{Awaited}
 use Rattle.osbase.specs.declared.histories.GotSpinlock.{GotSpinlock}
 use Rattle.osbase.specs.declared.histories.OpenCall.{OpenCall}
@@ -110,7 +111,11 @@ watch_in s = watch_from s.progress.phase s
 abbrev pub watch_of : View → History → Watch
 watch_of v h = watch_in (state_of v h)
 
--- The front of the outbox, with the core that it is for. [own]
+-- The envelope in which a letter leaves the outbox.
+abbrev pub envelope_of : Letter → Envelope
+envelope_of letter = record { letter = letter }
+
+-- The front of the outbox in its envelope, with the core that it is for. [own]
 abbrev pub front_of : List Sent → Option (CoreId × Envelope)
 front_of [] = None
-front_of (s ∷ ss) = Some (s.to, s.envelope)
+front_of (s ∷ ss) = Some (s.to, envelope_of s.letter)

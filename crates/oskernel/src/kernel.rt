@@ -32,7 +32,7 @@ const MOST_ITEMS: u64 = 1 << 48;
 /// a core.
 pub const STEP_MARKS: usize = 512;
 
-/// The kernel of one core, with room for `J` live jobs and `OUT` envelopes; priorities and ceilings are below `P`.
+/// The kernel of one core, with room for `J` live jobs and `OUT` letters; priorities and ceilings are below `P`.
 #[derive(Drop)]
 pub struct Kernel<'a, const P: usize, const J: usize, const OUT: usize> {
     state: CoreState<'a, P, J, OUT>,
@@ -159,13 +159,16 @@ impl<'a, const P: usize, const J: usize, const OUT: usize> Kernel<'a, P, J, OUT>
         }
     }
 
-    /// The front of the outbox, with the core that it is for.
+    /// The front of the outbox in its envelope, with the core that it is for.
     pub fn front(&self) -> Option<(CoreId, Envelope)>
         ensures state { result ≡ front_of self.now.border.outbox }
         ensures reads { Reads (λ v h. front_of (outbox h)) self.now result }
     {
         let sent = self.state.front()?;
-        Some((sent.to, sent.envelope))
+        let envelope = Envelope {
+            letter: sent.letter,
+        };
+        Some((sent.to, envelope))
     }
 
     /// Whether the item may be taken now.

@@ -45,7 +45,7 @@ row_view row = (row.first, row.kinds.now, row.tail)
 abbrev pub words_row : Word → List Kind → Word × List Kind × Tail
 words_row first kinds = (first, kinds, T.Nothing)
 
--- An envelope with a call: its sender, its number, what kind of message it is, and the call.
+-- A letter with a call: its sender, its number, what kind of message it is, and the call.
 abbrev pub call_row : Word → Word × List Kind × Tail
 call_row message = (W.Received, K.Core ∷ K.Count ∷ K.Keyword message ∷ [], T.Call)
 

@@ -138,7 +138,7 @@ pub enum Kind {
     Keyword(Keyword),
     /// The number of a core, configured or not: 0 to 255.
     Core,
-    /// The number of an envelope: a whole number of 64 bits.
+    /// The number of a letter: a whole number of 64 bits.
     Count,
     /// The name of a status.
     Status,

@@ -2,7 +2,7 @@
 use Rattle.std.proofs.Common.{◌≡◌, ◌<◌, ◌*◌, ◌≢◌, ℕ, List, [], length, arith, get_or-set_same, get_or-set_other}
 use Rattle.std.proofs.lemmas.List.{get_or-replicate}
 use Rattle.osbase.specs.declared.references.CoreId.{CoreId}
-use Rattle.osbase.specs.declared.messages.Envelope.{Envelope}
+use Rattle.osbase.specs.declared.messages.Letter.{Letter}
 use Rattle.osbase.specs.declared.limits.TheConstants.{CORES}
 use Rattle.osmail.specs.Mail.{Mail, box_of, empty_mail, place_of, with_box}
 
@@ -15,13 +15,13 @@ pub box_of-empty : (cap : ℕ) (from to : CoreId) → from.number < CORES → to
 box_of-empty cap from to sender receiver = get_or-replicate (CORES * CORES) (place_of from to) [] [] (place_below from to sender receiver)
 
 -- the changed mailbox holds what was put in its place
-pub box_of-with_box_same : (mail : Mail) (from to : CoreId) (envelopes : List Envelope) → from.number < CORES → to.number < CORES → length mail.boxes ≡ CORES * CORES → box_of (with_box mail from to envelopes) from to ≡ envelopes
-box_of-with_box_same mail from to envelopes sender receiver places =
+pub box_of-with_box_same : (mail : Mail) (from to : CoreId) (letters : List Letter) → from.number < CORES → to.number < CORES → length mail.boxes ≡ CORES * CORES → box_of (with_box mail from to letters) from to ≡ letters
+box_of-with_box_same mail from to letters sender receiver places =
     let below : place_of from to < CORES * CORES = place_below from to sender receiver in
-    get_or-set_same mail.boxes (place_of from to) envelopes [] (omega arith)
+    get_or-set_same mail.boxes (place_of from to) letters [] (omega arith)
 
 -- and the mailbox of every other pair is as it was
-pub box_of-with_box_other : (mail : Mail) (from to from' to' : CoreId) (envelopes : List Envelope) → to.number < CORES → to'.number < CORES → (from'.number ≡ from.number → to'.number ≡ to.number → ⊥) → box_of (with_box mail from to envelopes) from' to' ≡ box_of mail from' to'
-box_of-with_box_other mail from to from' to' envelopes receiver receiver' other =
+pub box_of-with_box_other : (mail : Mail) (from to from' to' : CoreId) (letters : List Letter) → to.number < CORES → to'.number < CORES → (from'.number ≡ from.number → to'.number ≡ to.number → ⊥) → box_of (with_box mail from to letters) from' to' ≡ box_of mail from' to'
+box_of-with_box_other mail from to from' to' letters receiver receiver' other =
     let apart : place_of from' to' ≢ place_of from to = (λ (same : place_of from' to' ≡ place_of from to). other (omega arith) (omega arith)) in
-    get_or-set_other mail.boxes (place_of from to) (place_of from' to') envelopes [] apart
+    get_or-set_other mail.boxes (place_of from to) (place_of from' to') letters [] apart

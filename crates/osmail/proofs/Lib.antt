@@ -1,3 +1,6 @@
 pub mod Boxes
 pub mod Counts
 pub mod Steps
+pub mod Through
+pub mod Making
+pub mod Chosen

@@ -1,29 +1,38 @@
 -- What one core's end of the mail sent and took.
-use Rattle.std.specs.Prelude.{◌≡◌, if◌then◌else◌, List, [], ◌∷◌, ◌++◌}
+use Rattle.std.specs.Prelude.{◌≡◌, if◌then◌else◌, Option, List, [], ◌∷◌, ◌++◌, map}
+use Rattle.std.specs.Option.{option_map}
 use Rattle.osbase.specs.declared.references.CoreId.{CoreId}
 use Rattle.osbase.specs.declared.messages.Envelope.{Envelope}
+use Rattle.osbase.specs.declared.messages.Letter.{Letter}
 use Rattle.osbase.specs.History.{same_core}
 use Rattle.osmail.specs.declared.ends.MailStep.{MailStep}
 use Rattle.osmail.specs.declared.ends.MailStep.TheVariants.{Sent, Taken}
 
--- For each core some envelopes, the oldest first: those sent to it, or those taken from it.
+-- The letters in envelopes. All that is said of mail is said of letters, and nothing of what else an envelope has.
+abbrev pub letters_of : List Envelope → List Letter
+letters_of es = map (λ (e : Envelope). e.letter) es
+
+abbrev pub letter_in : Option Envelope → Option Letter
+letter_in e = option_map (λ (e : Envelope). e.letter) e
+
+-- For each core some letters, the oldest first: those sent to it, or those taken from it.
 abbrev pub Streams : Type 0
-Streams = CoreId → List Envelope
+Streams = CoreId → List Letter
 
 -- What was sent to a core, and what was taken from one, by what an end did.
 abbrev pub sent_to : List MailStep → Streams
 sent_to [] d = []
-sent_to (Sent to e ∷ steps) d = if same_core to d then e ∷ sent_to steps d else sent_to steps d
-sent_to (Taken from e ∷ steps) d = sent_to steps d
+sent_to (Sent to l ∷ steps) d = if same_core to d then l ∷ sent_to steps d else sent_to steps d
+sent_to (Taken from l ∷ steps) d = sent_to steps d
 
 abbrev pub taken_from : List MailStep → Streams
 taken_from [] s = []
-taken_from (Sent to e ∷ steps) s = taken_from steps s
-taken_from (Taken from e ∷ steps) s = if same_core from s then e ∷ taken_from steps s else taken_from steps s
+taken_from (Sent to l ∷ steps) s = taken_from steps s
+taken_from (Taken from l ∷ steps) s = if same_core from s then l ∷ taken_from steps s else taken_from steps s
 
 -- No core has one more; or one core has this one more.
 abbrev pub AreUnchanged : Streams → Streams → Type 0
 AreUnchanged old new = (c : CoreId) → new c ≡ old c
 
-abbrev pub HasOneMore : CoreId → Envelope → Streams → Streams → Type 0
-HasOneMore core e old new = (c : CoreId) → new c ≡ (if same_core core c then old c ++ e ∷ [] else old c)
+abbrev pub HasOneMore : CoreId → Letter → Streams → Streams → Type 0
+HasOneMore core l old new = (c : CoreId) → new c ≡ (if same_core core c then old c ++ l ∷ [] else old c)

@@ -1,3 +1,4 @@
 pub mod Mail
 pub mod Ends
 pub mod Mailboxes
+pub mod Rings

@@ -1,18 +1,18 @@
 //! One core's end of the mail, and the record of what it sent and took.
 
 ghost use Rattle.std.specs.Prelude.{◌≡◌, IfOk, IfErr, OnOk, IfSome, IfNone};
-ghost use Rattle.osmail.specs.Ends.{AreUnchanged, HasOneMore, sent_to, taken_from};
+ghost use Rattle.osmail.specs.Ends.{AreUnchanged, HasOneMore, letters_of, sent_to, taken_from};
 
-use osbase::{CoreId, Envelope};
+use osbase::{CoreId, Envelope, Letter};
 use std::alloc::{AllocError, Global};
 
 /// What an end did.
 #[derive(Clone, Copy)]
 pub enum MailStep {
-    /// It sent an envelope to this core.
-    Sent(CoreId, Envelope),
+    /// It sent a letter to this core.
+    Sent(CoreId, Letter),
     /// It took one from this core.
-    Taken(CoreId, Envelope),
+    Taken(CoreId, Letter),
 }
 
 /// One core's end of the mail: from it the core sends to the others, and takes what they sent to it.
@@ -28,36 +28,55 @@ pub trait Mail {
     /// There is room to record what one more call sends or takes.
     ghost has_room: { Self → Type 0 };
 
+    /// Which end it is, as far as it matters. No call changes that.
+    ghost Which: { Type 0 };
+
+    ghost which: { Self → Which };
+
     /// Makes room for one more call.
     fn room(&mut self) -> Result<(), AllocError>
         ensures sent { AreUnchanged (sent self.old) (sent self.new) }
         ensures taken { AreUnchanged (taken self.old) (taken self.new) }
-        ensures ok { OnOk result (has_room self.new) };
+        ensures ok { OnOk result (has_room self.new) }
+        ensures which { which self.new ≡ which self.old };
 
     /// Sends an envelope to a core, or hands it back and changes nothing.
     fn send(&mut self, to: CoreId, envelope: Envelope) -> Result<(), Envelope>
         requires { has_room self.old }
-        ensures ok { OnOk result (HasOneMore to envelope (sent self.old) (sent self.new)) }
+        ensures ok { OnOk result (HasOneMore to envelope.letter (sent self.old) (sent self.new)) }
         ensures err { IfErr result (λ e. (e ≡ envelope) × AreUnchanged (sent self.old) (sent self.new) × has_room self.new) }
-        ensures taken { AreUnchanged (taken self.old) (taken self.new) };
+        ensures taken { AreUnchanged (taken self.old) (taken self.new) }
+        ensures which { which self.new ≡ which self.old };
 
     /// Takes the oldest envelope from a core, if one came.
     fn take(&mut self, from: CoreId) -> Option<Envelope>
         requires { has_room self.old }
-        ensures some { IfSome result (λ e. HasOneMore from e (taken self.old) (taken self.new)) }
+        ensures some { IfSome result (λ e. HasOneMore from e.letter (taken self.old) (taken self.new)) }
         ensures none { IfNone result (AreUnchanged (taken self.old) (taken self.new) × has_room self.new) }
-        ensures sent { AreUnchanged (sent self.old) (sent self.new) };
+        ensures sent { AreUnchanged (sent self.old) (sent self.new) }
+        ensures which { which self.new ≡ which self.old };
+}
+
+// The letters in envelopes.
+pub(crate) fn letters_of(alloc: Global, envelopes: &[Envelope]) -> Result<Vec<Letter>, AllocError>
+    ensures { IfOk result (λ v. v.items ≡ letters_of envelopes.now) }
+{
+    let mut all = Vec::new(alloc);
+    for envelope in envelopes {
+        all.push(envelope.letter)?;
+    }
+    Ok(all)
 }
 
 /// What was sent to a core.
-pub fn sent_to(alloc: Global, steps: &[MailStep], to: CoreId) -> Result<Vec<Envelope>, AllocError>
+pub fn sent_to(alloc: Global, steps: &[MailStep], to: CoreId) -> Result<Vec<Letter>, AllocError>
     ensures { IfOk result (λ v. v.items ≡ sent_to steps.now to) }
 {
     let mut all = Vec::new(alloc);
     for step in steps {
-        if let MailStep::Sent(core, envelope) = step {
+        if let MailStep::Sent(core, letter) = step {
             if core.number == to.number {
-                all.push(*envelope)?;
+                all.push(*letter)?;
             }
         }
     }
@@ -69,14 +88,14 @@ pub fn taken_from(
     alloc: Global,
     steps: &[MailStep],
     from: CoreId,
-) -> Result<Vec<Envelope>, AllocError>
+) -> Result<Vec<Letter>, AllocError>
     ensures { IfOk result (λ v. v.items ≡ taken_from steps.now from) }
 {
     let mut all = Vec::new(alloc);
     for step in steps {
-        if let MailStep::Taken(core, envelope) = step {
+        if let MailStep::Taken(core, letter) = step {
             if core.number == from.number {
-                all.push(*envelope)?;
+                all.push(*letter)?;
             }
         }
     }

@@ -1,49 +1,49 @@
-//! The envelopes of one mailbox.
+//! The letters of one mailbox.
 
 ghost use Rattle.std.specs.Prelude.{◌≡◌, ◌<◌, ◌≤◌, ◌∷◌, ◌++◌, [], drop, length, slice_get};
 
 use arrayvec::ArrayVec;
-use osbase::{Envelope, Message, Status};
+use osbase::{Letter, Message, Status};
 use std::marker::Model;
 
-/// An envelope as a mailbox keeps it: with a blank for a place that holds none.
+/// A place for a letter, which has a blank where it holds none.
 #[derive(Clone, Copy)]
-struct Letter {
-    envelope: Envelope,
+struct Slot {
+    letter: Letter,
 }
 
-impl Model for Letter {
-    ghost use Rattle.osbase.specs.declared.messages.Envelope.{Envelope};
+impl Model for Slot {
+    ghost use Rattle.osbase.specs.declared.messages.Letter.{Letter};
 
-    ghost Value = { Envelope };
+    ghost Value = { Letter };
 
-    ghost view = { λ l. l.envelope };
+    ghost view = { λ s. s.letter };
 
-    ghost inverse = { λ e. record { envelope = e } };
+    ghost inverse = { λ l. record { letter = l } };
 }
 
-impl Default for Letter {
+impl Default for Slot {
     fn default() -> Self {
         let message = Message::Reply(Status::EOk);
-        Letter {
-            envelope: Envelope { number: 0, message },
+        Slot {
+            letter: Letter { number: 0, message },
         }
     }
 }
 
-/// The envelopes of one mailbox, the oldest first, in place for `CAP` of them.
+/// The letters of one mailbox, the oldest first, in place for `CAP` of them.
 #[derive(Drop)]
 pub struct Letters<const CAP: usize> {
-    letters: ArrayVec<Letter, CAP>,
+    slots: ArrayVec<Slot, CAP>,
 }
 
 impl<const CAP: usize> Model for Letters<CAP> {
     ghost use Rattle.std.specs.Prelude.{List};
-    ghost use Rattle.osbase.specs.declared.messages.Envelope.{Envelope};
+    ghost use Rattle.osbase.specs.declared.messages.Letter.{Letter};
 
-    ghost Value = { List Envelope };
+    ghost Value = { List Letter };
 
-    ghost view = { λ l. l.letters.items };
+    ghost view = { λ l. l.slots.items };
 }
 
 impl<const CAP: usize> Letters<CAP> {
@@ -52,39 +52,39 @@ impl<const CAP: usize> Letters<CAP> {
         ensures { result ≡ [] }
     {
         Letters {
-            letters: ArrayVec::new(),
+            slots: ArrayVec::new(),
         }
     }
 
-    /// How many envelopes stand here.
+    /// How many letters stand here.
     pub fn len(&self) -> usize
         ensures { result ≡ length self.now }
     {
-        self.letters.len()
+        self.slots.len()
     }
 
-    /// Adds an envelope behind the others.
-    pub fn push(&mut self, envelope: Envelope)
+    /// Adds a letter behind the others.
+    pub fn push(&mut self, letter: Letter)
         requires { length self.old < CAP }
-        ensures { self.new ≡ self.old ++ envelope ∷ [] }
+        ensures { self.new ≡ self.old ++ letter ∷ [] }
     {
-        self.letters.push(Letter { envelope });
+        self.slots.push(Slot { letter });
     }
 
-    /// The oldest envelope, if one stands here.
-    pub fn front(&self) -> Option<Envelope>
+    /// The oldest letter, if one stands here.
+    pub fn front(&self) -> Option<Letter>
         ensures { result ≡ slice_get self.now 0 }
     {
-        let letter = self.letters.as_slice().first()?;
-        Some(letter.envelope)
+        let slot = self.slots.as_slice().first()?;
+        Some(slot.letter)
     }
 
-    /// Takes the oldest envelope, if one stands here.
-    pub fn pop(&mut self) -> Option<Envelope>
+    /// Takes the oldest letter, if one stands here.
+    pub fn pop(&mut self) -> Option<Letter>
         ensures oldest { result ≡ slice_get self.old 0 }
         ensures rest { self.new ≡ drop 1 self.old }
     {
-        let letter = self.letters.pop_at(0)?;
-        Some(letter.envelope)
+        let slot = self.slots.pop_at(0)?;
+        Some(slot.letter)
     }
 }

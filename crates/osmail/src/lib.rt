@@ -1,8 +1,8 @@
 //! The mailboxes between cores. An ordered pair of cores has one, and no two pairs share one: what
 //! stands in it leaves it in the order in which it came.
 //!
-//! `ListMail` is for a listed run, in which one thread plays all cores. `LockedMail` is for cores on threads of
-//! their own, each of which has one end of it.
+//! `ListMail` is for a listed run, in which one thread plays all cores. `RingMail` and `LockedMail` are for cores on
+//! threads of their own, each of which has one end of it.
 #![tactic(auto)]
 
 pub mod ends;
@@ -10,9 +10,11 @@ mod letters;
 pub mod list;
 pub mod locked;
 pub mod mailbox;
+pub mod rings;
 mod sameness;
 
 pub use ends::{Mail, MailStep};
 pub use list::ListMail;
 pub use locked::{LockedEnd, LockedMail};
 pub use mailbox::Mailbox;
+pub use rings::{RingEnd, RingMail};

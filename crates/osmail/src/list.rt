@@ -1,14 +1,15 @@
 //! The mailboxes of a listed run, in which one thread plays all cores.
 
 ghost use Rattle.std.specs.Prelude.{◌≡◌, ◌<◌, ◌≤◌, ◌==◌, ◌*◌, ◌^◌, length, IfOk, OnErr};
+ghost use Rattle.osmail.specs.Ends.{letter_in};
 ghost use Rattle.osmail.specs.Mail.{after_send, after_take, answer_of, box_of, empty_mail, has_mail, has_room, oldest_of, place_of};
 
 use crate::letters::Letters;
-use osbase::{CORES, CoreId, Envelope};
+use osbase::{CORES, CoreId, Envelope, Letter};
 use std::alloc::{AllocError, Global};
 use std::marker::Model;
 
-/// The mailboxes of every ordered pair of cores, each with place for `CAP` envelopes. How many envelopes wait for each
+/// The mailboxes of every ordered pair of cores, each with place for `CAP` envelopes. How many of them wait for each
 /// core is kept, so that nobody goes over the mailboxes to see that nothing waits.
 #[derive(Drop)]
 pub struct ListMail<const CAP: usize> {
@@ -74,7 +75,7 @@ impl<const CAP: usize> ListMail<CAP> {
         requires sender { from.number < CORES }
         requires receiver { to.number < CORES }
         ensures answer { result ≡ answer_of self.old from to envelope }
-        ensures after { self.new ≡ after_send self.old from to envelope }
+        ensures after { self.new ≡ after_send self.old from to envelope.letter }
         ensures full { OnErr result (length (box_of self.old from to) ≡ self.old.cap) }
         ensures places { length self.new.boxes ≡ CORES * CORES }
     {
@@ -83,13 +84,13 @@ impl<const CAP: usize> ListMail<CAP> {
         if letters.len() >= cap {
             return Err(envelope);
         }
-        letters.push(envelope);
+        letters.push(envelope.letter);
         self.counts[usize::from(to.number)] += 1;
         Ok(())
     }
 
-    /// The oldest envelope of the mailbox from `from` to `to`, which stays there.
-    pub fn oldest(&self, to: CoreId, from: CoreId) -> Option<Envelope>
+    /// The letter of the oldest envelope of the mailbox from `from` to `to`, which stays there.
+    pub fn oldest(&self, to: CoreId, from: CoreId) -> Option<Letter>
         requires receiver { to.number < CORES }
         requires sender { from.number < CORES }
         ensures value { result ≡ oldest_of self.now from to }
@@ -103,13 +104,13 @@ impl<const CAP: usize> ListMail<CAP> {
     pub fn take(&mut self, to: CoreId, from: CoreId) -> Option<Envelope>
         requires receiver { to.number < CORES }
         requires sender { from.number < CORES }
-        ensures oldest { result ≡ oldest_of self.old from to }
+        ensures oldest { letter_in result ≡ oldest_of self.old from to }
         ensures after { self.new ≡ after_take self.old from to }
         ensures places { length self.new.boxes ≡ CORES * CORES }
     {
-        let envelope = self.boxes[place(from, to)].pop()?;
+        let letter = self.boxes[place(from, to)].pop()?;
         self.counts[usize::from(to.number)] -= 1;
-        Some(envelope)
+        Some(Envelope { letter })
     }
 }
 

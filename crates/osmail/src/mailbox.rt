@@ -1,10 +1,10 @@
 //! The mailbox of one ordered pair of cores.
 
 ghost use Rattle.std.specs.Prelude.{◌≡◌, ◌++◌, ◌<◌, ◌≤◌, ◌↔◌, ◌⊎◌, length, slice_get, IfOk, IfErr, OnOk, IsTrue};
-ghost use Rattle.osmail.specs.Ends.{sent_to, taken_from};
+ghost use Rattle.osmail.specs.Ends.{letter_in, sent_to, taken_from};
 ghost use Rattle.osmail.specs.Mailboxes.{IsNext, after_pop, after_push, empty_mailbox};
 
-use crate::ends::{MailStep, sent_to, taken_from};
+use crate::ends::{MailStep, letters_of, sent_to, taken_from};
 use crate::sameness::are_same;
 use osbase::{CoreId, Envelope};
 use std::alloc::{AllocError, Global};
@@ -25,13 +25,14 @@ pub struct Mailbox<const CAP: usize> {
 impl<const CAP: usize> Model for Mailbox<CAP> {
     ghost use Rattle.std.specs.Prelude.{◌≤◌};
     ghost use Rattle.std.specs.VecDeque.{deque_capacity};
+    ghost use Rattle.osmail.specs.Ends.{letters_of};
     ghost use Rattle.osmail.specs.Mailboxes.{IsMailbox, MailboxState};
 
     ghost Value = { MailboxState };
 
-    ghost view = { λ m. record { from = m.from; to = m.to; cap = m.cap; next = m.next; envelopes = m.envelopes.items } };
+    ghost view = { λ m. record { from = m.from; to = m.to; cap = m.cap; next = m.next; letters = letters_of m.envelopes.items } };
 
-    ghost invariant = { λ m. (m.cap ≤ deque_capacity m.envelopes) × IsMailbox CAP (record { from = m.from; to = m.to; cap = m.cap; next = m.next; envelopes = m.envelopes.items }) };
+    ghost invariant = { λ m. (m.cap ≤ deque_capacity m.envelopes) × IsMailbox CAP (record { from = m.from; to = m.to; cap = m.cap; next = m.next; letters = letters_of m.envelopes.items }) };
 }
 
 impl<const CAP: usize> Mailbox<CAP> {
@@ -52,15 +53,16 @@ impl<const CAP: usize> Mailbox<CAP> {
 
     // Whether the envelope has the sender's next number.
     fn is_next(&self, envelope: &Envelope) -> bool
-        ensures { IsTrue result ↔ IsNext self.now envelope.now }
+        ensures { IsTrue result ↔ IsNext self.now envelope.now.letter }
     {
-        envelope.number < 1 << 62 && envelope.number == self.next + self.envelopes.len() as u64
+        envelope.letter.number < 1 << 62
+            && envelope.letter.number == self.next + self.envelopes.len() as u64
     }
 
     /// Puts the next envelope behind the others. One for which there is no place, or which is not the next, is handed back.
     pub fn push(&mut self, envelope: Envelope) -> Result<(), Envelope>
-        ensures ok { OnOk result ((self.new ≡ after_push self.old envelope) × IsNext self.old envelope × (length self.old.envelopes < self.old.cap)) }
-        ensures err { IfErr result (λ e. (e ≡ envelope) × (self.new ≡ self.old) × ((self.old.cap ≤ length self.old.envelopes) ⊎ (IsNext self.old envelope → ⊥))) }
+        ensures ok { OnOk result ((self.new ≡ after_push self.old envelope.letter) × IsNext self.old envelope.letter × (length self.old.letters < self.old.cap)) }
+        ensures err { IfErr result (λ e. (e ≡ envelope) × (self.new ≡ self.old) × ((self.old.cap ≤ length self.old.letters) ⊎ (IsNext self.old envelope.letter → ⊥))) }
     {
         if !self.is_next(&envelope) {
             return Err(envelope);
@@ -76,7 +78,7 @@ impl<const CAP: usize> Mailbox<CAP> {
 
     /// Takes the oldest envelope, if one stands here.
     pub fn pop(&mut self) -> Option<Envelope>
-        ensures oldest { result ≡ slice_get self.old.envelopes 0 }
+        ensures oldest { letter_in result ≡ slice_get self.old.letters 0 }
         ensures rest { self.new ≡ after_pop self.old }
     {
         let Some(oldest) = self.envelopes.pop_front() else {
@@ -95,11 +97,12 @@ impl<const CAP: usize> Mailbox<CAP> {
         to: CoreId,
         taken: &[MailStep],
     ) -> Result<bool, AllocError>
-        ensures { IfOk result (λ b. IsTrue b ↔ taken_from taken.now from ++ self.now.envelopes ≡ sent_to sent.now to) }
+        ensures { IfOk result (λ b. IsTrue b ↔ taken_from taken.now from ++ self.now.letters ≡ sent_to sent.now to) }
     {
         let posted = sent_to(alloc, sent, to)?;
         let mut received = taken_from(alloc, taken, from)?;
-        let mut left: Vec<Envelope> = self.envelopes.iter().copied().collect(alloc)?;
+        let envelopes: Vec<Envelope> = self.envelopes.iter().copied().collect(alloc)?;
+        let mut left = letters_of(alloc, envelopes.as_slice())?;
         received.append(&mut left)?;
         Ok(are_same(received.as_slice(), posted.as_slice()))
     }

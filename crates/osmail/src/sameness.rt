@@ -1,11 +1,11 @@
-//! Whether two lists of envelopes are the same. `==` answers so too, but no clause says what its answer means.
+//! Whether two lists of letters are the same. `==` answers so too, but no clause says what its answer means.
 
 ghost use Rattle.std.specs.Prelude.{◌≡◌, ◌↔◌, IsTrue};
 
-use osbase::{AlarmRef, CoreId, Envelope, Message, RemoteCall, Status, TaskRef};
+use osbase::{AlarmRef, CoreId, Letter, Message, RemoteCall, Status, TaskRef};
 
 /// Whether these lists are the same.
-pub(crate) fn are_same(left: &[Envelope], right: &[Envelope]) -> bool
+pub(crate) fn are_same(left: &[Letter], right: &[Letter]) -> bool
     ensures { IsTrue result ↔ left.now ≡ right.now }
 {
     if left.len() != right.len() {
@@ -19,7 +19,7 @@ pub(crate) fn are_same(left: &[Envelope], right: &[Envelope]) -> bool
     true
 }
 
-fn is_same(left: &Envelope, right: &Envelope) -> bool
+fn is_same(left: &Letter, right: &Letter) -> bool
     ensures { IsTrue result ↔ left.now ≡ right.now }
 {
     if left.number != right.number {

@@ -73,7 +73,7 @@ pub record TableSizes : Type 0 where
   pub auto : Option (Option ℕ)
   pub counter : Option CounterSizes
 
--- Of each alarm there are sizes if it is automatic. Posted is how many envelopes its alarms and tables may add to the outbox at once.
+-- Of each alarm there are sizes if it is automatic. Posted is how many letters its alarms and tables may add to the outbox at once.
 -- Of each script there is the number of its operations.
 pub record CoreSizes : Type 0 where
   pub number : Option ℕ
@@ -120,7 +120,7 @@ most_of ObjectKind.Counter = COUNTERS
 most_of ObjectKind.Alarm = ALARMS
 most_of ObjectKind.Table = TABLES
 
--- Envelopes that alarms and tables add to a core's outbox at once.
+-- Letters that alarms and tables add to a core's outbox at once.
 abbrev pub most_posted : ℕ
 most_posted = POSTED
 

@@ -121,7 +121,7 @@ greatest_of (n ∷ ns) = greater n (greatest_of ns)
 abbrev pub greatest_posted : Core → TableValue → ℕ
 greatest_posted core table = greatest_of (map (posted_at core) table.points)
 
--- How many envelopes the core's alarms and tables may add to its outbox at once: each alarm one, and each table those of one point. [own]
+-- How many letters the core's alarms and tables may add to its outbox at once: each alarm one, and each table those of one point. [own]
 abbrev pub posted_at_once : Core → ℕ
 posted_at_once core = count_by (λ (alarm : AlarmValue). is_posting core alarm.action) core.alarms + sum_by (greatest_posted core) core.tables
 

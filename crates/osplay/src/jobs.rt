@@ -1,6 +1,6 @@
 //! The jobs of a table, over files of these names.
 
-use osbase::CoreId;
+use osbase::{CoreId, MailKind};
 use oscommand::Job;
 
 const CONFIG: &str = "config.json";
@@ -48,11 +48,12 @@ pub fn replay_of(number: u8) -> Job<'static> {
     }
 }
 
-pub fn threads_of(turns: u64, items: Option<u8>) -> Job<'static> {
+pub fn threads_of(mail: MailKind, turns: u64, items: Option<u8>) -> Job<'static> {
     Job::Threads {
         config: CONFIG,
         stimuli: STIMULI,
         turns,
+        mail,
         items: items.map(|number| CoreId { number }),
     }
 }
@@ -71,12 +72,17 @@ pub fn job_of(words: &str, schedule: Option<&'static str>) -> Option<Job<'static
     }
 }
 
+// A number of turns, and then maybe a core. Before them `locked` is the kind of mail, which else is rings.
 fn threads_job(words: &str) -> Option<Job<'static>> {
+    let (mail, words) = match words.strip_prefix("locked ") {
+        Some(rest) => (MailKind::Locked, rest),
+        None => (MailKind::Ring, words),
+    };
     match words.split_once(' ') {
         Some((turns, core)) => {
             let core = core.parse::<u8>().ok()?;
-            Some(threads_of(turns.parse::<u64>().ok()?, Some(core)))
+            Some(threads_of(mail, turns.parse::<u64>().ok()?, Some(core)))
         }
-        None => Some(threads_of(words.parse::<u64>().ok()?, None)),
+        None => Some(threads_of(mail, words.parse::<u64>().ok()?, None)),
     }
 }

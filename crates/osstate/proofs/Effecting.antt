@@ -8,12 +8,12 @@ use Rattle.osbase.specs.declared.histories.Sent.{Sent}
 use Rattle.osbase.specs.declared.messages.Message.{Message}
 use Rattle.osbase.specs.declared.marks.Mark.{Mark}
 use Rattle.osbase.specs.declared.limits.TheConstants.{CORES}
-use Rattle.osbase.specs.History.{History, Entry, Note, Printed, Noted, Queued, queued_count, envelope_with}
+use Rattle.osbase.specs.History.{History, Entry, Note, Printed, Noted, Queued, queued_count, letter_with}
 use Rattle.osplan.specs.View.{View}
 use Rattle.osclock.specs.Clocks.{is_setting_granted}
 use Rattle.osjobs.specs.Priorities.{is_own_runner}
 use Rattle.osstate.specs.State.{KernelState, Stands}
-use Rattle.osstate.specs.Steps.{next_envelope, one_more, runner_by, state_after}
+use Rattle.osstate.specs.Steps.{next_letter, one_more, runner_by, state_after}
 use Rattle.osstate.specs.Does.{Adds, Effects, Joins, Remarks, StaysInItem}
 use Rattle.osstate.specs.Sound.{IsSound}
 use Rattle.osstate.proofs.Histories.{are_numbers_known, notes, notes_queued, own_entry}
@@ -89,16 +89,16 @@ noting {n = n} {s = s} {s' = s'} sound own numbers granted is = record {
   stays = stays_in s s' (Noted n) is (record { view = refl; phase = refl; items = refl; entries = omega arith });
 }
 
--- One envelope more.
+-- One letter more.
 pub queueing : {priorities room : ℕ} {to : CoreId} {message : Message} {s old : KernelState} {waiting : List Sent} {counts : List ℕ} → IsSound priorities room s → s ≡ old → to.number < CORES
-    → waiting ≡ s.border.outbox ++ (let x : Sent = record { to = to; envelope = next_envelope s to message } in x) ∷ [] → counts ≡ one_more to s.border.queued
-    → Remarks 1 (λ v h. Noted (Queued to (envelope_with (queued_count to h) message)) ∷ h) old
+    → waiting ≡ s.border.outbox ++ (let x : Sent = record { to = to; letter = next_letter s to message } in x) ∷ [] → counts ≡ one_more to s.border.queued
+    → Remarks 1 (λ v h. Noted (Queued to (letter_with (queued_count to h) message)) ∷ h) old
     (record s { progress = record s.progress { entries = s.progress.entries + 1 }; border = record s.border { outbox = waiting; queued = counts } })
 queueing {to = to} {message = message} {s = s} {old = old} {waiting = waiting} {counts = counts} sound same known joins more =
-    subst (λ (q : KernelState). Remarks 1 (λ v h. Noted (Queued to (envelope_with (queued_count to h) message)) ∷ h) q new) same (record {
-      notes = notes_queued (own_entry (Noted (Queued to (next_envelope s to message))) sound refl (lt-ltb to.number CORES known) refl) known is;
+    subst (λ (q : KernelState). Remarks 1 (λ v h. Noted (Queued to (letter_with (queued_count to h) message)) ∷ h) q new) same (record {
+      notes = notes_queued (own_entry (Noted (Queued to (next_letter s to message))) sound refl (lt-ltb to.number CORES known) refl) known is;
       silent = (λ v h. refl);
-      stays = stays_in s new (Noted (Queued to (next_envelope s to message))) is (record { view = refl; phase = refl; items = refl; entries = omega arith });
+      stays = stays_in s new (Noted (Queued to (next_letter s to message))) is (record { view = refl; phase = refl; items = refl; entries = omega arith });
     })
   where
     new : KernelState
@@ -107,5 +107,5 @@ queueing {to = to} {message = message} {s = s} {old = old} {waiting = waiting} {
     bordered : List Sent → List ℕ → KernelState
     bordered xs ns = record s { progress = record s.progress { entries = s.progress.entries + 1 }; border = record s.border { outbox = xs; queued = ns } }
 
-    is : new ≡ state_after (Noted (Queued to (next_envelope s to message))) s
-    is = ap (λ (xs : List Sent). bordered xs counts) joins ∙ ap (bordered (s.border.outbox ++ record { to = to; envelope = next_envelope s to message } ∷ [])) more
+    is : new ≡ state_after (Noted (Queued to (next_letter s to message))) s
+    is = ap (λ (xs : List Sent). bordered xs counts) joins ∙ ap (bordered (s.border.outbox ++ record { to = to; letter = next_letter s to message } ∷ [])) more

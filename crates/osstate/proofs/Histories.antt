@@ -11,7 +11,7 @@ use Rattle.osbase.specs.declared.references.Runner.{Runner}
 use Rattle.osbase.specs.declared.messages.Message.{Message}
 use Rattle.osbase.specs.declared.items.Item.{Item}
 use Rattle.osbase.specs.declared.limits.TheConstants.{CORES, ISRS, RUNNERS, TASKS}
-use Rattle.osbase.specs.History.{History, Entry, Took, Noted, Queued, same_core, same_runner, queued_count, received_count, envelope_with}
+use Rattle.osbase.specs.History.{History, Entry, Took, Noted, Queued, same_core, same_runner, queued_count, received_count, letter_with}
 use Rattle.osbase.specs.Interrupts.{running_job, runner_of_job}
 use Rattle.osbase.specs.Sets.{core_ids, numbers_from, slot_of}
 use Rattle.osbase.proofs.Same.{same_core-true, same_core-refl, same_runner-true, same_runner-refl}
@@ -28,7 +28,7 @@ use Rattle.ostable.proofs.Law.{after as tables-after}
 use Rattle.osjobs.specs.Priorities.{is_own_runner}
 use Rattle.osstate.specs.Readings.{isr_ref, rows_of, runner_at, script_of, task_ref}
 use Rattle.osstate.specs.State.{KernelState, state_of}
-use Rattle.osstate.specs.Steps.{next_envelope, one_more, queued_after, received_after, rows_after, runner_by, script_for, state_after}
+use Rattle.osstate.specs.Steps.{next_letter, one_more, queued_after, received_after, rows_after, runner_by, script_for, state_after}
 use Rattle.osstate.specs.Sound.{IsSound, is_sender_known}
 use Rattle.osstate.specs.Does.{Notes}
 
@@ -183,16 +183,16 @@ notes {e} is own v h stands =
     let mine : IsOwnEntry (state_of v h) e = subst (λ (s : KernelState). IsOwnEntry s e) stands.is own in
     record { is = is ∙ ap (state_after e) stands.is ∙ state-stands v e h mine; granted = and_from (is_setting_granted v.own e) _ mine.granted stands.granted }
 
--- and so one that queued the next envelope
-pub notes_queued : {to : CoreId} {message : Message} {old new : KernelState} → IsOwnEntry old (Noted (Queued to (next_envelope old to message))) → to.number < CORES → new ≡ state_after (Noted (Queued to (next_envelope old to message))) old
-    → Notes (λ v h. Noted (Queued to (envelope_with (queued_count to h) message)) ∷ h) old new
+-- and so one that queued the next letter
+pub notes_queued : {to : CoreId} {message : Message} {old new : KernelState} → IsOwnEntry old (Noted (Queued to (next_letter old to message))) → to.number < CORES → new ≡ state_after (Noted (Queued to (next_letter old to message))) old
+    → Notes (λ v h. Noted (Queued to (letter_with (queued_count to h) message)) ∷ h) old new
 notes_queued {to} {message} own known is v h stands =
     record {
-      is = is ∙ ap (λ (q : KernelState). state_after (Noted (Queued to (next_envelope q to message))) q) stands.is
-          ∙ ap (λ (n : ℕ). state_after (Noted (Queued to (envelope_with n message))) (state_of v h)) (count_at (λ (d : CoreId). queued_count d h) to known)
-          ∙ state-stands v (Noted (Queued to (envelope_with (queued_count to h) message))) h numbered;
+      is = is ∙ ap (λ (q : KernelState). state_after (Noted (Queued to (next_letter q to message))) q) stands.is
+          ∙ ap (λ (n : ℕ). state_after (Noted (Queued to (letter_with n message))) (state_of v h)) (count_at (λ (d : CoreId). queued_count d h) to known)
+          ∙ state-stands v (Noted (Queued to (letter_with (queued_count to h) message))) h numbered;
       granted = stands.granted;
     }
   where
-    numbered : IsOwnEntry (state_of v h) (Noted (Queued to (envelope_with (queued_count to h) message)))
+    numbered : IsOwnEntry (state_of v h) (Noted (Queued to (letter_with (queued_count to h) message)))
     numbered = record { placed = (λ r is. cc); clocks = ap (λ (s : KernelState). are_clocks_within s.view.own) (sym stands.is) ∙ own.clocks; numbers = own.numbers; granted = refl }

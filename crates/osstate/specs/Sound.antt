@@ -80,7 +80,7 @@ abbrev pub is_first_gate : Item → Bool
 is_first_gate (Item.Pass1 agreement) = true
 is_first_gate item = false
 
--- An envelope's sender has a core number.
+-- A letter's sender has a core number.
 abbrev pub is_sender_known : Item → Bool
 is_sender_known (Item.Received from number m) = nat_lt from.number CORES
 is_sender_known item = true
@@ -144,7 +144,7 @@ pub record IsUnderWay (p : Progress) : Type 0 where
   pub began : p.began ≤ p.entries
   pub items : p.items ≤ p.entries
 
--- The open call is one of an own runner, and a spinlock that it awaits has a place. No more envelopes were queued or received than
+-- The open call is one of an own runner, and a spinlock that it awaits has a place. No more letters were queued or received than
 -- the history has entries.
 pub record HasBorder (core : Core) (entries : ℕ) (border : BorderState) : Type 0 where
   pub caller : IfSome border.open_call (λ call. IsTrue (is_own_runner core call.runner))

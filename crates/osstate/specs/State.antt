@@ -16,7 +16,7 @@ use Rattle.ostable.specs.Tables.{TableStates, tables_of}
 use Rattle.osstate.specs.declared.progress.Progress.{Progress}
 use Rattle.osstate.specs.Readings.{phase_at, rows_of}
 
--- What crosses the core's border: the call that is open, the envelopes that wait to be posted, how many were queued for each core and
+-- What crosses the core's border: the call that is open, the letters that wait to be posted, how many were queued for each core and
 -- received from it, by core number, and the spinlocks that the core got, the newest first.
 pub record BorderState : Type 0 where
   pub open_call : Option OpenCall

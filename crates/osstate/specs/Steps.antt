@@ -3,11 +3,11 @@ use Rattle.std.specs.Prelude.{ℕ, ◌+◌, Bool, Option, Some, None, List, [], 
 use Rattle.osbase.specs.declared.references.CoreId.{CoreId}
 use Rattle.osbase.specs.declared.references.Runner.{Runner}
 use Rattle.osbase.specs.declared.messages.Message.{Message}
-use Rattle.osbase.specs.declared.messages.Envelope.{Envelope}
+use Rattle.osbase.specs.declared.messages.Letter.{Letter}
 use Rattle.osbase.specs.declared.items.Item.{Item}
 use Rattle.osbase.specs.declared.items.Item.TheVariants as Item
 use Rattle.osbase.specs.declared.limits.TheConstants.{CORES}
-use Rattle.osbase.specs.History.{Entry, Took, Noted, Queued, first_phase, phase_after, began_after, agreement_after, course_after, started_after, items_after, open_after, outbox_after, no_cores, envelope_with}
+use Rattle.osbase.specs.History.{Entry, Took, Noted, Queued, first_phase, phase_after, began_after, agreement_after, course_after, started_after, items_after, open_after, outbox_after, no_cores, letter_with}
 use Rattle.osbase.specs.declared.histories.Course.{Course}
 use Rattle.osbase.specs.Interrupts.{runner_of_job}
 use Rattle.osbase.specs.Spins.{spins_after}
@@ -71,7 +71,7 @@ tasks_after core e stamp s = jobs_by (script_for core (runner_by e s)) e stamp s
 
 -- ---- the border
 
--- One envelope more for this core.
+-- One letter more for this core.
 abbrev pub one_more : CoreId → List ℕ → List ℕ
 one_more core counts = slice_set counts core.number (slice_index counts core.number + 1)
 
@@ -97,8 +97,8 @@ abbrev pub first_border : BorderState
 first_border = record { open_call = None; outbox = []; queued = replicate CORES 0; received = replicate CORES 0; spins = [] }
 
 -- What comes next for this core, with the number that is next on the way there.
-abbrev pub next_envelope : KernelState → CoreId → Message → Envelope
-next_envelope s to message = envelope_with (slice_index s.border.queued to.number) message
+abbrev pub next_letter : KernelState → CoreId → Message → Letter
+next_letter s to message = letter_with (slice_index s.border.queued to.number) message
 
 -- ---- the whole
 

@@ -1,4 +1,4 @@
-//! What crosses a core's border: the open call, the outbox, how many envelopes went each way, and the spinlocks that the core got.
+//! What crosses a core's border: the open call, the outbox, how many letters went each way, and the spinlocks that the core got.
 
 ghost use Rattle.std.specs.Prelude.{◌≡◌, ◌<◌, ◌^◌, ℕ, length, slice_index, IsTrue};
 ghost use Rattle.osbase.specs.declared.limits.TheConstants.{CORES};
@@ -12,12 +12,12 @@ use arrayvec::ArrayVec;
 use osbase::{CORES, CoreId, Item, OpenCall, Runner};
 use osgrant::Grants;
 
-/// What crosses a core's border, with room for `OUT` envelopes.
+/// What crosses a core's border, with room for `OUT` letters.
 #[derive(Drop)]
 pub(crate) struct Border<const OUT: usize> {
     // The service that awaits another core's reply.
     pub(crate) open_call: Option<OpenCall>,
-    // How many envelopes were queued for each core, and received from it.
+    // How many letters were queued for each core, and received from it.
     pub(crate) queued: [u64; CORES],
     pub(crate) received: [u64; CORES],
     pub(crate) spins: Grants,
@@ -68,7 +68,7 @@ pub(crate) fn post_by<const OUT: usize>(outbox: &mut ArrayVec<SentSlot, OUT>, it
     }
 }
 
-/// An envelope that was received counts for its sender.
+/// A letter that was received counts for its sender.
 pub(crate) fn receive_by(received: &mut [u64; CORES], item: &Item)
     requires sender { IsTrue (is_sender_known item.now) }
     requires count { (k : ℕ) → slice_index received.old k < 2 ^ 63 }
@@ -84,7 +84,7 @@ pub(crate) fn receive_by(received: &mut [u64; CORES], item: &Item)
     }
 }
 
-/// One envelope more for this core.
+/// One letter more for this core.
 pub(crate) fn count_one(counts: &mut [u64; CORES], core: CoreId)
     requires core { core.number < CORES }
     requires count { slice_index counts.old core.number < 2 ^ 63 }

@@ -1,6 +1,6 @@
 //! What a place of a bounded list holds: each has a blank for a place that is not in use.
 
-use osbase::{CoreId, Envelope, Message, Sent, Status};
+use osbase::{CoreId, Letter, Message, Sent, Status};
 use std::marker::Model;
 
 /// A place of the outbox.
@@ -25,7 +25,7 @@ impl Default for SentSlot {
         SentSlot {
             sent: Sent {
                 to: CoreId { number: 0 },
-                envelope: Envelope { number: 0, message },
+                letter: Letter { number: 0, message },
             },
         }
     }

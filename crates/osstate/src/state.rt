@@ -3,7 +3,7 @@
 ghost use Rattle.std.specs.Prelude.{◌≡◌, ◌==◌, ◌||◌, ◌∷◌, ◌<◌, ◌≤◌, ◌^◌, [], nat_lt, IsTrue, IsSome, IfSome, false, true, length, nat_le, Some, slice_get, slice_index, sum_by};
 ghost use Rattle.std.specs.List.{list_all};
 ghost use Rattle.osbase.specs.declared.limits.TheConstants.{CORES};
-ghost use Rattle.osbase.specs.History.{Took, Printed, Noted, Opened, Queued, Taken, Given, Locked, Unlocked, WentDown, Done, job_count, phase_after, queued_count, same_core, envelope_with};
+ghost use Rattle.osbase.specs.History.{Took, Printed, Noted, Opened, Queued, Taken, Given, Locked, Unlocked, WentDown, Done, job_count, phase_after, queued_count, same_core, letter_with};
 ghost use Rattle.osbase.specs.Interrupts.{is_pending_among};
 ghost use Rattle.osbase.specs.Phases.{is_before_live, is_past_first_gate};
 ghost use Rattle.osbase.specs.Sets.{has_core};
@@ -23,7 +23,7 @@ ghost use Rattle.osstate.specs.Readings.{best_job, budget_of, events_at, frame_a
 ghost use Rattle.oscript.specs.Frames.{action_at};
 ghost use Rattle.osstate.specs.Sound.{activation_limit, interrupt_limit, is_action_known, is_agreed, is_awaited_known, is_first_gate, is_grant_known, is_posted, is_sender_known};
 ghost use Rattle.osstate.specs.State.{state_of};
-ghost use Rattle.osstate.specs.Steps.{next_envelope, state_after};
+ghost use Rattle.osstate.specs.Steps.{next_letter, state_after};
 
 mod alarms;
 mod spins;
@@ -35,7 +35,7 @@ use crate::scripts::{budget_of, script_of};
 use crate::slots::SentSlot;
 use arrayvec::ArrayVec;
 use osbase::{
-    Agreement, CORES, CoreId, CoreMode, CoreSet, Course, Envelope, HeldResource, IsrRef, Item, Job,
+    Agreement, CORES, CoreId, CoreMode, CoreSet, Course, HeldResource, IsrRef, Item, Job, Letter,
     Mark, Message, Object, OpenCall, Phase, RESOURCES, ResourceRef, Runner, Sent, Status, Stimulus,
     TaskEvents, TaskRef,
 };
@@ -47,7 +47,7 @@ use osplan::{Config, Core, Protection, Task, own};
 use ostable::Tables;
 use std::marker::Model;
 
-/// The whole state of a core, with room for `J` live jobs and `OUT` envelopes; priorities and ceilings are below `P`.
+/// The whole state of a core, with room for `J` live jobs and `OUT` letters; priorities and ceilings are below `P`.
 #[derive(Drop)]
 pub struct CoreState<'a, const P: usize, const J: usize, const OUT: usize> {
     config: &'a Config,
@@ -320,13 +320,13 @@ impl<'a, const P: usize, const J: usize, const OUT: usize> CoreState<'a, P, J, O
         requires receiver { to.number < CORES }
         requires room { length self.old.border.outbox < OUT }
         requires count { self.old.progress.entries < 2 ^ 63 }
-        ensures state { self.new ≡ state_after (Noted (Queued to (next_envelope self.old to message))) self.old }
-        ensures remarks { Remarks 1 (λ v h. Noted (Queued to (envelope_with (queued_count to h) message)) ∷ h) self.old self.new }
+        ensures state { self.new ≡ state_after (Noted (Queued to (next_letter self.old to message))) self.old }
+        ensures remarks { Remarks 1 (λ v h. Noted (Queued to (letter_with (queued_count to h) message)) ∷ h) self.old self.new }
     {
         let number = self.border.queued[usize::from(to.number)];
-        let envelope = Envelope { number, message };
+        let letter = Letter { number, message };
         self.border.outbox.push(SentSlot {
-            sent: Sent { to, envelope },
+            sent: Sent { to, letter },
         });
         border::count_one(&mut self.border.queued, to);
         self.progress.entries += 1;
@@ -452,14 +452,14 @@ impl<'a, const P: usize, const J: usize, const OUT: usize> CoreState<'a, P, J, O
         self.border.outbox.is_empty()
     }
 
-    /// Whether the outbox holds fewer envelopes than it has places.
+    /// Whether the outbox holds fewer letters than it has places.
     pub fn has_place(&self) -> bool
         ensures { result ≡ nat_lt (length self.now.border.outbox) OUT }
     {
         self.border.outbox.len() < OUT
     }
 
-    /// How many envelopes were received from this core.
+    /// How many letters were received from this core.
     pub fn received_from(&self, id: CoreId) -> u64
         requires { id.number < CORES }
         ensures { result ≡ slice_index self.now.border.received id.number }

@@ -1,14 +1,13 @@
 -- What the workers of all cores gave back, gathered: their reports are sound.
 use Rattle.std.proofs.lemmas.List.{take_more}
-use Rattle.std.proofs.Common.{◌≡◌, ◌<◌, ◌+◌, ℕ, take, filter, cond, Bool, true, false, Option, None, is_some, IsSome, IsTrue, List, [], ◌∷◌, ◌++◌, map, length, get_or, refl, sym, ap, subst, ◌∙◌, append_assoc, append-nil, arith}
+use Rattle.std.proofs.Common.{◌≡◌, ◌<◌, ◌+◌, ℕ, take, filter, cond, Bool, true, false, None, is_some, IsTrue, List, [], ◌∷◌, ◌++◌, map, length, get_or, refl, sym, ap, subst, ◌∙◌, append_assoc, append-nil, arith}
 use Rattle.std.specs.List.{AllByRecursion, list_all, list_any}
 use Rattle.std.proofs.lemmas.Bool.{and_parts, false≢true, or_parts}
 use Rattle.osbase.specs.declared.references.CoreId.{CoreId}
-use Rattle.osbase.specs.declared.messages.Envelope.{Envelope}
+use Rattle.osbase.specs.declared.messages.Letter.{Letter}
 use Rattle.osbase.specs.declared.turns.Report.{Report}
 use Rattle.osbase.specs.History.{History, posted, received}
 use Rattle.osbase.specs.Sets.{core_ids}
-use Rattle.osplan.specs.declared.plans.Core.{Core}
 use Rattle.osplan.specs.Limits.{is_within_limits}
 use Rattle.osplan.specs.Stimuli.{AreKnown}
 use Rattle.osplan.specs.View.{core_of}
@@ -26,7 +25,6 @@ use Rattle.osspin.specs.declared.calls.SpinReply.{SpinReply}
 use Rattle.osspin.specs.Spins.{IsRefusedCall, spinlocks}
 use Rattle.osspin.proofs.Locks.{refused_idle}
 use Rattle.osturn.specs.Asking.{Calls, calls_of, no_calls}
-use Rattle.osmail.specs.Ends.{sent_to, taken_from}
 use Rattle.osturn.specs.Fits.{history_by, ids_of}
 use Rattle.osturn.specs.Sound.{AreSound}
 use Rattle.osthreads.specs.declared.ending.Ending.{Ending}
@@ -34,8 +32,8 @@ use Rattle.osplan.specs.declared.plans.Plan.{Plan}
 use Rattle.osbase.specs.declared.turns.CoreStimuli.{CoreStimuli}
 use Rattle.osthreads.specs.declared.seats.Seats.{Seats}
 use Rattle.osthreads.specs.Runs.{AreFinished, AreOneSpins, AreRuns, IsDelivered, IsOneBoard, new_board, new_spins}
-use Rattle.osthreads.specs.Seats.{Shared, first_seats, made_from, paired, seats_cores}
-use Rattle.osthreads.specs.Threads.{AreAllFinished, AreEnded, AreReady, AreSettled, IsEnded, IsSettled}
+use Rattle.osthreads.specs.Seats.{Shared, first_seats, made_from, paired}
+use Rattle.osthreads.specs.Threads.{AreAllFinished, AreEnded, AreSettled, IsEnded, IsSettled, sent_of, taken_of}
 use Rattle.osthreads.specs.declared.turns.Stop.{Stop}
 use Rattle.osthreads.specs.Working.{IsFinished, Refusal, is_finished_by, is_kept_by, is_short_of_memory, refusal_at, refused_from}
 use Rattle.osthreads.proofs.Senders.{ids-apart, nobody-listed}
@@ -74,10 +72,6 @@ boards_of es = map (λ (e : Ending). e.seats.board) es
 abbrev spins_of : List Ending → List SpinSeat
 spins_of es = map (λ (e : Ending). e.seats.spins) es
 
-pub seats_cores-push : (ss : List Seats) (s : Seats) → seats_cores (ss ++ s ∷ []) ≡ seats_cores ss ++ s.board.core ∷ []
-seats_cores-push [] s = refl
-seats_cores-push (t ∷ ss) s = ap (λ (cs : List CoreId). t.board.core ∷ cs) (seats_cores-push ss s)
-
 -- ---- endings
 
 no-refusal : (stop : Stop) → is_finished_by stop ≡ true → refusal_at stop ≡ None
@@ -106,7 +100,7 @@ module _ (plan : Plan) (stimuli : List CoreStimuli) (turns : ℕ) (shared : Shar
   ended-push (i ∷ is) [] id e ended one = absurd ended
   ended-push (i ∷ is) (x ∷ es) id e ended one = (ended.0, ended-push is es id e ended.1 one)
 
-  reports-cores : (ids : List CoreId) (es : List Ending) → AreEnded plan stimuli turns shared ids es → map (λ (r : Report). r.core) (reports_of es) ≡ ids
+  pub reports-cores : (ids : List CoreId) (es : List Ending) → AreEnded plan stimuli turns shared ids es → map (λ (r : Report). r.core) (reports_of es) ≡ ids
   reports-cores [] [] ended = refl
   reports-cores [] (e ∷ es) ended = absurd ended
   reports-cores (i ∷ is) [] ended = absurd ended
@@ -167,8 +161,8 @@ module _ (plan : Plan) (stimuli : List CoreStimuli) (turns : ℕ) (shared : Shar
   past e = history_by plan e.report.core e.report.items
 
   record Flows (e : Ending) : Type 0 where
-    sent : (to : CoreId) → sent_to e.steps.items to ≡ posted to (past e)
-    taken : (from : CoreId) → taken_from e.steps.items from ≡ received from (past e)
+    sent : (to : CoreId) → sent_of e.kept to ≡ posted to (past e)
+    taken : (from : CoreId) → taken_of e.kept from ≡ received from (past e)
 
   each-flows : (ids : List CoreId) (es : List Ending) → AreEnded plan stimuli turns shared ids es → AreAllFinished es → AllByRecursion Flows es
   each-flows [] [] ended finished = tt
@@ -183,7 +177,7 @@ module _ (plan : Plan) (stimuli : List CoreStimuli) (turns : ℕ) (shared : Shar
   )
 
   delivered : (a b : Ending) → Flows a → Flows b → IsSettled a b → IsDelivered plan a.report b.report
-  delivered a b from to settled = (settled.0, ap (λ (xs : List Envelope). xs ++ settled.0) (sym (to.taken a.report.core)) ∙ settled.1 ∙ from.sent b.report.core)
+  delivered a b from to settled = (settled.0, ap (λ (xs : List Letter). xs ++ settled.0) (sym (to.taken a.report.core)) ∙ settled.1 ∙ from.sent b.report.core)
 
   delivered-each : (a : Ending) → Flows a → (bs : List Ending) → AllByRecursion Flows bs → AllByRecursion (IsSettled a) bs → AllByRecursion (IsDelivered plan a.report) (reports_of bs)
   delivered-each a from [] flow settled = tt
@@ -217,7 +211,7 @@ module _ (plan : Plan) (stimuli : List CoreStimuli) (turns : ℕ) (shared : Shar
         (spins-cores ids es ended ∙ cores ∙ ap (λ (p : SeatPlan Unit). p.cores) (sym one.new_spins))
         refused_idle (spins-logged ids es ended) one.spins)
 
-    -- Where what was taken is what was sent but for what is left, and each envelope became an item, the reports are sound.
+    -- Where what was taken is what was sent but for what is left, and each letter became an item, the reports are sound.
     pub seats-sound : IsTrue (is_within_limits plan) → AreKnown plan stimuli → AreAllFinished es → AreSettled es → AreSound plan stimuli (reports_of es)
     seats-sound limits known finished settled =
         let flow = each-flows ids es ended finished in
@@ -281,11 +275,7 @@ pub new-paired : (shared : Shared) (cs : List CoreId) → paired (map (λ c. fre
 new-paired shared [] = refl
 new-paired shared (c ∷ cs) = ap (λ (ss : List Seats). first_seats shared c ∷ ss) (new-paired shared cs)
 
-pub first-cores : (shared : Shared) (cs : List CoreId) → seats_cores (map (first_seats shared) cs) ≡ cs
-first-cores shared [] = refl
-first-cores shared (c ∷ cs) = ap (λ (ds : List CoreId). c ∷ ds) (first-cores shared cs)
-
--- each configured core's seats are ready
+-- each configured core is one
 filter-passes : (p : CoreId → Bool) (cs : List CoreId) → AllByRecursion (λ c. p c ≡ true) (filter p cs)
 filter-passes p [] = tt
 filter-passes p (c ∷ cs) = by (p c) refl (filter-passes p cs)
@@ -294,16 +284,5 @@ filter-passes p (c ∷ cs) = by (p c) refl (filter-passes p cs)
     by true e rest = (e, rest)
     by false e rest = rest
 
-ready-there : (o : Option Core) → is_some o ≡ true → IsSome o
-ready-there o e = e
-
-module _ (plan : Plan) (cores : List CoreId) (shared : Shared) (listed : cores ≡ ids_of plan) where
-  ready-each : (cs : List CoreId) → AllByRecursion (λ c. is_some (core_of plan c) ≡ true) cs → AreReady plan cores shared (map (first_seats shared) cs)
-  ready-each [] all = tt
-  ready-each (c ∷ cs) all = (
-    record { listed = listed; configured = ready-there (core_of plan c) all.0; placed = record { board = refl; spins = refl; board_core = refl; spins_core = refl }; fresh = refl },
-    ready-each cs all.1,
-  )
-
-  pub all-ready : (ss : List Seats) → ss ≡ map (first_seats shared) (ids_of plan) → AreReady plan cores shared ss
-  all-ready ss are = subst (AreReady plan cores shared) (sym are) (ready-each (ids_of plan) (filter-passes (λ c. is_some (core_of plan c)) core_ids))
+pub all-configured : (plan : Plan) → AllByRecursion (λ c. is_some (core_of plan c) ≡ true) (ids_of plan)
+all-configured plan = filter-passes (λ c. is_some (core_of plan c)) core_ids

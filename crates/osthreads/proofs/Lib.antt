@@ -4,3 +4,5 @@ pub mod Shifting
 pub mod Senders
 pub mod Threaded
 pub mod Gathering
+pub mod Outfits
+pub mod Endings

@@ -30,7 +30,7 @@ use Rattle.oskernel.proofs.Stages.{solo-parts}
 use Rattle.osseat.specs.Seats.{AllApart, has}
 use Rattle.osturn.specs.Fits.{ids_of}
 use Rattle.osturn.proofs.Members.{nobody-there}
-use Rattle.osturn.proofs.Streams.{envelope_in, is_from, received-is}
+use Rattle.osturn.proofs.Streams.{received_letter, is_from, received-is}
 
 -- ---- the started cores are configured
 
@@ -65,7 +65,7 @@ module _ (v : View) where
     senders = λ id out. received-is v id i h ∙ by id out (is_from i id) refl;
   }
     where
-      by : (id : CoreId) → is_configured v id ≡ false → (b : Bool) → is_from i id ≡ b → cond b (received id h ++ envelope_in i) (received id h) ≡ []
+      by : (id : CoreId) → is_configured v id ≡ false → (b : Bool) → is_from i id ≡ b → cond b (received id h ++ received_letter i) (received id h) ≡ []
       by id out true e = absurd (false≢true (sym out ∙ sender-known h i may known id e))
       by id out false e = known.senders id out
 

@@ -4,7 +4,7 @@ use Rattle.std.specs.List.{AllByRecursion, find}
 use Rattle.std.specs.Option.{option_map_or}
 use Rattle.std.proofs.lemmas.Bool.{eq-eqb, false≢true, ne_eqb}
 use Rattle.osbase.specs.declared.references.CoreId.{CoreId}
-use Rattle.osbase.specs.declared.messages.Envelope.{Envelope}
+use Rattle.osbase.specs.declared.messages.Letter.{Letter}
 use Rattle.osbase.specs.declared.items.Item.{Item}
 use Rattle.osbase.specs.declared.turns.CoreStimuli.{CoreStimuli}
 use Rattle.osbase.specs.declared.turns.Report.{Report}
@@ -86,7 +86,7 @@ module _ (plan : Plan) (stimuli : List CoreStimuli) where
     -- who has no list posted nothing, and nothing was received from it
     from-nobody : (from to : CoreId) → has (cores_in reports) from ≡ false → Flows from [] to (items_of (lists_in reports) to)
     from-nobody from to out =
-        ([], ap (λ (xs : List Envelope). xs ++ []) (none-received (view_of plan to) (items_of (lists_in reports) to) (cores-fit to).alone from (unlisted-unseen plan limits from to (unlisted from out))))
+        ([], ap (λ (xs : List Letter). xs ++ []) (none-received (view_of plan to) (items_of (lists_in reports) to) (cores-fit to).alone from (unlisted-unseen plan limits from to (unlisted from out))))
 
     from-each : (to : CoreId) (rs : List Report) → AllByRecursion (λ a. AllByRecursion (IsDelivered plan a) reports) rs → AllByRecursion (λ (a : Report). Flows a.core a.items to (items_of (lists_in reports) to)) rs
     from-each to [] all = tt

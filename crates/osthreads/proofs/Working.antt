@@ -5,13 +5,14 @@ use Rattle.std.proofs.lemmas.Option.{same_Some}
 use Rattle.osbase.specs.declared.statuses.Status.TheVariants.{EOsId}
 use Rattle.osbase.specs.declared.references.CoreId.{CoreId}
 use Rattle.osbase.specs.declared.messages.Envelope.{Envelope}
+use Rattle.osbase.specs.declared.messages.Letter.{Letter}
 use Rattle.osbase.specs.declared.histories.Course.{Course}
 use Rattle.osbase.specs.declared.histories.Sent.{Sent}
 use Rattle.osbase.specs.declared.items.Item.{Item}
 use Rattle.osbase.specs.declared.items.Stimulus.{Stimulus}
 use Rattle.osbase.specs.declared.turns.Choice.{Choice}
 use Rattle.osbase.specs.declared.turns.CoreStimuli.{CoreStimuli}
-use Rattle.osbase.specs.History.{History, course_of, front_envelope, outbox, posted, received, same_core}
+use Rattle.osbase.specs.History.{History, course_of, front_letter, outbox, posted, received, same_core}
 use Rattle.osbase.specs.Runs.{stimuli_of}
 use Rattle.osplan.specs.declared.plans.Plan.{Plan}
 use Rattle.osplan.specs.View.{View, is_configured, view_of}
@@ -49,7 +50,7 @@ use Rattle.osturn.proofs.Asked.{IsOwnAsk, asks-own}
 use Rattle.osturn.proofs.Leading.{closing-item, halted-item, is-item, passing-item, spun-item}
 use Rattle.osturn.proofs.Longer.{IsInTurn, core-on, history_from-push, length-stimuli_in}
 use Rattle.osturn.proofs.Seated.{Keeps, Took, seated-kept, seated-on}
-use Rattle.osturn.proofs.Streams.{envelope_in, is_from, is_post_to, posted-after, received-is}
+use Rattle.osturn.proofs.Streams.{received_letter, is_from, is_post_to, posted-after, received-is}
 use Rattle.osthreads.specs.Calling.{call_of_item}
 use Rattle.osthreads.specs.Working.{AreCalls, AreSpinCalls, HasDone, IsAsked, IsAtWork, IsFruitless, IsIdleLook, IsMailed, IsRefusedWish, MayWait}
 
@@ -356,46 +357,46 @@ module _ (v : View) (h : History) (sent taken sent' taken' : Streams) (mail : Is
   pub mail-same : (i : Item) → is_mail i ≡ false → AreUnchanged sent sent' → AreUnchanged taken taken' → IsMailed v (after v h i) sent' taken' None
   mail-same i none same_sent same_taken = record {
     sent_is = λ to. same_sent to ∙ mail.sent_is to
-        ∙ sym (posted-after v to i h ∙ ap (λ (b : Bool). cond b (posted to h ++ front_envelope (outbox h)) (posted to h)) (mail-aside i none to).0);
+        ∙ sym (posted-after v to i h ∙ ap (λ (b : Bool). cond b (posted to h ++ front_letter (outbox h)) (posted to h)) (mail-aside i none to).0);
     taken_is = λ from. same_taken from ∙ mail.taken_is from
-        ∙ ap (λ (es : List Envelope). es ++ []) (sym (received-is v from i h ∙ ap (λ (b : Bool). cond b (received from h ++ envelope_in i) (received from h)) (mail-aside i none from).1));
+        ∙ ap (λ (es : List Letter). es ++ []) (sym (received-is v from i h ∙ ap (λ (b : Bool). cond b (received from h ++ received_letter i) (received from h)) (mail-aside i none from).1));
     refused = tt;
   }
 
   -- the front of the outbox was sent
-  pub mail-posted : (to : CoreId) (e : Envelope) → front_envelope (outbox h) ≡ e ∷ [] → HasOneMore to e sent sent' → AreUnchanged taken taken' → IsMailed v (after v h (Item.Posted to)) sent' taken' None
+  pub mail-posted : (to : CoreId) (e : Letter) → front_letter (outbox h) ≡ e ∷ [] → HasOneMore to e sent sent' → AreUnchanged taken taken' → IsMailed v (after v h (Item.Posted to)) sent' taken' None
   mail-posted to e front grown same = record {
     sent_is = λ d. grown d
-        ∙ ap (λ (es : List Envelope). cond (same_core to d) (es ++ e ∷ []) es) (mail.sent_is d)
-        ∙ ap (λ (es : List Envelope). cond (same_core to d) (posted d h ++ es) (posted d h)) (sym front)
+        ∙ ap (λ (es : List Letter). cond (same_core to d) (es ++ e ∷ []) es) (mail.sent_is d)
+        ∙ ap (λ (es : List Letter). cond (same_core to d) (posted d h ++ es) (posted d h)) (sym front)
         ∙ sym (posted-after v d (Item.Posted to) h);
-    taken_is = λ from. same from ∙ mail.taken_is from ∙ ap (λ (es : List Envelope). es ++ []) (sym (received-is v from (Item.Posted to) h));
+    taken_is = λ from. same from ∙ mail.taken_is from ∙ ap (λ (es : List Letter). es ++ []) (sym (received-is v from (Item.Posted to) h));
     refused = tt;
   }
 
-  -- an envelope was taken, and received
-  pub mail-received : (from : CoreId) (e : Envelope) → AreUnchanged sent sent' → HasOneMore from e taken taken' → IsMailed v (after v h (Item.Received from e.number e.message)) sent' taken' None
+  -- a letter was taken, and received
+  pub mail-received : (from : CoreId) (e : Letter) → AreUnchanged sent sent' → HasOneMore from e taken taken' → IsMailed v (after v h (Item.Received from e.number e.message)) sent' taken' None
   mail-received from e same grown = record {
     sent_is = λ d. same d ∙ mail.sent_is d ∙ sym (posted-after v d (Item.Received from e.number e.message) h);
     taken_is = λ s. grown s
-        ∙ ap (λ (es : List Envelope). cond (same_core from s) (es ++ e ∷ []) es) (mail.taken_is s ∙ append-nil (received s h))
+        ∙ ap (λ (es : List Letter). cond (same_core from s) (es ++ e ∷ []) es) (mail.taken_is s ∙ append-nil (received s h))
         ∙ sym (received-is v s (Item.Received from e.number e.message) h)
         ∙ sym (append-nil (received s (after v h (Item.Received from e.number e.message))));
     refused = tt;
   }
 
-  -- an envelope was taken, and refused
-  pub mail-refused : (from : CoreId) (e : Envelope) → AreUnchanged sent sent' → HasOneMore from e taken taken' → serves outbox_size v h ≡ true → takes outbox_size v h (Item.Received from e.number e.message) ≡ false
+  -- a letter was taken, and refused
+  pub mail-refused : (from : CoreId) (e : Letter) → AreUnchanged sent sent' → HasOneMore from e taken taken' → serves outbox_size v h ≡ true → takes outbox_size v h (Item.Received from e.number e.message) ≡ false
       → IsMailed v h sent' taken' (Some (from, e))
   mail-refused from e same grown may not_this = record {
     sent_is = λ d. same d ∙ mail.sent_is d;
     taken_is = λ s. grown s
-        ∙ ap (λ (es : List Envelope). cond (same_core from s) (es ++ e ∷ []) es) (mail.taken_is s ∙ append-nil (received s h))
+        ∙ ap (λ (es : List Letter). cond (same_core from s) (es ++ e ∷ []) es) (mail.taken_is s ∙ append-nil (received s h))
         ∙ behind (same_core from s) (received s h) e;
     refused = (may, not_this);
   }
     where
-      behind : (b : Bool) (xs : List Envelope) (x : Envelope) → cond b (xs ++ x ∷ []) xs ≡ xs ++ cond b (x ∷ []) []
+      behind : (b : Bool) (xs : List Letter) (x : Letter) → cond b (xs ++ x ∷ []) xs ≡ xs ++ cond b (x ∷ []) []
       behind true xs x = refl
       behind false xs x = sym (append-nil xs)
 
@@ -463,17 +464,17 @@ module _ (plan : Plan) (stimuli : List CoreStimuli) (loads : ℕ) (old new : Sea
   pub alone-took : told_by old.id ask answer ≡ no_calls → is_mail item ≡ false → made' ≡ made → AreUnchanged sent sent' → AreUnchanged taken taken' → HasDone plan stimuli new made' sent' taken' None 0
   alone-took silent none same same_sent same_taken = done-on (uncalled silent same) (mail-same view past sent taken sent' taken' done.mail item none same_sent same_taken)
 
-  pub post-took : (to first : CoreId) (e : Envelope) → told_by old.id ask answer ≡ no_calls → item ≡ Item.Posted to → front_of old.kernel.border.outbox ≡ Some (first, e) → made' ≡ made → HasOneMore to e sent sent' → AreUnchanged taken taken' → HasDone plan stimuli new made' sent' taken' None 0
+  pub post-took : (to first : CoreId) (e : Envelope) → told_by old.id ask answer ≡ no_calls → item ≡ Item.Posted to → front_of old.kernel.border.outbox ≡ Some (first, e) → made' ≡ made → HasOneMore to e.letter sent sent' → AreUnchanged taken taken' → HasDone plan stimuli new made' sent' taken' None 0
   post-took to first e silent is_item front same grown same_taken =
       done-on (uncalled silent same)
       (subst (λ (i : Item). IsMailed view (after view past i) sent' taken' None) (sym is_item)
-      (mail-posted view past sent taken sent' taken' done.mail to e (ahead (outbox past) (subst (λ (k : KernelState). front_of k.border.outbox ≡ Some (first, e)) done.work.seated.tracks.stands.is front)) grown same_taken))
+      (mail-posted view past sent taken sent' taken' done.mail to e.letter (ahead (outbox past) (subst (λ (k : KernelState). front_of k.border.outbox ≡ Some (first, e)) done.work.seated.tracks.stands.is front)) grown same_taken))
     where
-      ahead : (out : List Sent) → front_of out ≡ Some (first, e) → front_envelope out ≡ e ∷ []
+      ahead : (out : List Sent) → front_of out ≡ Some (first, e) → front_letter out ≡ e.letter ∷ []
       ahead [] is = cc
-      ahead (s ∷ ss) is = ap (λ (x : CoreId × Envelope). x.1 ∷ []) (same_Some _ _ is)
+      ahead (s ∷ ss) is = ap (λ (x : CoreId × Envelope). x.1.letter ∷ []) (same_Some _ _ is)
 
-  pub receipt-took : (from : CoreId) (e : Envelope) → told_by old.id ask answer ≡ no_calls → item ≡ Item.Received from e.number e.message → made' ≡ made → AreUnchanged sent sent' → HasOneMore from e taken taken' → HasDone plan stimuli new made' sent' taken' None 0
+  pub receipt-took : (from : CoreId) (e : Letter) → told_by old.id ask answer ≡ no_calls → item ≡ Item.Received from e.number e.message → made' ≡ made → AreUnchanged sent sent' → HasOneMore from e taken taken' → HasDone plan stimuli new made' sent' taken' None 0
   receipt-took from e silent is_item same same_sent grown =
       done-on (uncalled silent same)
       (subst (λ (i : Item). IsMailed view (after view past i) sent' taken' None) (sym is_item)
@@ -518,8 +519,8 @@ module _ (plan : Plan) (stimuli : List CoreStimuli) (loads : ℕ) (core : Seat) 
     mail = mail-still (view_of plan core.id) (history_by plan core.id core.items.items) sent taken sent' taken' done.mail (view_of plan new.id) (history_by plan new.id new.items.items) (rw (keeps.id, keeps.items) refl) same_sent same_taken;
   }
 
-  -- an envelope was taken that the core could not take, though it may serve
-  pub refused : (from : CoreId) (e : Envelope) (sent' taken' : Streams) → serves_in outbox_size core.kernel ≡ true → takes_in outbox_size core.kernel (Item.Received from e.number e.message) ≡ false → AreUnchanged sent sent' → HasOneMore from e taken taken' → HasDone plan stimuli core made sent' taken' (Some (from, e)) 0
+  -- a letter was taken that the core could not take, though it may serve
+  pub refused : (from : CoreId) (e : Letter) (sent' taken' : Streams) → serves_in outbox_size core.kernel ≡ true → takes_in outbox_size core.kernel (Item.Received from e.number e.message) ≡ false → AreUnchanged sent sent' → HasOneMore from e taken taken' → HasDone plan stimuli core made sent' taken' (Some (from, e)) 0
   refused from e sent' taken' may not_this same grown = record {
     work = done.work;
     calls = fewer (view_of plan core.id) core.items.items made loads done.calls 0 (omega arith);

@@ -1,5 +1,5 @@
 -- A core's seats at what all cores share. [own]
-use Rattle.std.specs.Prelude.{◌≡◌, List, [], ◌∷◌, map}
+use Rattle.std.specs.Prelude.{◌≡◌, List, [], ◌∷◌}
 use Rattle.osbase.specs.declared.references.CoreId.{CoreId}
 use Rattle.osseat.specs.Seats.{Held, Place, fresh}
 use Rattle.osboard.specs.declared.calls.BoardCall.{BoardCall}
@@ -34,9 +34,6 @@ paired [] spins = []
 paired (b ∷ board) [] = []
 paired (b ∷ board) (s ∷ spins) = record { board = b; spins = s } ∷ paired board spins
 
--- The seats of a core that has made no call, and the cores of seats.
+-- The seats of a core that has made no call.
 abbrev pub first_seats : Shared → CoreId → Seats
 first_seats shared id = record { board = fresh shared.board id; spins = fresh shared.spins id }
-
-abbrev pub seats_cores : List Seats → List CoreId
-seats_cores seats = map (λ (s : Seats). s.board.core) seats

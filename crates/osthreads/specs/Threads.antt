@@ -1,31 +1,98 @@
 -- What the workers' threads give back. [own]
-use Rattle.std.specs.Prelude.{◌≡◌, ℕ, true, IsSome, List, [], ◌∷◌}
+use Rattle.std.specs.Prelude.{◌≡◌, ℕ, true, Option, Some, None, IfSome, IsSome, List, [], ◌∷◌, ◌++◌, map, option_map}
 use Rattle.std.specs.List.{AllByRecursion}
 use Rattle.osbase.specs.declared.references.CoreId.{CoreId}
 use Rattle.osbase.specs.declared.turns.CoreStimuli.{CoreStimuli}
 use Rattle.osplan.specs.declared.plans.Plan.{Plan}
 use Rattle.osplan.specs.View.{core_of, view_of}
 use Rattle.osseat.specs.Histories.{Thinned}
-use Rattle.osmail.specs.Ends.{sent_to, taken_from}
+use Rattle.osmail.specs.declared.rings.RingEnd.{RingEnd}
+use Rattle.osmail.specs.Ends.{Streams, sent_to, taken_from}
+use Rattle.osmail.specs.Rings.{EndId, IsUnused, core_of_end, end_id, ring_sent, ring_taken}
 use Rattle.osboard.specs.Boards.{IsLook}
 use Rattle.osspin.specs.Spins.{IsRefusedCall}
 use Rattle.osturn.specs.Asking.{Calls, no_calls}
 use Rattle.osturn.specs.Fits.{IsBeginning, history_by, ids_of}
 use Rattle.osthreads.specs.declared.ending.Ending.{Ending}
+use Rattle.osthreads.specs.declared.ending.Kept.{Kept}
+use Rattle.osthreads.specs.declared.ending.Kept.TheVariants.{Rings, Steps}
+use Rattle.osthreads.specs.declared.ending.Outfit.{Outfit}
+use Rattle.osbase.specs.declared.messages.MailKind.{MailKind}
+use Rattle.osbase.specs.declared.messages.MailKind.TheVariants.{Locked, Ring}
 use Rattle.osthreads.specs.declared.seats.Seats.{Seats}
 use Rattle.osthreads.specs.Runs.{IsOneCore, IsRun}
-use Rattle.osthreads.specs.Seats.{AreAt, Shared, made_from}
+use Rattle.osthreads.specs.Seats.{AreAt, Shared, first_seats, made_from}
 use Rattle.osthreads.specs.Working.{IsFinished, IsMailed, is_finished_by, refusal_at}
 
--- A configured core's seats there, from which nothing was called yet; and these are the configured cores.
-pub record IsReady (plan : Plan) (cores : List CoreId) (shared : Shared) (seats : Seats) : Type 0 where
-  pub listed : cores ≡ ids_of plan
-  pub configured : IsSome (core_of plan seats.board.core)
-  pub placed : AreAt shared seats.board.core seats
-  pub fresh : made_from seats ≡ no_calls
+-- What a core's end of the mail sent and took, by what it left behind.
+abbrev pub sent_of : Kept → Streams
+sent_of (Steps steps) = sent_to steps.items
+sent_of (Rings end) = ring_sent end
 
-abbrev pub AreReady : Plan → List CoreId → Shared → List Seats → Type 0
-AreReady plan cores shared seats = AllByRecursion (IsReady plan cores shared) seats
+abbrev pub taken_of : Kept → Streams
+taken_of (Steps steps) = taken_from steps.items
+taken_of (Rings end) = ring_taken end
+
+-- Which end of the rings it is, if it is one.
+abbrev pub which_kept : Kept → Option EndId
+which_kept (Steps steps) = None
+which_kept (Rings end) = Some (end_id end)
+
+abbrev pub which_end : Option RingEnd → Option EndId
+which_end end = option_map end_id end
+
+abbrev pub end_kept : Ending → Option EndId
+end_kept e = which_kept e.kept
+
+abbrev pub end_of : Outfit → Option EndId
+end_of outfit = which_end outfit.end
+
+-- The end of the rings that was given came back, or none was given and none came back.
+abbrev pub IsSameEnd : Option RingEnd → Kept → Type 0
+IsSameEnd end kept = which_kept kept ≡ which_end end
+
+-- Each core's seats, with its end of the rings where there is one left.
+abbrev pub equipped : List Seats → List RingEnd → List Outfit
+equipped [] ends = []
+equipped (s ∷ ss) [] = record { seats = s; end = None } ∷ equipped ss []
+equipped (s ∷ ss) (e ∷ ends) = record { seats = s; end = Some e } ∷ equipped ss ends
+
+-- There is an end of the rings for each core, in order; or there is none, where the mail goes through mailboxes under locks.
+abbrev pub AreEndsFor : MailKind → List CoreId → List RingEnd → Type 0
+AreEndsFor Ring cores ends = map core_of_end ends ≡ cores
+AreEndsFor Locked cores ends = ends ≡ []
+
+-- The outfits of these cores: the first seats there, and such ends, which are all ends of these rings and were not used.
+pub record AreEquipped (kind : MailKind) (cores : List CoreId) (shared : Shared) (rings : List EndId) (outfits : List Outfit) : Type 0 where
+  pub ends : List RingEnd
+  pub made : outfits ≡ equipped (map (first_seats shared) cores) ends
+  pub ends_for : AreEndsFor kind cores ends
+  pub all : map end_id ends ≡ rings
+  pub unused : AllByRecursion IsUnused ends
+
+-- The ends of the rings that came back.
+abbrev pub kept_in : Kept → List RingEnd
+kept_in (Steps steps) = []
+kept_in (Rings end) = end ∷ []
+
+abbrev pub ends_kept : List Ending → List RingEnd
+ends_kept [] = []
+ends_kept (e ∷ es) = kept_in e.kept ++ ends_kept es
+
+-- A configured core's seats there, from which nothing was called yet, and an end of the mail that was not used; and these are the
+-- configured cores.
+pub record IsReady (plan : Plan) (cores : List CoreId) (shared : Shared) (outfit : Outfit) : Type 0 where
+  pub listed : cores ≡ ids_of plan
+  pub configured : IsSome (core_of plan outfit.seats.board.core)
+  pub placed : AreAt shared outfit.seats.board.core outfit.seats
+  pub fresh : made_from outfit.seats ≡ no_calls
+  pub unused : IfSome outfit.end IsUnused
+
+abbrev pub AreReady : Plan → List CoreId → Shared → List Outfit → Type 0
+AreReady plan cores shared outfits = AllByRecursion (IsReady plan cores shared) outfits
+
+abbrev pub outfit_cores : List Outfit → List CoreId
+outfit_cores outfits = map (λ (o : Outfit). o.seats.board.core) outfits
 
 -- What the worker of this core gave back: its report is a run of its own, by calls that were made from its seats there, and its end of
 -- the mail sent and took what its items say. If no allocation failed and no envelope was refused, its core has ended, or it stalled.
@@ -36,7 +103,7 @@ pub record IsEnded (plan : Plan) (stimuli : List CoreStimuli) (turns : ℕ) (sha
   pub is_run : IsRun plan stimuli e.report log
   pub board : Thinned IsLook e.seats.board.mine log.board
   pub spins : Thinned IsRefusedCall e.seats.spins.mine log.spins
-  pub mail : IsMailed (view_of plan e.report.core) (history_by plan e.report.core e.report.items) (sent_to e.steps.items) (taken_from e.steps.items) (refusal_at e.stop)
+  pub mail : IsMailed (view_of plan e.report.core) (history_by plan e.report.core e.report.items) (sent_of e.kept) (taken_of e.kept) (refusal_at e.stop)
   pub finished : is_finished_by e.stop ≡ true → IsFinished plan stimuli turns e.report (made_from e.seats)
 
 -- Each core of the list has one.
@@ -56,7 +123,7 @@ AreAllFinished es = AllByRecursion (λ (e : Ending). is_finished_by e.stop ≡ t
 
 -- What the second took from the first begins what that one sent to it.
 abbrev pub IsSettled : Ending → Ending → Type 0
-IsSettled a b = IsBeginning (taken_from b.steps.items a.report.core) (sent_to a.steps.items b.report.core)
+IsSettled a b = IsBeginning (taken_of b.kept a.report.core) (sent_of a.kept b.report.core)
 
 abbrev pub AreSettled : List Ending → Type 0
 AreSettled es = AllByRecursion (λ a. AllByRecursion (IsSettled a) es) es

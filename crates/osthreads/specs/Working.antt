@@ -2,7 +2,7 @@
 use Rattle.std.specs.Prelude.{◌≡◌, ◌⊎◌, ◌+◌, ◌/◌, ◌<◌, ◌≤◌, ℕ, Bool, true, false, Option, Some, None, if◌then◌else◌, List, [], ◌∷◌, ◌++◌, length, slice_get}
 use Rattle.std.specs.List.{AllByRecursion}
 use Rattle.osbase.specs.declared.references.CoreId.{CoreId}
-use Rattle.osbase.specs.declared.messages.Envelope.{Envelope}
+use Rattle.osbase.specs.declared.messages.Letter.{Letter}
 use Rattle.osbase.specs.declared.items.Item.{Item}
 use Rattle.osbase.specs.declared.items.Stimulus.{Stimulus}
 use Rattle.osbase.specs.declared.turns.Choice.{Choice}
@@ -112,20 +112,20 @@ pub record AreCalls (v : View) (items : List Item) (made : Calls) (loads : ℕ) 
   pub enough : loads ≤ length idle
   pub spins : AreSpinCalls v [] items made.spins
 
--- An envelope that was taken and became no item, with its sender.
+-- The letter of an envelope that was taken and became no item, with its sender.
 abbrev pub Refusal : Type 0
-Refusal = Option (CoreId × Envelope)
+Refusal = Option (CoreId × Letter)
 
 abbrev pub refused_from : Refusal → Streams
 refused_from None s = []
 refused_from (Some refusal) s = if same_core refusal.0 s then refusal.1 ∷ [] else []
 
--- The core could have taken an envelope, but not this one.
+-- The core could have taken a letter, but not this one.
 abbrev pub IsRefused : View → History → Refusal → Type 0
 IsRefused v h None = Unit {0}
 IsRefused v h (Some refusal) = (serves outbox_size v h ≡ true) × (takes outbox_size v h (Item.Received refusal.0 refusal.1.number refusal.1.message) ≡ false)
 
--- The end of the mail sent what the core posted. It took what the core received, and then the refused envelope, if there is one.
+-- The end of the mail sent what the core posted. It took what the core received, and then the refused letter, if there is one.
 pub record IsMailed (v : View) (h : History) (sent taken : Streams) (refusal : Refusal) : Type 0 where
   pub sent_is : (to : CoreId) → sent to ≡ posted to h
   pub taken_is : (from : CoreId) → taken from ≡ received from h ++ refused_from refusal from
@@ -198,8 +198,8 @@ is_finished_by Stop.Stalled = true
 is_finished_by stop = false
 
 -- So many turns in a row changed nothing. A round has a turn for each configured core, its own for the core itself, and a look. So the
--- core's calls of the board end with a look for each whole round, and if there was one, the core can do nothing by itself, but for an
--- envelope that may wait for room in a mailbox, GetSpinlock that may wait for its spinlock, and a release (see `MayWait`).
+-- core's calls of the board end with a look for each whole round, and if there was one, the core can do nothing by itself, but for a
+-- letter that may wait for room in a mailbox, GetSpinlock that may wait for its spinlock, and a release (see `MayWait`).
 pub record HasStalled (plan : Plan) (stimuli : List CoreStimuli) (turns : ℕ) (report : Report) (loads : ℕ) : Type 0 where
   pub rounds : turns / (length (ids_of plan) + 1) ≤ loads
   pub stuck : length (ids_of plan) < turns
@@ -213,7 +213,7 @@ pub record IsFinished (plan : Plan) (stimuli : List CoreStimuli) (turns : ℕ) (
 
 -- What a worker hands back. Its report says what its items say, and they fit what was listed. Its calls are those that resulted in
 -- items, looks at the board, and refused calls of a spinlock that the core waited for. Its end of the mail sent what was posted and took
--- what was received, but for an envelope that the core could not take. Its core has ended exactly if it stopped for that; if it stopped
+-- what was received, but for a letter that the core could not take. Its core has ended exactly if it stopped for that; if it stopped
 -- since its turns changed nothing, it has stalled.
 pub record IsWorked {M : Type 0} (sent taken : M → Streams) (run : Run) (worked : Worked M) : Type 0 where
   pub own : IsOwn run.config.now worked.report

@@ -1,12 +1,13 @@
 //! What the workers of a run share.
 
+use crate::wakers::Wakers;
 use osbase::{CoreId, CoreStimuli};
 use osboard::Board;
 use osplan::Config;
 use osspin::SpinBank;
 
 /// What the workers of a run share: the configuration, the listed stimuli, the configured cores, ascending, the board,
-/// the spinlocks, and how many turns in a row may change nothing.
+/// the spinlocks, what wakes them, and how many turns in a row may change nothing.
 #[derive(Clone, Copy)]
 pub struct Run<'a> {
     pub config: &'a Config,
@@ -14,5 +15,6 @@ pub struct Run<'a> {
     pub cores: &'a [CoreId],
     pub board: &'a Board,
     pub bank: &'a SpinBank,
+    pub wakers: &'a Wakers,
     pub turns: u64,
 }

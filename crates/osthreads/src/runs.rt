@@ -1,6 +1,9 @@
 //! Runs of a configuration by threads.
 
 ghost use Rattle.std.specs.Prelude.{◌≡◌, ◌≤◌, [], IsTrue, IfOk, IfErr, OnOk, map, vec_len, vec_capacity};
+ghost use Rattle.osmail.specs.Rings.{AreCores, IsUnused, end_id};
+ghost use Rattle.osbase.specs.declared.limits.TheConstants.{MAILBOX};
+ghost use Rattle.osbase.specs.declared.messages.MailKind.TheVariants.{Locked};
 ghost use Rattle.std.specs.List.{AllByRecursion, list_all, list_any};
 ghost use Rattle.osplan.specs.Stimuli.{AreKnown};
 ghost use Rattle.osturn.specs.Fits.{ids_of};
@@ -8,18 +11,19 @@ ghost use Rattle.osturn.specs.Sound.{AreSound};
 ghost use Rattle.osthreads.specs.declared.ending.Ending.{Ending as EndingValue};
 ghost use Rattle.osthreads.specs.Runs.{AreFinished, IsOneCore, new_board, new_spins};
 ghost use Rattle.osthreads.specs.Seats.{first_seats, paired, shared};
-ghost use Rattle.osthreads.specs.Threads.{AreAllFinished, AreSettled, IsSettled};
+ghost use Rattle.osthreads.specs.Threads.{AreAllFinished, AreEndsFor, AreEquipped, AreSettled, IsSettled, ends_kept, equipped};
 ghost use Rattle.osthreads.specs.Working.{is_kept_by, is_short_of_memory};
 
-use crate::ending::Ending;
+use crate::ending::{Ending, Outfit};
 use crate::gates::Gate;
 use crate::run::Run;
 use crate::seats::Seats;
 use crate::threads::{Joined, run_all};
 use crate::turns::Stop;
-use osbase::{CoreId, List, MAILBOX, Report, Stimuli};
+use crate::wakers::Wakers;
+use osbase::{CoreId, List, MAILBOX, MailKind, Report, Stimuli};
 use osboard::{Board, BoardSeat};
-use osmail::LockedMail;
+use osmail::{LockedMail, RingEnd, RingMail};
 use osplan::Config;
 use osspin::{SpinBank, SpinSeat};
 use osturn::ids_of;
@@ -28,13 +32,6 @@ use std::collections::VecDeque;
 use std::sync::Wait;
 use std::thread::Threads;
 use thiserror::Error;
-
-/// How envelopes go from one core to another.
-#[derive(Clone, Copy, PartialEq, Eq)]
-pub enum MailKind {
-    /// Through mailboxes under locks.
-    Locked,
-}
 
 /// Why a threaded run is none.
 #[derive(Clone, Copy, Debug, PartialEq, Eq, Error)]
@@ -45,7 +42,7 @@ pub enum ThreadReason {
     /// A thread could not be started.
     #[error("a thread could not be started")]
     NoThread,
-    /// A core could not take an envelope, or what was taken and left is not what was sent.
+    /// A core could not take an envelope; or, through mailboxes under locks, what was taken and left is not what was sent.
     #[error("the mail between two cores broke")]
     MailBreak,
 }
@@ -66,17 +63,27 @@ struct Prepared {
     cores: Vec<CoreId>,
     board: Board,
     bank: SpinBank,
-    seats: Vec<Seats>,
-    mail: LockedMail<MAILBOX>,
+    mail: RunMail,
+    outfits: Vec<Outfit>,
     endings: Vec<Ending>,
     returned: Returned,
 }
 
-// What the threads' endings are parted into: the seats at the board, those at the spinlocks, and the reports.
+// The mail of a run: mailboxes under locks, of which each core makes its end, and rings, whose ends are made. One of the two
+// is empty.
+#[derive(Drop)]
+struct RunMail {
+    locked: LockedMail<MAILBOX>,
+    rings: RingMail<MAILBOX>,
+}
+
+// What the threads' endings are parted into: the seats at the board, those at the spinlocks, the ends of the rings, and the
+// reports.
 #[derive(Drop)]
 struct Returned {
     board: Vec<BoardSeat>,
     spins: Vec<SpinSeat>,
+    ends: Vec<RingEnd>,
     reports: Vec<Report>,
 }
 
@@ -85,11 +92,13 @@ impl Returned {
     fn new(alloc: Global, count: usize) -> Result<Self, AllocError>
         ensures board { IfOk result (λ r. (r.board.items ≡ []) × (count ≤ vec_capacity r.board)) }
         ensures spins { IfOk result (λ r. (r.spins.items ≡ []) × (count ≤ vec_capacity r.spins)) }
+        ensures ends { IfOk result (λ r. (r.ends.items ≡ []) × (count ≤ vec_capacity r.ends)) }
         ensures reports { IfOk result (λ r. (r.reports.items ≡ []) × (count ≤ vec_capacity r.reports)) }
     {
         Ok(Returned {
             board: Vec::with_capacity(alloc, count)?,
             spins: Vec::with_capacity(alloc, count)?,
+            ends: Vec::with_capacity(alloc, count)?,
             reports: Vec::with_capacity(alloc, count)?,
         })
     }
@@ -113,30 +122,74 @@ fn pair(
     Ok(seats)
 }
 
-fn prepare(alloc: Global, config: &Config) -> Result<Prepared, AllocError>
+// Each core's seats, with its end of the rings where there is one left.
+#[tactic(auto, using(crate::proofs::Outfits::equipped_more))]
+fn equip(alloc: Global, seats: Vec<Seats>, ends: Vec<RingEnd>) -> Result<Vec<Outfit>, AllocError>
+    ensures { IfOk result (λ outfits. outfits.items ≡ equipped seats.items ends.items) }
+{
+    let mut outfits = Vec::with_capacity(alloc, seats.len())?;
+    let mut left = VecDeque::from(ends);
+    for seats in seats {
+        let end = left.pop_front();
+        outfits.push(Outfit { seats, end })?;
+    }
+    Ok(outfits)
+}
+
+// The mail of a run of these cores, and their ends of it where it has rings.
+#[tactic(auto, using(crate::proofs::Outfits::ring_ends, crate::proofs::Outfits::no_ends, crate::proofs::Outfits::none_linked, crate::proofs::Outfits::none_unused))]
+fn mail_of(
+    alloc: Global,
+    kind: MailKind,
+    cores: &[CoreId],
+    cap: usize,
+) -> Result<(RunMail, Vec<RingEnd>), AllocError>
+    requires room { cap ≤ MAILBOX }
+    requires cores { AreCores cores.now }
+    ensures ends { IfOk result (λ r. map end_id r.1.items ≡ r.0.rings) }
+    ensures cores { IfOk result (λ r. AreEndsFor kind cores.now r.1.items) }
+    ensures unused { IfOk result (λ r. AllByRecursion IsUnused r.1.items) }
+{
+    match kind {
+        MailKind::Ring => {
+            let (rings, ends) = RingMail::new(alloc, cores, cap)?;
+            let locked = LockedMail::new(alloc, &[], cap)?;
+            Ok((RunMail { locked, rings }, ends))
+        }
+        MailKind::Locked => {
+            let locked = LockedMail::new(alloc, cores, cap)?;
+            let rings = RingMail::none(alloc);
+            Ok((RunMail { locked, rings }, Vec::new(alloc)))
+        }
+    }
+}
+
+fn prepare(alloc: Global, config: &Config, kind: MailKind) -> Result<Prepared, AllocError>
     ensures cores { IfOk result (λ p. p.cores.items ≡ ids_of config.now) }
     ensures board { IfOk result (λ p. p.board.plan ≡ new_board config.now) }
     ensures bank { IfOk result (λ p. p.bank.plan ≡ new_spins config.now) }
-    ensures seats { IfOk result (λ p. p.seats.items ≡ map (first_seats (shared p.board p.bank)) (ids_of config.now)) }
-    ensures endings { IfOk result (λ p. (p.endings.items ≡ []) × (vec_len p.seats ≤ vec_capacity p.endings)) }
-    ensures returned_board { IfOk result (λ p. (p.returned.board.items ≡ []) × (vec_len p.seats ≤ vec_capacity p.returned.board)) }
-    ensures returned_spins { IfOk result (λ p. (p.returned.spins.items ≡ []) × (vec_len p.seats ≤ vec_capacity p.returned.spins)) }
-    ensures returned_reports { IfOk result (λ p. (p.returned.reports.items ≡ []) × (vec_len p.seats ≤ vec_capacity p.returned.reports)) }
+    ensures outfits { IfOk result (λ p. AreEquipped kind (ids_of config.now) (shared p.board p.bank) p.mail.rings p.outfits.items) }
+    ensures endings { IfOk result (λ p. (p.endings.items ≡ []) × (vec_len p.outfits ≤ vec_capacity p.endings)) }
+    ensures returned_board { IfOk result (λ p. (p.returned.board.items ≡ []) × (vec_len p.outfits ≤ vec_capacity p.returned.board)) }
+    ensures returned_spins { IfOk result (λ p. (p.returned.spins.items ≡ []) × (vec_len p.outfits ≤ vec_capacity p.returned.spins)) }
+    ensures returned_ends { IfOk result (λ p. (p.returned.ends.items ≡ []) × (vec_len p.outfits ≤ vec_capacity p.returned.ends)) }
+    ensures returned_reports { IfOk result (λ p. (p.returned.reports.items ≡ []) × (vec_len p.outfits ≤ vec_capacity p.returned.reports)) }
 {
     let plan = config.plan();
     let cores = ids_of(alloc, plan)?;
     let (board, at_board) = Board::new(alloc, List::from_vec(ids_of(alloc, plan)?), plan.master)?;
     let (bank, at_spins) = SpinBank::new(alloc, List::from_vec(ids_of(alloc, plan)?))?;
     let seats = pair(alloc, at_board, at_spins)?;
-    let mail = LockedMail::new(alloc, cores.as_slice(), usize::from(plan.cap))?;
-    let endings = Vec::with_capacity(alloc, seats.len())?;
-    let returned = Returned::new(alloc, seats.len())?;
+    let (mail, ends) = mail_of(alloc, kind, cores.as_slice(), usize::from(plan.cap))?;
+    let outfits = equip(alloc, seats, ends)?;
+    let endings = Vec::with_capacity(alloc, outfits.len())?;
+    let returned = Returned::new(alloc, outfits.len())?;
     Ok(Prepared {
         cores,
         board,
         bank,
-        seats,
         mail,
+        outfits,
         endings,
         returned,
     })
@@ -161,9 +214,8 @@ pub fn run_threads<R: Threads + Wait + Sync, G: Gate + Sync>(
     ensures finished { IfOk result (λ reports. AreFinished config.now stimuli.now turns reports.items) }
     ensures fault { IfErr result (λ f. AllByRecursion (IsOneCore config.now stimuli.now) f.reports.items) }
 {
-    let MailKind::Locked = kind;
     let _plan = config.plan();
-    let Ok(prepared) = prepare(alloc, config) else {
+    let Ok(prepared) = prepare(alloc, config, kind) else {
         return Err(ThreadFault {
             reason: ThreadReason::NoMemory,
             reports: Vec::new(alloc),
@@ -173,43 +225,52 @@ pub fn run_threads<R: Threads + Wait + Sync, G: Gate + Sync>(
         cores,
         board,
         bank,
-        seats,
         mut mail,
+        outfits,
         endings,
         returned,
     } = prepared;
+    let wakers = Wakers::new();
     let run = Run {
         config,
         stimuli: stimuli.as_slice(),
         cores: cores.as_slice(),
         board: &board,
         bank: &bank,
+        wakers: &wakers,
         turns,
     };
-    let joined = run_all(rt, alloc, &run, seats, &mail, gate, endings);
-    let judged = judge(alloc, &mut mail, &joined);
+    let joined = run_all(rt, alloc, &run, outfits, &mail.locked, gate, endings);
+    let judged = judge(alloc, kind, &mut mail.locked, &joined);
     let Returned {
         board: at_board,
         spins: at_spins,
+        ends,
         reports,
     } = part(joined.endings, returned);
     match judged {
         Ok(()) => {
             board.gather(at_board);
             bank.gather(at_spins);
+            mail.rings.gather(ends);
             Ok(reports)
         }
         Err(reason) => Err(ThreadFault { reason, reports }),
     }
 }
 
-// Whether all threads ran, each worker went on until its core had ended or its turns changed nothing, and every envelope
-// that was sent was taken in its turn or is left.
+// Whether all threads ran and each worker went on until its core had ended or its turns changed nothing; and of mailboxes
+// under locks whether every envelope that was sent was taken in its turn or is left. Of rings that needs no test.
 #[tactic(auto, using(crate::proofs::Gathering::all_finished))]
-fn judge(alloc: Global, mail: &mut LockedMail<MAILBOX>, joined: &Joined) -> Result<(), ThreadReason>
+fn judge(
+    alloc: Global,
+    kind: MailKind,
+    mail: &mut LockedMail<MAILBOX>,
+    joined: &Joined,
+) -> Result<(), ThreadReason>
     ensures complete { OnOk result (IsTrue joined.now.complete) }
     ensures finished { OnOk result (AreAllFinished joined.now.endings.items) }
-    ensures settled { OnOk result (AreSettled joined.now.endings.items) }
+    ensures settled { OnOk result (kind ≡ Locked → AreSettled joined.now.endings.items) }
 {
     if !joined.complete {
         return Err(ThreadReason::NoThread);
@@ -221,7 +282,7 @@ fn judge(alloc: Global, mail: &mut LockedMail<MAILBOX>, joined: &Joined) -> Resu
     if !are_kept(endings) {
         return Err(ThreadReason::MailBreak);
     }
-    match all_settle(alloc, mail, endings) {
+    match is_delivered(alloc, kind, mail, endings) {
         Ok(true) => Ok(()),
         Ok(false) => Err(ThreadReason::MailBreak),
         Err(_) => Err(ThreadReason::NoMemory),
@@ -244,6 +305,22 @@ fn are_kept(endings: &[Ending]) -> bool
     endings
         .iter()
         .all(|ending| !matches!(ending.stop, Stop::Refused(_, _)))
+}
+
+// Of mailboxes under locks, whether what was taken and what is left is what was sent. Of rings that needs no comparison.
+#[tactic(auto, using(crate::proofs::Outfits::not_locked))]
+fn is_delivered(
+    alloc: Global,
+    kind: MailKind,
+    mail: &mut LockedMail<MAILBOX>,
+    endings: &[Ending],
+) -> Result<bool, AllocError>
+    ensures { IfOk result (λ b. IsTrue b → kind ≡ Locked → AreSettled endings.now) }
+{
+    match kind {
+        MailKind::Ring => Ok(true),
+        MailKind::Locked => all_settle(alloc, mail, endings),
+    }
 }
 
 // Whether what each core took of each, and then what is left, is what that one sent to it.
@@ -271,48 +348,68 @@ fn settles_with(
 ) -> Result<bool, AllocError>
     ensures { IfOk result (λ b. IsTrue b → AllByRecursion (IsSettled sender.now) receivers.now) }
 {
-    let from = sender.report.core;
     for receiver in receivers {
-        let to = receiver.report.core;
-        let Some(left) = mail.left(from, to) else {
-            return Ok(false);
-        };
-        let (sent, taken) = (sender.steps.as_slice(), receiver.steps.as_slice());
-        if !left.settles(alloc, from, sent, to, taken)? {
+        if !settles_one(alloc, mail, sender, receiver)? {
             return Ok(false);
         }
     }
     Ok(true)
 }
 
-// The seats and the reports, in vectors that have room for them.
+// Whether it is so of what one core sent to one.
+#[tactic(auto, using(crate::proofs::Outfits::settled_by))]
+fn settles_one(
+    alloc: Global,
+    mail: &mut LockedMail<MAILBOX>,
+    sender: &Ending,
+    receiver: &Ending,
+) -> Result<bool, AllocError>
+    ensures { IfOk result (λ b. IsTrue b → IsSettled sender.now receiver.now) }
+{
+    let (Some(sent), Some(taken)) = (sender.kept.steps(), receiver.kept.steps()) else {
+        return Ok(false);
+    };
+    let (from, to) = (sender.report.core, receiver.report.core);
+    let Some(left) = mail.left(from, to) else {
+        return Ok(false);
+    };
+    left.settles(alloc, from, sent, to, taken)
+}
+
+// The seats, the ends of the rings and the reports, in vectors that have room for them.
+#[tactic(auto, using(crate::proofs::Outfits::kept_more))]
 fn part(endings: Vec<Ending>, returned: Returned) -> Returned
     requires board { (returned.board.items ≡ []) × (vec_len endings ≤ vec_capacity returned.board) }
     requires spins { (returned.spins.items ≡ []) × (vec_len endings ≤ vec_capacity returned.spins) }
+    requires ends { (returned.ends.items ≡ []) × (vec_len endings ≤ vec_capacity returned.ends) }
     requires reports { (returned.reports.items ≡ []) × (vec_len endings ≤ vec_capacity returned.reports) }
     ensures board { result.board.items ≡ map (λ (e : EndingValue). e.seats.board) endings.items }
     ensures spins { result.spins.items ≡ map (λ (e : EndingValue). e.seats.spins) endings.items }
+    ensures ends { result.ends.items ≡ ends_kept endings.items }
     ensures reports { result.reports.items ≡ map (λ (e : EndingValue). e.report) endings.items }
 {
     let Returned {
         mut board,
         mut spins,
+        mut ends,
         mut reports,
     } = returned;
     for ending in endings {
         let Ending {
             report,
             seats,
-            steps: _,
+            kept,
             stop: _,
         } = ending;
         board.push_reserved(seats.board);
         spins.push_reserved(seats.spins);
+        kept.put_end(&mut ends);
         reports.push_reserved(report);
     }
     Returned {
         board,
         spins,
+        ends,
         reports,
     }
 }

@@ -49,6 +49,7 @@ impl<'a, M: Mail> Shift<'a, M> {
         ensures id { self.new.worker.core.id ≡ self.old.worker.core.id }
         ensures at { self.new.at ≡ self.old.at }
         ensures fruitless { self.new.fruitless ≡ self.old.fruitless }
+        ensures which { M.which self.new.worker.mail ≡ M.which self.old.worker.mail }
     {
         let cores = self.worker.run.cores.len();
         if self.at >= cores {
@@ -74,12 +75,31 @@ impl<'a, M: Mail> Shift<'a, M> {
         };
     }
 
+    // At the end of a round that changed nothing, as those before it, the worker may sleep.
+    fn rest<R: Wait>(&self, rt: &R) {
+        if self.at == 0 {
+            let run = self.worker.run;
+            let round = run.cores.len() as u64 + 1;
+            run.wakers
+                .rest(rt, self.worker.core.id, self.fruitless / round);
+        }
+    }
+
+    // Wakes whom the item that was taken last may concern.
+    fn tell(&self) {
+        if let Some(item) = self.worker.core.items.last() {
+            let run = self.worker.run;
+            run.wakers.tell(run.cores, self.worker.core.id, item);
+        }
+    }
+
     // One turn more, and why the worker stops, if it does.
-    fn go_on<G: Gate>(&mut self, gate: &G) -> Option<Stop>
+    fn go_on<R: Wait, G: Gate>(&mut self, rt: &R, gate: &G) -> Option<Stop>
         ensures none { IfNone result ((stimuli : List CoreStimuliValue) → IsGoing M.sent M.taken stimuli self.old → IsGoing M.sent M.taken stimuli self.new) }
         ensures some { IfSome result (λ stop. (stimuli : List CoreStimuliValue) → IsGoing M.sent M.taken stimuli self.old → IsStopped M.sent M.taken stimuli stop self.new) }
         ensures run { self.new.worker.run ≡ self.old.worker.run }
         ensures id { self.new.worker.core.id ≡ self.old.worker.core.id }
+        ensures which { M.which self.new.worker.mail ≡ M.which self.old.worker.mail }
     {
         if self.fruitless >= self.worker.run.turns {
             return Some(Stop::Stalled);
@@ -92,6 +112,7 @@ impl<'a, M: Mail> Shift<'a, M> {
             Turned::Took => {
                 self.fruitless = 0;
                 self.go_round();
+                self.tell();
                 if self.worker.core.has_ended() {
                     return Some(Stop::Ended);
                 }
@@ -101,9 +122,10 @@ impl<'a, M: Mail> Shift<'a, M> {
                 self.fruitless += 1;
                 self.go_round();
                 gate.idle(self.worker.core.id);
+                self.rest(rt);
                 None
             }
-            Turned::Refused(from, envelope) => Some(Stop::Refused(from, envelope)),
+            Turned::Refused(from, letter) => Some(Stop::Refused(from, letter)),
         }
     }
 
@@ -149,6 +171,7 @@ pub fn core_worker<'a, R: Wait, M: Mail, G: Gate>(
     ensures worked { IsWorked M.sent M.taken run.now result }
     ensures core { result.report.core ≡ seats.board.core }
     ensures seats { AreAt (shared run.now.board.now run.now.bank.now) seats.board.core result.seats }
+    ensures which { M.which result.mail ≡ M.which mail }
 {
     let _plan = run.config.plan();
     let core = Seat::new(alloc, run.config, seats.board.core(), run.stimuli);
@@ -163,7 +186,7 @@ pub fn core_worker<'a, R: Wait, M: Mail, G: Gate>(
         fruitless: 0,
     };
     for _ in rt.forever() {
-        if let Some(stop) = shift.go_on(gate) {
+        if let Some(stop) = shift.go_on(rt, gate) {
             return shift.hand_back(stop);
         }
     }

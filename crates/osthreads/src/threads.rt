@@ -1,19 +1,19 @@
 //! A worker for each configured core, each on a thread of its own.
 
 ghost use Rattle.std.specs.Option.{option_to_list};
-ghost use Rattle.std.specs.Prelude.{◌≡◌, ◌++◌, ◌+◌, ◌≤◌, length, [], IsTrue, IfNone, IfSome, vec_len, vec_capacity};
-ghost use Rattle.osthreads.specs.Seats.{seats_cores, shared};
-ghost use Rattle.osthreads.specs.Threads.{AreAlone, AreEnded, AreReady, IsEnded, IsReady};
+ghost use Rattle.std.specs.Prelude.{◌≡◌, ◌++◌, ◌+◌, ◌≤◌, length, map, [], IsTrue, IfNone, IfSome, None, Some, vec_len, vec_capacity};
+ghost use Rattle.osthreads.specs.Seats.{shared};
+ghost use Rattle.osthreads.specs.Threads.{AreAlone, AreEnded, AreReady, IsEnded, IsReady, IsSameEnd, end_kept, end_of, outfit_cores};
 
-use crate::ending::{EndOf, Ending};
+use crate::ending::{EndOf, Ending, Kept, Outfit};
 use crate::gates::Gate;
 use crate::run::Run;
 use crate::seats::Seats;
 use crate::shifts::core_worker;
-use crate::worker::Worked;
 use osbase::MAILBOX;
-use osmail::LockedMail;
+use osmail::{LockedMail, RingEnd};
 use std::alloc::Global;
+use std::snapshot::Snapshot;
 use std::sync::Wait;
 use std::thread;
 use std::thread::{PromisedHandle, Scope, Threads};
@@ -25,30 +25,71 @@ pub struct Joined {
     pub complete: bool,
 }
 
-// What one thread does.
+// What one thread does: the core works with its end of the rings, if it was given one, or else with an end of the mailboxes
+// under locks.
+#[tactic(auto, using(crate::proofs::Outfits::ready_with, crate::proofs::Outfits::same_given))]
 fn work<R: Wait, G: Gate>(
     rt: &R,
     alloc: Global,
     run: &Run<'_>,
-    seats: Seats,
-    mail: &LockedMail<MAILBOX>,
+    outfit: Outfit,
+    locked: &LockedMail<MAILBOX>,
     gate: &G,
 ) -> Ending
-    requires { IsReady run.now.config.now run.now.cores.now (shared run.now.board.now run.now.bank.now) seats }
-    ensures { IsEnded run.now.config.now run.now.stimuli.now run.now.turns (shared run.now.board.now run.now.bank.now) seats.board.core result }
+    requires { IsReady run.now.config.now run.now.cores.now (shared run.now.board.now run.now.bank.now) outfit }
+    ensures ended { IsEnded run.now.config.now run.now.stimuli.now run.now.turns (shared run.now.board.now run.now.bank.now) outfit.seats.board.core result }
+    ensures end { IsSameEnd outfit.end result.kept }
 {
-    let end = mail.end(rt, alloc, seats.board.core());
-    let Worked {
-        report,
-        seats,
-        mail,
-        stop,
-    } = core_worker(rt, alloc, run, seats, end, gate);
+    let Outfit { seats, end } = outfit;
+    match end {
+        Some(end) => work_by_ring(rt, alloc, run, seats, end, gate),
+        None => work_by_locks(rt, alloc, run, seats, locked, gate),
+    }
+}
+
+// The core works with this end of the rings, which comes back.
+fn work_by_ring<R: Wait, G: Gate>(
+    rt: &R,
+    alloc: Global,
+    run: &Run<'_>,
+    seats: Seats,
+    end: RingEnd,
+    gate: &G,
+) -> Ending
+    requires { IsReady run.now.config.now run.now.cores.now (shared run.now.board.now run.now.bank.now) (record { seats = seats; end = Some end }) }
+    ensures ended { IsEnded run.now.config.now run.now.stimuli.now run.now.turns (shared run.now.board.now run.now.bank.now) seats.board.core result }
+    ensures end { IsSameEnd (Some end) result.kept }
+{
+    let worked = core_worker(rt, alloc, run, seats, end, gate);
     Ending {
-        report,
-        seats,
-        steps: mail.into_steps(),
-        stop,
+        report: worked.report,
+        seats: worked.seats,
+        kept: Kept::Rings(worked.mail),
+        stop: worked.stop,
+    }
+}
+
+// The core works with an end of the mailboxes under locks, whose record comes back.
+fn work_by_locks<R: Wait, G: Gate>(
+    rt: &R,
+    alloc: Global,
+    run: &Run<'_>,
+    seats: Seats,
+    locked: &LockedMail<MAILBOX>,
+    gate: &G,
+) -> Ending
+    requires { IsReady run.now.config.now run.now.cores.now (shared run.now.board.now run.now.bank.now) (record { seats = seats; end = None }) }
+    ensures ended { IsEnded run.now.config.now run.now.stimuli.now run.now.turns (shared run.now.board.now run.now.bank.now) seats.board.core result }
+    ensures end { IsSameEnd None result.kept }
+{
+    let end = locked.end(rt, alloc, seats.board.core());
+    let worked = core_worker(rt, alloc, run, seats, end, gate);
+    let steps = worked.mail.into_steps();
+    Ending {
+        report: worked.report,
+        seats: worked.seats,
+        kept: Kept::Steps(steps),
+        stop: worked.stop,
     }
 }
 
@@ -58,15 +99,16 @@ fn start<'s, E, R: Threads + Wait + Sync, G: Gate + Sync>(
     scope: &Scope<'s, E>,
     alloc: Global,
     run: &Run<'s>,
-    seats: Seats,
-    mail: &'s LockedMail<MAILBOX>,
+    outfit: Outfit,
+    locked: &'s LockedMail<MAILBOX>,
     gate: &'s G,
 ) -> Option<PromisedHandle<Ending, EndOf<'s>>>
-    requires { IsReady run.now.config.now run.now.cores.now (shared run.now.board.now run.now.bank.now) seats }
+    requires { IsReady run.now.config.now run.now.cores.now (shared run.now.board.now run.now.bank.now) outfit }
     ensures run { IfSome result (λ h. h.promise.run ≡ run.now) }
-    ensures id { IfSome result (λ h. h.promise.id ≡ seats.board.core) }
+    ensures id { IfSome result (λ h. h.promise.id ≡ outfit.seats.board.core) }
+    ensures end { IfSome result (λ h. h.promise.end.value ≡ outfit.end) }
 {
-    let id = seats.board.core();
+    let id = outfit.seats.board.core();
     if !gate.starts(id) {
         return None;
     }
@@ -76,12 +118,14 @@ fn start<'s, E, R: Threads + Wait + Sync, G: Gate + Sync>(
         cores,
         board,
         bank,
+        wakers,
         turns,
     } = *run;
+    let end = Snapshot::of(&outfit.end);
     // The closure captures the parts of the run. Of one that captures a type with lifetimes no clause is known outside.
     let job = move || -> Ending
-        requires { IsReady config.now cores.now (shared board.now bank.now) seats }
-        ensures { IsEnded config.entry.now stimuli.entry.now turns (shared board.entry.now bank.entry.now) seats.board.core result }
+        requires { IsReady config.now cores.now (shared board.now bank.now) outfit }
+        ensures { IsEnded config.entry.now stimuli.entry.now turns (shared board.entry.now bank.entry.now) outfit.seats.board.core result × IsSameEnd outfit.end result.kept }
     {
         let run = Run {
             config,
@@ -89,76 +133,79 @@ fn start<'s, E, R: Threads + Wait + Sync, G: Gate + Sync>(
             cores,
             board,
             bank,
+            wakers,
             turns,
         };
-        work(rt, alloc, &run, seats, mail, gate)
+        work(rt, alloc, &run, outfit, locked, gate)
     };
-    match scope.spawn_with(EndOf { run: *run, id }, job) {
+    match scope.spawn_with(EndOf { run: *run, id, end }, job) {
         Ok(handle) => Some(handle),
         Err(_) => None,
     }
 }
 
-// The last core's seats, which are ready as all of them are.
-fn last_seats(run: &Run<'_>, seats: &mut Vec<Seats>) -> Option<Seats>
-    requires { AreReady run.now.config.now run.now.cores.now (shared run.now.board.now run.now.bank.now) seats.old.items }
-    ensures seats { IfSome result (λ last. IsReady run.now.config.now run.now.cores.now (shared run.now.board.now run.now.bank.now) last) }
-    ensures none { IfNone result (seats.old.items ≡ []) }
-    ensures rest { AreReady run.now.config.now run.now.cores.now (shared run.now.board.now run.now.bank.now) seats.new.items }
-    ensures items { seats.old.items ≡ seats.new.items ++ option_to_list result }
-    ensures len { vec_len seats.new + length (option_to_list result) ≡ vec_len seats.old }
+// The last core's outfit, which is ready as all of them are.
+fn last_outfit(run: &Run<'_>, outfits: &mut Vec<Outfit>) -> Option<Outfit>
+    requires { AreReady run.now.config.now run.now.cores.now (shared run.now.board.now run.now.bank.now) outfits.old.items }
+    ensures outfit { IfSome result (λ last. IsReady run.now.config.now run.now.cores.now (shared run.now.board.now run.now.bank.now) last) }
+    ensures none { IfNone result (outfits.old.items ≡ []) }
+    ensures rest { AreReady run.now.config.now run.now.cores.now (shared run.now.board.now run.now.bank.now) outfits.new.items }
+    ensures items { outfits.old.items ≡ outfits.new.items ++ option_to_list result }
+    ensures len { vec_len outfits.new + length (option_to_list result) ≡ vec_len outfits.old }
 {
     let _run = run;
-    seats.pop()
+    outfits.pop()
 }
 
-// Starts a thread for each core's seats, the last one first, and then joins them. It says whether each could be started, and
+// Starts a thread for each core's outfit, the last one first, and then joins them. It says whether each could be started, and
 // starts no more where one could not.
 fn run_each<'s, E, R: Threads + Wait + Sync, G: Gate + Sync>(
     rt: &'s R,
     scope: &Scope<'s, E>,
     alloc: Global,
     run: &Run<'s>,
-    seats: &mut Vec<Seats>,
-    mail: &'s LockedMail<MAILBOX>,
+    outfits: &mut Vec<Outfit>,
+    locked: &'s LockedMail<MAILBOX>,
     gate: &'s G,
     endings: &mut Vec<Ending>,
 ) -> bool
-    requires ready { AreReady run.now.config.now run.now.cores.now (shared run.now.board.now run.now.bank.now) seats.old.items }
+    requires ready { AreReady run.now.config.now run.now.cores.now (shared run.now.board.now run.now.bank.now) outfits.old.items }
     requires empty { endings.old.items ≡ [] }
-    requires room { vec_len seats.old ≤ vec_capacity endings.old }
-    ensures ended { IsTrue result → AreEnded run.now.config.now run.now.stimuli.now run.now.turns (shared run.now.board.now run.now.bank.now) (seats_cores seats.old.items) endings.new.items }
+    requires room { vec_len outfits.old ≤ vec_capacity endings.old }
+    ensures ended { IsTrue result → AreEnded run.now.config.now run.now.stimuli.now run.now.turns (shared run.now.board.now run.now.bank.now) (outfit_cores outfits.old.items) endings.new.items }
+    ensures ends { IsTrue result → map end_kept endings.new.items ≡ map end_of outfits.old.items }
     ensures alone { AreAlone run.now.config.now run.now.stimuli.now endings.new.items }
-    ensures len { vec_len endings.new ≤ vec_len seats.old }
+    ensures len { vec_len endings.new ≤ vec_len outfits.old }
     ensures capacity { vec_capacity endings.new ≡ vec_capacity endings.old }
 {
-    let Some(last) = last_seats(run, seats) else {
+    let Some(last) = last_outfit(run, outfits) else {
         return true;
     };
-    let Some(handle) = start(rt, scope, alloc, run, last, mail, gate) else {
+    let Some(handle) = start(rt, scope, alloc, run, last, locked, gate) else {
         return false;
     };
-    let complete = run_each(rt, scope, alloc, run, seats, mail, gate, endings);
+    let complete = run_each(rt, scope, alloc, run, outfits, locked, gate, endings);
     endings.push_reserved(handle.join(rt));
     complete
 }
 
-/// Runs a worker for each core's seats, each on a thread of its own, and joins all of them.
+/// Runs a worker for each core's outfit, each on a thread of its own, and joins all of them.
 pub(crate) fn run_all<R: Threads + Wait + Sync, G: Gate + Sync>(
     rt: &R,
     alloc: Global,
     run: &Run<'_>,
-    seats: Vec<Seats>,
-    mail: &LockedMail<MAILBOX>,
+    outfits: Vec<Outfit>,
+    locked: &LockedMail<MAILBOX>,
     gate: &G,
     endings: Vec<Ending>,
 ) -> Joined
-    requires ready { AreReady run.now.config.now run.now.cores.now (shared run.now.board.now run.now.bank.now) seats.items }
+    requires ready { AreReady run.now.config.now run.now.cores.now (shared run.now.board.now run.now.bank.now) outfits.items }
     requires empty { endings.items ≡ [] }
-    requires room { vec_len seats ≤ vec_capacity endings }
-    ensures ended { IsTrue result.complete → AreEnded run.now.config.now run.now.stimuli.now run.now.turns (shared run.now.board.now run.now.bank.now) (seats_cores seats.items) result.endings.items }
+    requires room { vec_len outfits ≤ vec_capacity endings }
+    ensures ended { IsTrue result.complete → AreEnded run.now.config.now run.now.stimuli.now run.now.turns (shared run.now.board.now run.now.bank.now) (outfit_cores outfits.items) result.endings.items }
+    ensures ends { IsTrue result.complete → map end_kept result.endings.items ≡ map end_of outfits.items }
     ensures alone { AreAlone run.now.config.now run.now.stimuli.now result.endings.items }
-    ensures len { vec_len result.endings ≤ vec_len seats }
+    ensures len { vec_len result.endings ≤ vec_len outfits }
 {
     let Run {
         config,
@@ -166,18 +213,20 @@ pub(crate) fn run_all<R: Threads + Wait + Sync, G: Gate + Sync>(
         cores,
         board,
         bank,
+        wakers,
         turns,
     } = *run;
     thread::scope(
         thread::scope_env(),
         rt,
         |scope| -> Joined
-            requires ready { AreReady config.now cores.now (shared board.now bank.now) seats.items }
+            requires ready { AreReady config.now cores.now (shared board.now bank.now) outfits.items }
             requires empty { endings.items ≡ [] }
-            requires room { vec_len seats ≤ vec_capacity endings }
-            ensures ended { IsTrue result.complete → AreEnded config.entry.now stimuli.entry.now turns (shared board.entry.now bank.entry.now) (seats_cores seats.items) result.endings.items }
+            requires room { vec_len outfits ≤ vec_capacity endings }
+            ensures ended { IsTrue result.complete → AreEnded config.entry.now stimuli.entry.now turns (shared board.entry.now bank.entry.now) (outfit_cores outfits.items) result.endings.items }
+            ensures ends { IsTrue result.complete → map end_kept result.endings.items ≡ map end_of outfits.items }
             ensures alone { AreAlone config.entry.now stimuli.entry.now result.endings.items }
-            ensures len { vec_len result.endings ≤ vec_len seats }
+            ensures len { vec_len result.endings ≤ vec_len outfits }
         {
             let run = Run {
                 config,
@@ -185,11 +234,21 @@ pub(crate) fn run_all<R: Threads + Wait + Sync, G: Gate + Sync>(
                 cores,
                 board,
                 bank,
+                wakers,
                 turns,
             };
-            let mut seats = seats;
+            let mut outfits = outfits;
             let mut endings = endings;
-            let complete = run_each(rt, scope, alloc, &run, &mut seats, mail, gate, &mut endings);
+            let complete = run_each(
+                rt,
+                scope,
+                alloc,
+                &run,
+                &mut outfits,
+                locked,
+                gate,
+                &mut endings,
+            );
             Joined { endings, complete }
         },
     )

@@ -1,6 +1,6 @@
 //! What a worker's turn did, and why a worker stopped.
 
-use osbase::{CoreId, Envelope};
+use osbase::{CoreId, Letter};
 
 /// What a turn did.
 #[derive(Clone, Copy)]
@@ -9,8 +9,8 @@ pub enum Turned {
     Took,
     /// Nothing changed. At most the turn looked at the board, or tried a mailbox.
     Nothing,
-    /// An envelope was taken from this core that the own core could not take.
-    Refused(CoreId, Envelope),
+    /// This letter was taken from that core, and the own core could not take it.
+    Refused(CoreId, Letter),
 }
 
 /// Why a worker stopped.
@@ -22,6 +22,6 @@ pub enum Stop {
     Stalled,
     /// An allocation failed before a turn.
     NoMemory,
-    /// An envelope was taken from this core that the own core could not take.
-    Refused(CoreId, Envelope),
+    /// This letter was taken from that core, and the own core could not take it.
+    Refused(CoreId, Letter),
 }

@@ -37,6 +37,7 @@ impl<'a, M: Mail> Worker<'a, M> {
         ensures stimuli { self.new.core.stimuli ≡ self.old.core.stimuli }
         ensures run { self.new.run ≡ self.old.run }
         ensures id { self.new.core.id ≡ self.old.core.id }
+        ensures which { M.which self.new.mail ≡ M.which self.old.mail }
     {
         self.core.make_room()?;
         self.mail.room()
@@ -51,6 +52,7 @@ impl<'a, M: Mail> Worker<'a, M> {
         ensures core { UnlessTook result (self.new.core ≡ self.old.core) }
         ensures run { self.new.run ≡ self.old.run }
         ensures id { self.new.core.id ≡ self.old.core.id }
+        ensures which { M.which self.new.mail ≡ M.which self.old.mail }
     {
         if !self.core.kernel.may_serve() {
             return Turned::Nothing;
@@ -60,11 +62,11 @@ impl<'a, M: Mail> Worker<'a, M> {
         };
         let item = Item::Received {
             from,
-            number: envelope.number,
-            message: envelope.message,
+            number: envelope.letter.number,
+            message: envelope.letter.message,
         };
         if !self.core.kernel.may_take(&item) {
-            return Turned::Refused(from, envelope);
+            return Turned::Refused(from, envelope.letter);
         }
         self.core.take(item);
         Turned::Took
@@ -80,6 +82,7 @@ impl<'a, M: Mail> Worker<'a, M> {
         ensures stuck { UnlessTook result (HasNoWork self.old) }
         ensures run { self.new.run ≡ self.old.run }
         ensures id { self.new.core.id ≡ self.old.core.id }
+        ensures which { M.which self.new.mail ≡ M.which self.old.mail }
     {
         let Some(ask) = self.core.asked(self.run.config.plan(), Choice::Own) else {
             return Turned::Nothing;
@@ -102,6 +105,7 @@ impl<'a, M: Mail> Worker<'a, M> {
         ensures core { UnlessTook result (self.new.core ≡ self.old.core) }
         ensures run { self.new.run ≡ self.old.run }
         ensures id { self.new.core.id ≡ self.old.core.id }
+        ensures which { M.which self.new.mail ≡ M.which self.old.mail }
     {
         match look_asked(self.core.kernel.watch()) {
             Ask::OfBoard(call) => self.load_board(call),
@@ -120,6 +124,7 @@ impl<'a, M: Mail> Worker<'a, M> {
         ensures core { UnlessTook result (self.new.core ≡ self.old.core) }
         ensures run { self.new.run ≡ self.old.run }
         ensures id { self.new.core.id ≡ self.old.core.id }
+        ensures which { M.which self.new.mail ≡ M.which self.old.mail }
     {
         let answer = Answer::Replied(self.run.board.call(&mut self.seats.board, call));
         let Some(item) = self.core.named(Ask::OfBoard(call), &answer) else {
@@ -144,6 +149,7 @@ impl<'a, M: Mail> Worker<'a, M> {
         ensures stuck { UnlessTook result ((answer : AnswerValue) → MayAnswer self.old.core.id (OfBoard call) answer → IsFruitless self.old.core.id self.old.core.kernel (OfBoard call) answer) }
         ensures run { self.new.run ≡ self.old.run }
         ensures id { self.new.core.id ≡ self.old.core.id }
+        ensures which { M.which self.new.mail ≡ M.which self.old.mail }
     {
         if !self.core.kernel.may_take(&item_of_call(self.core.id, call)) {
             return Turned::Nothing;
@@ -169,6 +175,7 @@ impl<'a, M: Mail> Worker<'a, M> {
         ensures called { UnlessTook result ((takes_in outbox_size self.old.core.kernel (item_of_wish wish) ≡ false) ⊎ Extends spinlocks self.old.seats.spins (entry self.old.core.id (spin_call_of wish) (Answered false)) self.new.seats.spins) }
         ensures run { self.new.run ≡ self.old.run }
         ensures id { self.new.core.id ≡ self.old.core.id }
+        ensures which { M.which self.new.mail ≡ M.which self.old.mail }
     {
         if !self.core.kernel.may_take(&item_of_wish(wish)) {
             return Turned::Nothing;
@@ -195,6 +202,7 @@ impl<'a, M: Mail> Worker<'a, M> {
         ensures core { UnlessTook result (self.new.core ≡ self.old.core) }
         ensures run { self.new.run ≡ self.old.run }
         ensures id { self.new.core.id ≡ self.old.core.id }
+        ensures which { M.which self.new.mail ≡ M.which self.old.mail }
     {
         let posted = Item::Posted(to);
         if !self.core.kernel.may_take(&posted) {
@@ -222,6 +230,7 @@ impl<'a, M: Mail> Worker<'a, M> {
         ensures stuck { UnlessTook result (IsFruitless self.old.core.id self.old.core.kernel ask Unasked) }
         ensures run { self.new.run ≡ self.old.run }
         ensures id { self.new.core.id ≡ self.old.core.id }
+        ensures which { M.which self.new.mail ≡ M.which self.old.mail }
     {
         let Some(item) = self.core.named(ask, &Answer::Unasked) else {
             return Turned::Nothing;

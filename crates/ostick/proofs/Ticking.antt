@@ -31,7 +31,7 @@ total-more f place =
     ∙ ap (sum_by f) (numbers-more 0 place ∙ ap (λ (n : ℕ). numbers_from 0 place ++ n ∷ []) (let same : 0 + place ≡ place = omega arith in same))
     ∙ sum_by_push f (numbers_from 0 place) place
 
--- The alarms and the tables of the counter at a place, and how many envelopes they may add to the outbox.
+-- The alarms and the tables of the counter at a place, and how many letters they may add to the outbox.
 abbrev pub alarms_at : Core → ℕ → ℕ
 alarms_at core n = length (attached_to core (counter_ref core n))
 

@@ -13,7 +13,7 @@ use osplan::Protection;
 use osstate::CoreState;
 
 /// The running job is looked at, if there is one: where it has used up a budget, ProtectionHook is called once, and then it ends, or the
-/// core goes down (AUTOSAR SWS OS 4.x, section 8.6.1 and ProtectionReturnType). No envelope joins the outbox.
+/// core goes down (AUTOSAR SWS OS 4.x, section 8.6.1 and ProtectionReturnType). No letter joins the outbox.
 pub(crate) fn protect<const P: usize, const J: usize, const OUT: usize>(
     state: &mut CoreState<'_, P, J, OUT>,
     marks: &mut Vec<Mark>,

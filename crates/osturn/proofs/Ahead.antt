@@ -158,7 +158,7 @@ module _ (v : View) (ids : List CoreId) (allowed : NamesAllow v nobody) where
     abbrev here : History → History
     here k = among s (base_of v.around.is_master) k
 
-    -- A live core that is started, in the world and alone, without an open call or an envelope.
+    -- A live core that is started, in the world and alone, without an open call or a letter.
     record Steady (k : History) : Type 0 where
       pub live : phase_at self k ≡ Phase.Live
       pub calm : Calm k

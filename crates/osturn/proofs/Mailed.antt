@@ -6,14 +6,14 @@ use Rattle.std.specs.Option.{option_map_or}
 use Rattle.std.proofs.lemmas.Bool.{and_parts, and_from, false≢true, not-true, not_from_false, or_left, or_right}
 use Rattle.std.proofs.lemmas.List.Folds.{list_all-append}
 use Rattle.osbase.specs.declared.references.CoreId.{CoreId}
-use Rattle.osbase.specs.declared.messages.Envelope.{Envelope}
+use Rattle.osbase.specs.declared.messages.Letter.{Letter}
 use Rattle.osbase.specs.declared.messages.Message.{Message}
 use Rattle.osbase.specs.declared.statuses.Status.{Status}
 use Rattle.osbase.specs.declared.items.Item.{Item}
 use Rattle.osbase.specs.declared.histories.OpenCall.{OpenCall}
 use Rattle.osbase.specs.declared.histories.Sent.{Sent}
 use Rattle.osbase.specs.Answers.{reply}
-use Rattle.osbase.specs.History.{Entry, History, Took, Noted, Opened, Queued, front_envelope, outbox, posted, queued_count, received, same_core, envelope_with}
+use Rattle.osbase.specs.History.{Entry, History, Took, Noted, Opened, Queued, front_letter, outbox, posted, queued_count, received, same_core, letter_with}
 use Rattle.osbase.specs.Phases.{is_scheduling}
 use Rattle.osbase.proofs.Same.{same_core-true, same_core-refl}
 use Rattle.osplan.specs.View.{View}
@@ -32,8 +32,8 @@ use Rattle.osturn.specs.Fits.{IsBeginning}
 use Rattle.osturn.proofs.Beginnings.{begins-all_pass, begins-itself, begins-longer, begins-through}
 use Rattle.osturn.proofs.Streams.{is_post_to, posted-after}
 
--- An envelope that replies.
-abbrev pub is_reply : Envelope → Bool
+-- A letter that replies.
+abbrev pub is_reply : Letter → Bool
 is_reply e = by e.message
   where
     by : Message → Bool
@@ -41,7 +41,7 @@ is_reply e = by e.message
     by (Message.Value s n) = true
     by message = false
 
-replies-pass : (s : Status) (value : Option ℤ) (number : ℕ) → is_reply (envelope_with number (reply s value)) ≡ true
+replies-pass : (s : Status) (value : Option ℤ) (number : ℕ) → is_reply (letter_with number (reply s value)) ≡ true
 replies-pass s None number = refl
 replies-pass s (Some n) number = refl
 
@@ -49,7 +49,7 @@ replies-pass s (Some n) number = refl
 
 -- Nothing for this core but a reply.
 abbrev is_meek : CoreId → Sent → Bool
-is_meek c s = not (same_core s.to c) || is_reply s.envelope
+is_meek c s = not (same_core s.to c) || is_reply s.letter
 
 abbrev Meek : CoreId → History → Type 0
 Meek c h = list_all (is_meek c) (outbox h) ≡ true
@@ -65,7 +65,7 @@ meek-took c i h all = all
 meek-local : (c : CoreId) (e : Entry) (h : History) → is_local anybody e ≡ true → Meek c h → Meek c (e ∷ h)
 meek-local c (Took item) h is p = absurd (false≢true is)
 meek-local c (Noted (Opened call)) h is p = absurd (false≢true is)
-meek-local c (Noted (Queued core envelope)) h is p = absurd (false≢true is)
+meek-local c (Noted (Queued core letter)) h is p = absurd (false≢true is)
 meek-local c e h is p = p
 
 meek-holds : (c : CoreId) → Holds (all_but c) anybody anybody (Meek c)
@@ -80,16 +80,16 @@ module _ (c : CoreId) (v : View) (allowed : NamesAllow v (all_but c)) where
   posted-on : (h : History) (i : Item) → admits outbox_size (state_of v h) i ≡ true → Meek c h → list_all is_reply (posted c h) ≡ true → list_all is_reply (posted c (after v h i)) ≡ true
   posted-on h i taken meek all = ap (list_all is_reply) (posted-after v c i h) ∙ by i taken
     where
-      front : (to : CoreId) (ss : List Sent) → is_front_for to ss ≡ true → list_all (is_meek c) ss ≡ true → same_core to c ≡ true → list_all is_reply (front_envelope ss) ≡ true
+      front : (to : CoreId) (ss : List Sent) → is_front_for to ss ≡ true → list_all (is_meek c) ss ≡ true → same_core to c ≡ true → list_all is_reply (front_letter ss) ≡ true
       front to [] f m e = absurd (false≢true f)
       front to (s ∷ ss) f m e =
           let mine : same_core s.to c ≡ true = subst (λ (core : CoreId). same_core core c ≡ true) (sym (same_core-true s.to to f)) e in
-          and_from _ _ (subst (λ (b : Bool). (not b || is_reply s.envelope) ≡ true) mine (and_parts (is_meek c s) (list_all (is_meek c) ss) m).0) refl
+          and_from _ _ (subst (λ (b : Bool). (not b || is_reply s.letter) ≡ true) mine (and_parts (is_meek c s) (list_all (is_meek c) ss) m).0) refl
 
-      by : (j : Item) → admits outbox_size (state_of v h) j ≡ true → list_all is_reply (cond (is_post_to j c) (posted c h ++ front_envelope (outbox h)) (posted c h)) ≡ true
+      by : (j : Item) → admits outbox_size (state_of v h) j ≡ true → list_all is_reply (cond (is_post_to j c) (posted c h ++ front_letter (outbox h)) (posted c h)) ≡ true
       by (Item.Posted to) t = choose (same_core to c) refl
         where
-          choose : (b : Bool) → same_core to c ≡ b → list_all is_reply (cond b (posted c h ++ front_envelope (outbox h)) (posted c h)) ≡ true
+          choose : (b : Bool) → same_core to c ≡ b → list_all is_reply (cond b (posted c h ++ front_letter (outbox h)) (posted c h)) ≡ true
           choose true e = list_all-append is_reply (posted c h) _ ∙ and_from _ _ all (front to (outbox h) (and_parts (is_scheduling (phase_at v h)) _ t).1 meek e)
           choose false e = all
       by j t = all
@@ -111,8 +111,8 @@ received-more v from h i = subst (IsBeginning (received from h)) (sym (quiet_aft
     by : (j : Item) → IsBeginning (received from h) (received from (Took j ∷ h))
     by (Item.Received core number message) = choose (same_core core from)
       where
-        choose : (b : Bool) → IsBeginning (received from h) (cond b (received from h ++ envelope_with number message ∷ []) (received from h))
-        choose true = begins-longer (received from h) (envelope_with number message ∷ [])
+        choose : (b : Bool) → IsBeginning (received from h) (cond b (received from h ++ letter_with number message ∷ []) (received from h))
+        choose true = begins-longer (received from h) (letter_with number message ∷ [])
         choose false = begins-itself (received from h)
     by j = begins-itself (received from h)
 
@@ -136,21 +136,21 @@ module _ (v : View) (allowed : NamesAllow v nobody) where
       other : same_core from v.core ≡ false
       other = not-true (same_core from v.core) (and_parts _ (not (is_own v from)) (and_parts _ (nat_eq number (slice_index (state_of v h).border.received from.number)) awaited.0).0).1
 
-      envelope : Envelope
-      envelope = envelope_with number message
+      letter : Letter
+      letter = letter_with number message
 
-      got : is_reply envelope ≡ true
-      got = (and_parts _ true (and_parts (list_all is_reply (received from h)) _ (sym (list_all-append is_reply (received from h) (envelope ∷ [])) ∙ last)).1).0
+      got : is_reply letter ≡ true
+      got = (and_parts _ true (and_parts (list_all is_reply (received from h)) _ (sym (list_all-append is_reply (received from h) (letter ∷ [])) ∙ last)).1).0
         where
           late : list_all is_reply (received from (after v h (Item.Received from number message))) ≡ true
           late = begins-all_pass is_reply _ _ (received-later v from is (after v h (Item.Received from number message))) (replies from other)
 
-          last : list_all is_reply (received from h ++ envelope ∷ []) ≡ true
+          last : list_all is_reply (received from h ++ letter ∷ []) ≡ true
           last =
-              sym (ap (λ (t : Bool). list_all is_reply (cond t (received from h ++ envelope ∷ []) (received from h))) (same_core-refl from))
+              sym (ap (λ (t : Bool). list_all is_reply (cond t (received from h ++ letter ∷ []) (received from h))) (same_core-refl from))
               ∙ ap (list_all is_reply) (sym (quiet_after (received from) (λ m k. refl) (λ n k. refl) v h (Item.Received from number message))) ∙ late
 
-      by : (m : Message) → is_awaited outbox_size (state_of v h) from m ≡ true → is_reply (envelope_with number m) ≡ true → is_mail (Item.Received from number m) ≡ false
+      by : (m : Message) → is_awaited outbox_size (state_of v h) from m ≡ true → is_reply (letter_with number m) ≡ true → is_mail (Item.Received from number m) ≡ false
       by (Message.Reply s) awaits replying = absurd (false≢true (ap (λ (o : Option OpenCall). option_map_or (is_reply_to from s false) o false) (sym calm.closed) ∙ awaits))
       by (Message.Value s n) awaits replying = absurd (false≢true (ap (λ (o : Option OpenCall). option_map_or (is_reply_to from s true) o false) (sym calm.closed) ∙ awaits))
       by m awaits replying = absurd (false≢true replying)

@@ -5,7 +5,7 @@ ghost use Rattle.osbase.specs.declared.references.CoreId.{CoreId as CoreIdValue}
 ghost use Rattle.osplan.specs.View.{is_configured, view_of};
 ghost use Rattle.osturn.specs.Asking.{closing, going_on, halted, look_asked, named_by, own_asked, passing, replied, spin_call_of, spun, starting};
 
-use osbase::{CoreId, CoreMode, CoreSet, Envelope, Item, Status, Stimulus};
+use osbase::{CoreId, CoreMode, CoreSet, Item, Letter, Status, Stimulus};
 use osboard::{BoardCall, BoardReply, BoardView, have_all};
 use oskernel::{SpinWish, Want, Watch};
 use osplan::Plan;
@@ -37,7 +37,7 @@ pub enum Ask {
     OfSpins(SpinWish),
     /// Room for the front of the outbox in the mailbox for that core.
     Room(CoreId),
-    /// The oldest envelope from that core.
+    /// The oldest letter from that core.
     Oldest(CoreId),
     /// Nothing: StartCore of a core that is not configured.
     StartUnknown(CoreId),
@@ -54,8 +54,8 @@ pub enum Answer {
     Spun(SpinReply),
     /// Whether the mailbox has room.
     HasRoom(bool),
-    /// The oldest envelope, if there is one.
-    Found(Option<Envelope>),
+    /// The oldest letter, if there is one.
+    Found(Option<Letter>),
     /// Nothing was asked.
     Unasked,
 }
@@ -136,10 +136,10 @@ pub fn named(id: CoreId, watch: Watch, ask: Ask, answer: &Answer) -> Option<Item
         (Ask::OfBoard(call), Answer::Replied(reply)) => replied(id, watch, call, reply),
         (Ask::OfSpins(wish), Answer::Spun(reply)) => spun(wish, *reply),
         (Ask::Room(to), Answer::HasRoom(true)) => Some(Item::Posted(to)),
-        (Ask::Oldest(from), Answer::Found(Some(envelope))) => Some(Item::Received {
+        (Ask::Oldest(from), Answer::Found(Some(letter))) => Some(Item::Received {
             from,
-            number: envelope.number,
-            message: envelope.message,
+            number: letter.number,
+            message: letter.message,
         }),
         (Ask::StartUnknown(core), Answer::Unasked) => Some(Item::Began {
             core,

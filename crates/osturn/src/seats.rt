@@ -24,7 +24,7 @@ use std::alloc::{AllocError, Global};
 use std::mem;
 
 /// A kernel of the sizes that every configuration within the limits fits: 32 priorities, 64 jobs, and an
-/// outbox of `OUTBOX` envelopes.
+/// outbox of `OUTBOX` letters.
 pub type CoreKernel<'a> = Kernel<'a, 32, 64, OUTBOX>;
 
 /// A core of a run: its kernel, the stimuli that are left, and what it took and printed so far.
@@ -59,7 +59,7 @@ impl<'a> Seat<'a> {
             id,
             kernel: Kernel::new(config, id),
             stimuli,
-            // A stimulus is taken to bring itself and an envelope, and three lines.
+            // A stimulus is taken to bring itself and a letter, and three lines.
             items: roomy(alloc, ahead.saturating_mul(2)),
             marks: roomy(alloc, ahead.saturating_mul(3)),
         }

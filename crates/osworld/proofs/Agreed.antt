@@ -5,7 +5,7 @@ use Rattle.std.specs.List.{slice_get}
 use Rattle.std.proofs.lemmas.Bool.{ltb-true, eqb-true}
 use Rattle.std.proofs.lemmas.Bool.Decides.{nat_tests}
 use Rattle.osbase.specs.declared.references.CoreId.{CoreId}
-use Rattle.osbase.specs.declared.messages.Envelope.{Envelope}
+use Rattle.osbase.specs.declared.messages.Letter.{Letter}
 use Rattle.osbase.specs.declared.items.Item.{Item}
 use Rattle.osbase.specs.declared.items.Stimulus.{Stimulus}
 use Rattle.osbase.specs.declared.turns.Choice.{Choice}
@@ -56,7 +56,7 @@ module _ (plan : Plan) (w : World) (core : CoreId) (known : core.number < CORES)
   room-same : (to : CoreId) → has_room plan w core to ≡ (nat_lt to.number CORES && room_in between.mail core to)
   room-same to = by (nat_lt to.number CORES) refl
     where
-      sends : List Envelope
+      sends : List Letter
       sends = posted to (history_in plan w core)
 
       taken : ℕ
@@ -65,7 +65,7 @@ module _ (plan : Plan) (w : World) (core : CoreId) (known : core.number < CORES)
       by : (b : Bool) → nat_lt to.number CORES ≡ b → (b && nat_lt (length sends) (taken + plan.cap)) ≡ (b && nat_lt (length (box_of between.mail core to)) between.mail.cap)
       by true e =
           room-agrees taken (length sends) plan.cap (m.order core to)
-          ∙ ap (λ (n : ℕ). nat_lt n plan.cap) (sym (ap (λ (xs : List Envelope). length xs) (m.boxes core to known (ltb-true to.number CORES e)) ∙ length-drop taken sends))
+          ∙ ap (λ (n : ℕ). nat_lt n plan.cap) (sym (ap (λ (xs : List Letter). length xs) (m.boxes core to known (ltb-true to.number CORES e)) ∙ length-drop taken sends))
           ∙ ap (λ (n : ℕ). nat_lt (length (box_of between.mail core to)) n) (sym m.cap)
       by false e = refl
 
@@ -75,7 +75,7 @@ module _ (plan : Plan) (w : World) (core : CoreId) (known : core.number < CORES)
       by : (b : Bool) → nat_lt from.number CORES ≡ b → slice_get (posted core (history_in plan w from)) (received_count from (history_in plan w core)) ≡ cond b (oldest_of between.mail from core) None
       by true e =
           sym (front-drop (received_count from (history_in plan w core)) (posted core (history_in plan w from)))
-          ∙ ap (λ (xs : List Envelope). slice_get xs 0) (sym (m.boxes from core (ltb-true from.number CORES e) known))
+          ∙ ap (λ (xs : List Letter). slice_get xs 0) (sym (m.boxes from core (ltb-true from.number CORES e) known))
       by false e =
           ap (λ (o : Option (CoreId × List Item)). slice_get (posted core (history_from (view_of plan from) [] (option_map_or (λ (p : CoreId × List Item). p.1) o []))) (received_count from (history_in plan w core)))
           (ap (list_of from) lists ∙ list_of-beyond from seats e)

@@ -4,12 +4,12 @@ use Rattle.std.specs.List.{slice_get}
 use Rattle.std.proofs.lemmas.List.{drop-append-le}
 use Rattle.std.proofs.lemmas.Option.{slice_get_within}
 use Rattle.osbase.specs.declared.references.CoreId.{CoreId}
-use Rattle.osbase.specs.declared.messages.Envelope.{Envelope}
+use Rattle.osbase.specs.declared.messages.Letter.{Letter}
 use Rattle.osbase.specs.declared.messages.Message.{Message}
 use Rattle.osbase.specs.declared.items.Item.{Item}
 use Rattle.osbase.specs.declared.limits.TheConstants.{CORES}
 use Rattle.osbase.specs.declared.histories.Sent.{Sent}
-use Rattle.osbase.specs.History.{front_envelope, outbox, posted, received_count, same_core}
+use Rattle.osbase.specs.History.{front_letter, outbox, posted, received_count, same_core}
 use Rattle.osmail.specs.Mail.{Mail, after_take, box_of, oldest_of, with_box}
 use Rattle.osplan.specs.declared.plans.Plan.{Plan}
 use Rattle.osplan.specs.View.{view_of}
@@ -43,14 +43,14 @@ module _ (plan : Plan) (w : World) (core : CoreId) (ask : Ask) (item : Item) (p 
   pub history-other : (c : CoreId) → same_core core c ≡ false → history_in plan next c ≡ history_in plan w c
   history-other c e = ap (λ (o : Option (CoreId × List Item)). history_from (view_of plan c) [] (items_by o)) (list_of-other core c item w.items e)
 
-  abbrev sends : CoreId → CoreId → List Envelope
+  abbrev sends : CoreId → CoreId → List Letter
   sends from to = posted to (history_in plan w from)
 
   abbrev takes_in : CoreId → CoreId → ℕ
   takes_in from to = received_count from (history_in plan w to)
 
-  abbrev front : List Envelope
-  front = front_envelope (outbox (history_in plan w core))
+  abbrev front : List Letter
+  front = front_letter (outbox (history_in plan w core))
 
   pub posted-in : (from to : CoreId) → posted to (history_in plan next from) ≡ cond (same_core core from && is_post_to item to) (sends from to ++ front) (sends from to)
   posted-in from to = by (same_core core from) refl
@@ -77,7 +77,7 @@ module _ (plan : Plan) (w : World) (core : CoreId) (ask : Ask) (item : Item) (p 
     cap = m.cap;
     places = m.places;
     boxes = λ from to a b. m.boxes from to a b ∙ ap (λ (n : ℕ). drop n (sends from to)) (sym (same_received from to)) ∙ ap (drop (received_count from (history_in plan next to))) (sym (same_posted from to));
-    order = λ from to. subst (λ (n : ℕ). n ≤ length (posted to (history_in plan next from))) (sym (same_received from to)) (subst (λ (xs : List Envelope). takes_in from to ≤ length xs) (sym (same_posted from to)) (m.order from to));
+    order = λ from to. subst (λ (n : ℕ). n ≤ length (posted to (history_in plan next from))) (sym (same_received from to)) (subst (λ (xs : List Letter). takes_in from to ≤ length xs) (sym (same_posted from to)) (m.order from to));
   }
 
   pub aside : (mail : Mail) → IsMail plan w mail → ((d : CoreId) → is_post_to item d ≡ false) → ((s : CoreId) → is_from item s ≡ false) → IsMail plan next mail
@@ -91,12 +91,12 @@ module _ (plan : Plan) (w : World) (core to : CoreId) (ask : Ask) (p : CoreId ×
   abbrev posts : World
   posts = appends plan w core ask (Item.Posted to)
 
-  abbrev with_front : Envelope → Mail
+  abbrev with_front : Letter → Mail
   with_front e = with_box mail core to (box_of mail core to ++ e ∷ [])
 
-  module _ (e : Envelope) (ahead : front_envelope (outbox (history_in plan w core)) ≡ e ∷ []) where
+  module _ (e : Letter) (ahead : front_letter (outbox (history_in plan w core)) ≡ e ∷ []) where
     sent : (c d : CoreId) → posted d (history_in plan posts c) ≡ cond (same_core core c && same_core to d) (posted d (history_in plan w c) ++ e ∷ []) (posted d (history_in plan w c))
-    sent c d = posted-in plan w core ask (Item.Posted to) p listed c d ∙ ap (λ (xs : List Envelope). cond (same_core core c && same_core to d) (posted d (history_in plan w c) ++ xs) (posted d (history_in plan w c))) ahead
+    sent c d = posted-in plan w core ask (Item.Posted to) p listed c d ∙ ap (λ (xs : List Letter). cond (same_core core c && same_core to d) (posted d (history_in plan w c) ++ xs) (posted d (history_in plan w c))) ahead
 
     got : (c d : CoreId) → received_count c (history_in plan posts d) ≡ received_count c (history_in plan w d)
     got c d = received-in plan w core ask (Item.Posted to) p listed c d
@@ -112,7 +112,7 @@ module _ (plan : Plan) (w : World) (core to : CoreId) (ask : Ask) (p : CoreId ×
         by true true same_c same_d =
             subst (λ (x : CoreId). box_of mail core to ++ e ∷ [] ≡ drop (received_count x (history_in plan w d)) (posted d (history_in plan w x) ++ e ∷ [])) (same_core-true core c same_c)
             (subst (λ (y : CoreId). box_of mail core to ++ e ∷ [] ≡ drop (received_count core (history_in plan w y)) (posted y (history_in plan w core) ++ e ∷ [])) (same_core-true to d same_d)
-            (ap (λ (xs : List Envelope). xs ++ e ∷ []) (m.boxes core to known placed.0)
+            (ap (λ (xs : List Letter). xs ++ e ∷ []) (m.boxes core to known placed.0)
             ∙ sym (drop-append-le (received_count core (history_in plan w to)) (posted to (history_in plan w core)) (e ∷ []) (m.order core to))))
         by true false same_c same_d = m.boxes c d c-known d-known
         by false b same_c same_d = m.boxes c d c-known d-known
@@ -120,7 +120,7 @@ module _ (plan : Plan) (w : World) (core to : CoreId) (ask : Ask) (p : CoreId ×
     order : (c d : CoreId) → received_count c (history_in plan posts d) ≤ length (posted d (history_in plan posts c))
     order c d =
         subst (λ (n : ℕ). n ≤ length (posted d (history_in plan posts c))) (sym (got c d))
-        (subst (λ (xs : List Envelope). received_count c (history_in plan w d) ≤ length xs) (sym (sent c d)) (by (same_core core c && same_core to d)))
+        (subst (λ (xs : List Letter). received_count c (history_in plan w d) ≤ length xs) (sym (sent c d)) (by (same_core core c && same_core to d)))
       where
         by : (b : Bool) → received_count c (history_in plan w d) ≤ length (cond b (posted d (history_in plan w c) ++ e ∷ []) (posted d (history_in plan w c)))
         by true = let some = m.order c d in let longer = length-append (posted d (history_in plan w c)) (e ∷ []) in omega arith
@@ -136,14 +136,14 @@ module _ (plan : Plan) (w : World) (core to : CoreId) (ask : Ask) (p : CoreId ×
       by [] e =
           unmoved plan w core ask (Item.Posted to) p listed mail m
           (λ c d. posted-in plan w core ask (Item.Posted to) p listed c d
-          ∙ ap (λ (sends : List Sent). cond (same_core core c && same_core to d) (posted d (history_in plan w c) ++ front_envelope sends) (posted d (history_in plan w c))) e
+          ∙ ap (λ (sends : List Sent). cond (same_core core c && same_core to d) (posted d (history_in plan w c) ++ front_letter sends) (posted d (history_in plan w c))) e
           ∙ none (same_core core c && same_core to d) (posted d (history_in plan w c)))
           (λ c d. received-in plan w core ask (Item.Posted to) p listed c d)
         where
-          none : (b : Bool) (xs : List Envelope) → cond b (xs ++ []) xs ≡ xs
+          none : (b : Bool) (xs : List Letter) → cond b (xs ++ []) xs ≡ xs
           none true xs = append-nil xs
           none false xs = refl
-      by (s ∷ ss) e = subst (λ (b : Bool). IsMail plan posts (cond b (with_front s.envelope) mail)) (sym placed.1) (sends_on s.envelope (ap front_envelope e))
+      by (s ∷ ss) e = subst (λ (b : Bool). IsMail plan posts (cond b (with_front s.letter) mail)) (sym placed.1) (sends_on s.letter (ap front_letter e))
 
 -- a receipt: the oldest envelope leaves its mailbox
 module _ (plan : Plan) (w : World) (core from : CoreId) (ask : Ask) (number : ℕ) (message : Message) (p : CoreId × List Item) (listed : list_of core w.items ≡ Some p) (mail : Mail) (m : IsMail plan w mail) (known : core.number < CORES) (placed : IsPlaced mail core (Item.Received from number message)) where
@@ -154,12 +154,12 @@ module _ (plan : Plan) (w : World) (core from : CoreId) (ask : Ask) (number : �
   some : suc (received_count from (history_in plan w core)) ≤ length (posted core (history_in plan w from))
   some = by (oldest_of mail from core) refl placed.1
     where
-      by : (o : Option Envelope) → oldest_of mail from core ≡ o → IsSome o → suc (received_count from (history_in plan w core)) ≤ length (posted core (history_in plan w from))
+      by : (o : Option Letter) → oldest_of mail from core ≡ o → IsSome o → suc (received_count from (history_in plan w core)) ≤ length (posted core (history_in plan w from))
       by None e x = cc
-      by (Some envelope) e x =
-          let inside = slice_get_within (posted core (history_in plan w from)) (received_count from (history_in plan w core)) envelope
+      by (Some letter) e x =
+          let inside = slice_get_within (posted core (history_in plan w from)) (received_count from (history_in plan w core)) letter
           (sym (front-drop (received_count from (history_in plan w core)) (posted core (history_in plan w from)))
-          ∙ ap (λ (xs : List Envelope). slice_get xs 0) (sym (m.boxes from core placed.0 known)) ∙ e) in
+          ∙ ap (λ (xs : List Letter). slice_get xs 0) (sym (m.boxes from core placed.0 known)) ∙ e) in
           omega arith
 
   sent_as_before : (c d : CoreId) → posted d (history_in plan receives c) ≡ posted d (history_in plan w c)
@@ -186,7 +186,7 @@ module _ (plan : Plan) (w : World) (core from : CoreId) (ask : Ask) (number : �
   order_after : (c d : CoreId) → received_count c (history_in plan receives d) ≤ length (posted d (history_in plan receives c))
   order_after c d =
       subst (λ (n : ℕ). n ≤ length (posted d (history_in plan receives c))) (sym (one_more_got c d))
-      (subst (λ (xs : List Envelope). cond (same_core from c && same_core core d) (suc (received_count c (history_in plan w d))) (received_count c (history_in plan w d)) ≤ length xs) (sym (sent_as_before c d))
+      (subst (λ (xs : List Letter). cond (same_core from c && same_core core d) (suc (received_count c (history_in plan w d))) (received_count c (history_in plan w d)) ≤ length xs) (sym (sent_as_before c d))
       (by (same_core from c) (same_core core d) refl refl))
     where
       by : (a b : Bool) → same_core from c ≡ a → same_core core d ≡ b → cond (a && b) (suc (received_count c (history_in plan w d))) (received_count c (history_in plan w d)) ≤ length (posted d (history_in plan w c))

@@ -3,11 +3,11 @@ use Rattle.std.proofs.Common.{◌≡◌, Bool, true, false, ◌&&◌, cond, Opti
 use Rattle.std.specs.List.{slice_get}
 use Rattle.std.proofs.lemmas.Bool.{false≢true}
 use Rattle.osbase.specs.declared.references.CoreId.{CoreId}
-use Rattle.osbase.specs.declared.messages.Envelope.{Envelope}
+use Rattle.osbase.specs.declared.messages.Letter.{Letter}
 use Rattle.osbase.specs.declared.items.Item.{Item}
 use Rattle.osbase.specs.declared.turns.Choice.{Choice}
 use Rattle.osbase.specs.declared.turns.CoreStimuli.{CoreStimuli}
-use Rattle.osbase.specs.History.{History, course_of, front_envelope, outbox, posted, received, received_count, same_core, envelope_with}
+use Rattle.osbase.specs.History.{History, course_of, front_letter, outbox, posted, received, received_count, same_core, letter_with}
 use Rattle.osbase.specs.Runs.{stimuli_of}
 use Rattle.osplan.specs.declared.plans.Plan.{Plan}
 use Rattle.osplan.specs.View.{view_of}
@@ -26,7 +26,7 @@ use Rattle.osworld.specs.World.{World, answer_in, appends, board_in, first_world
 use Rattle.osturn.proofs.Beginnings.{begins-longer, begins-next, begins-through}
 use Rattle.osworld.proofs.Listed.{items_by, list_of-same, list_of-other}
 use Rattle.osturn.proofs.Longer.{length-stimuli_in, IsInTurn, core-on}
-use Rattle.osturn.proofs.Streams.{is_from, is_post_to, envelope_in, length-received, received-is}
+use Rattle.osturn.proofs.Streams.{is_from, is_post_to, received_letter, length-received, received-is}
 use Rattle.osworld.proofs.Carrying.{and_false, history-same, history-other, posted-in}
 use Rattle.osworld.proofs.Started.{no_history, nothing_of}
 use Rattle.osworld.proofs.Turns.{Appends, turns-keep}
@@ -39,11 +39,11 @@ abbrev WorldFits : Plan → List CoreStimuli → World → Type 0
 WorldFits plan stimuli w = FitsBy plan stimuli w.items w.calls
 
 -- an item from another core is what that one posted next
-next-envelope : (plan : Plan) (stimuli : List CoreStimuli) (w : World) (core from : CoreId) (i : Item) → is_from i from ≡ true → IsNext plan stimuli w core i
-    → (e : Envelope) × (envelope_in i ≡ e ∷ []) × (slice_get (posted core (history_in plan w from)) (received_count from (history_in plan w core)) ≡ Some e) × ((d : CoreId) → is_post_to i d ≡ false)
-next-envelope plan stimuli w core from (Item.Received f number m) is next =
-    (envelope_with number m, refl, subst (λ (c : CoreId). slice_get (posted core (history_in plan w c)) (received_count c (history_in plan w core)) ≡ Some (envelope_with number m)) (same_core-true f from is) next, λ d. refl)
-next-envelope plan stimuli w core from i is next = absurd (false≢true is)
+next-letter : (plan : Plan) (stimuli : List CoreStimuli) (w : World) (core from : CoreId) (i : Item) → is_from i from ≡ true → IsNext plan stimuli w core i
+    → (e : Letter) × (received_letter i ≡ e ∷ []) × (slice_get (posted core (history_in plan w from)) (received_count from (history_in plan w core)) ≡ Some e) × ((d : CoreId) → is_post_to i d ≡ false)
+next-letter plan stimuli w core from (Item.Received f number m) is next =
+    (letter_with number m, refl, subst (λ (c : CoreId). slice_get (posted core (history_in plan w c)) (received_count c (history_in plan w core)) ≡ Some (letter_with number m)) (same_core-true f from is) next, λ d. refl)
+next-letter plan stimuli w core from i is next = absurd (false≢true is)
 
 -- an item that a turn names is in turn
 in-turn : (plan : Plan) (stimuli : List CoreStimuli) (w : World) (core : CoreId) (item : Item) → IsNext plan stimuli w core item → IsInTurn (stimuli_of stimuli core) (course_of (history_in plan w core)) (items_in w core) item
@@ -75,40 +75,40 @@ module _ (plan : Plan) (stimuli : List CoreStimuli) (w : World) (fits : WorldFit
           (subst (FitsCore plan stimuli core) (sym items-same) (core-on plan stimuli core (items_in w core) (fits.cores core) item (in-turn plan stimuli w core item follows-on) turn.taken))
       by false e = subst (FitsCore plan stimuli id) (sym (items-other id e)) (fits.cores id)
 
-  received-in : (from to : CoreId) → received from (history_in plan next to) ≡ cond (is_from item from && same_core core to) (received from (history_in plan w to) ++ envelope_in item) (received from (history_in plan w to))
+  received-in : (from to : CoreId) → received from (history_in plan next to) ≡ cond (is_from item from && same_core core to) (received from (history_in plan w to) ++ received_letter item) (received from (history_in plan w to))
   received-in from to = by (same_core core to) refl
     where
-      by : (b : Bool) → same_core core to ≡ b → received from (history_in plan next to) ≡ cond (is_from item from && b) (received from (history_in plan w to) ++ envelope_in item) (received from (history_in plan w to))
+      by : (b : Bool) → same_core core to ≡ b → received from (history_in plan next to) ≡ cond (is_from item from && b) (received from (history_in plan w to) ++ received_letter item) (received from (history_in plan w to))
       by true e =
-          subst (λ (c : CoreId). received from (history_in plan next c) ≡ cond (is_from item from && true) (received from (history_in plan w c) ++ envelope_in item) (received from (history_in plan w c))) (same_core-true core to e)
+          subst (λ (c : CoreId). received from (history_in plan next c) ≡ cond (is_from item from && true) (received from (history_in plan w c) ++ received_letter item) (received from (history_in plan w c))) (same_core-true core to e)
           (ap (received from) (history-same plan w core ask item p turn.listed) ∙ received-is (view_of plan core) from item (history_in plan w core)
-          ∙ ap (λ (b : Bool). cond b (received from (history_in plan w core) ++ envelope_in item) (received from (history_in plan w core))) (sym (and-true (is_from item from))))
+          ∙ ap (λ (b : Bool). cond b (received from (history_in plan w core) ++ received_letter item) (received from (history_in plan w core))) (sym (and-true (is_from item from))))
       by false e = ap (received from) (history-other plan w core ask item p turn.listed to e) ∙ sym (and_false (is_from item from) _ _)
 
   streams-on : (from to : CoreId) → IsBeginning (received from (history_in plan next to)) (posted to (history_in plan next from))
   streams-on from to =
-      subst (λ (xs : List Envelope). IsBeginning xs (posted to (history_in plan next from))) (sym (received-in from to))
-      (subst (λ (ys : List Envelope). IsBeginning (cond (is_from item from && same_core core to) (received from (history_in plan w to) ++ envelope_in item) (received from (history_in plan w to))) ys) (sym (posted-in plan w core ask item p turn.listed from to))
+      subst (λ (xs : List Letter). IsBeginning xs (posted to (history_in plan next from))) (sym (received-in from to))
+      (subst (λ (ys : List Letter). IsBeginning (cond (is_from item from && same_core core to) (received from (history_in plan w to) ++ received_letter item) (received from (history_in plan w to))) ys) (sym (posted-in plan w core ask item p turn.listed from to))
       (by (is_from item from) (same_core core to) refl refl))
     where
-      front : List Envelope
-      front = front_envelope (outbox (history_in plan w core))
+      front : List Letter
+      front = front_letter (outbox (history_in plan w core))
 
       longer : (b : Bool) → IsBeginning (received from (history_in plan w to)) (cond b (posted to (history_in plan w from) ++ front) (posted to (history_in plan w from)))
       longer true = begins-through _ _ _ (fits.streams from to) (begins-longer (posted to (history_in plan w from)) front)
       longer false = fits.streams from to
 
-      got : (c : CoreId) → same_core core c ≡ true → is_from item from ≡ true → IsBeginning (received from (history_in plan w c) ++ envelope_in item) (cond (same_core core from && is_post_to item c) (posted c (history_in plan w from) ++ front) (posted c (history_in plan w from)))
+      got : (c : CoreId) → same_core core c ≡ true → is_from item from ≡ true → IsBeginning (received from (history_in plan w c) ++ received_letter item) (cond (same_core core from && is_post_to item c) (posted c (history_in plan w from) ++ front) (posted c (history_in plan w from)))
       got c here is =
-          subst (λ (c : CoreId). IsBeginning (received from (history_in plan w c) ++ envelope_in item) (cond (same_core core from && is_post_to item c) (posted c (history_in plan w from) ++ front) (posted c (history_in plan w from)))) (same_core-true core c here)
-          (let e = next-envelope plan stimuli w core from item is follows-on in
-          subst (λ (b : Bool). IsBeginning (received from (history_in plan w core) ++ envelope_in item) (cond (same_core core from && b) (posted core (history_in plan w from) ++ front) (posted core (history_in plan w from)))) (sym (e.3 core))
-          (subst (λ (ys : List Envelope). IsBeginning (received from (history_in plan w core) ++ envelope_in item) ys) (sym (and_false (same_core core from) (posted core (history_in plan w from) ++ front) (posted core (history_in plan w from))))
-          (subst (λ (xs : List Envelope). IsBeginning (received from (history_in plan w core) ++ xs) (posted core (history_in plan w from))) (sym e.1)
+          subst (λ (c : CoreId). IsBeginning (received from (history_in plan w c) ++ received_letter item) (cond (same_core core from && is_post_to item c) (posted c (history_in plan w from) ++ front) (posted c (history_in plan w from)))) (same_core-true core c here)
+          (let e = next-letter plan stimuli w core from item is follows-on in
+          subst (λ (b : Bool). IsBeginning (received from (history_in plan w core) ++ received_letter item) (cond (same_core core from && b) (posted core (history_in plan w from) ++ front) (posted core (history_in plan w from)))) (sym (e.3 core))
+          (subst (λ (ys : List Letter). IsBeginning (received from (history_in plan w core) ++ received_letter item) ys) (sym (and_false (same_core core from) (posted core (history_in plan w from) ++ front) (posted core (history_in plan w from))))
+          (subst (λ (xs : List Letter). IsBeginning (received from (history_in plan w core) ++ xs) (posted core (history_in plan w from))) (sym e.1)
           (begins-next (received from (history_in plan w core)) (posted core (history_in plan w from)) e.0 (fits.streams from core)
           (ap (slice_get (posted core (history_in plan w from))) (length-received from (history_in plan w core)) ∙ e.2)))))
 
-      by : (a b : Bool) → is_from item from ≡ a → same_core core to ≡ b → IsBeginning (cond (a && b) (received from (history_in plan w to) ++ envelope_in item) (received from (history_in plan w to))) (cond (same_core core from && is_post_to item to) (posted to (history_in plan w from) ++ front) (posted to (history_in plan w from)))
+      by : (a b : Bool) → is_from item from ≡ a → same_core core to ≡ b → IsBeginning (cond (a && b) (received from (history_in plan w to) ++ received_letter item) (received from (history_in plan w to))) (cond (same_core core from && is_post_to item to) (posted to (history_in plan w from) ++ front) (posted to (history_in plan w from)))
       by true true is here = got to here is
       by true false is here = longer (same_core core from && is_post_to item to)
       by false b is here = longer (same_core core from && is_post_to item to)

@@ -2,10 +2,10 @@
 use Rattle.std.proofs.Common.{◌≡◌, Bool, true, false, Option, Some, None, List, refl}
 use Rattle.std.specs.List.{slice_get}
 use Rattle.osbase.specs.declared.references.CoreId.{CoreId}
-use Rattle.osbase.specs.declared.messages.Envelope.{Envelope}
+use Rattle.osbase.specs.declared.messages.Letter.{Letter}
 use Rattle.osbase.specs.declared.items.Item.{Item}
 use Rattle.osbase.specs.declared.turns.CoreStimuli.{CoreStimuli}
-use Rattle.osbase.specs.History.{course_of, posted, received_count, envelope_with}
+use Rattle.osbase.specs.History.{course_of, posted, received_count, letter_with}
 use Rattle.osbase.specs.Phases.{is_going}
 use Rattle.osbase.specs.Runs.{stimuli_of}
 use Rattle.osplan.specs.declared.plans.Plan.{Plan}
@@ -27,7 +27,7 @@ use Rattle.osturn.proofs.Leading.{closing-item, halted-item, is-item, passing-it
 abbrev pub IsNext : Plan → List CoreStimuli → World → CoreId → Item → Type 0
 IsNext plan stimuli w id (Item.Stim s) = slice_get (stimuli_of stimuli id) (stimulus_count (items_in w id)) ≡ Some s
 IsNext plan stimuli w id Item.Drained = is_going (course_of (history_in plan w id)) ≡ true → slice_get (stimuli_of stimuli id) (stimulus_count (items_in w id)) ≡ None
-IsNext plan stimuli w id (Item.Received from number m) = slice_get (posted id (history_in plan w from)) (received_count from (history_in plan w id)) ≡ Some (envelope_with number m)
+IsNext plan stimuli w id (Item.Received from number m) = slice_get (posted id (history_in plan w from)) (received_count from (history_in plan w id)) ≡ Some (letter_with number m)
 IsNext plan stimuli w id item = Unit {0}
 
 module _ (plan : Plan) (stimuli : List CoreStimuli) (w : World) (id : CoreId) where
@@ -48,7 +48,7 @@ module _ (plan : Plan) (stimuli : List CoreStimuli) (w : World) (id : CoreId) wh
       by false e = cc
   follows watch (Oldest from) i own e = by (slice_get (posted id (history_in plan w from)) (received_count from (history_in plan w id))) refl e
     where
-      by : (o : Option Envelope) → slice_get (posted id (history_in plan w from)) (received_count from (history_in plan w id)) ≡ o → named_by id watch (Oldest from) (Found o) ≡ Some i → IsNext plan stimuli w id i
+      by : (o : Option Letter) → slice_get (posted id (history_in plan w from)) (received_count from (history_in plan w id)) ≡ o → named_by id watch (Oldest from) (Found o) ≡ Some i → IsNext plan stimuli w id i
       by (Some x) at e = is (Item.Received from x.number x.message) i e at
       by None at e = cc
   follows watch (StartUnknown k) i own e = is _ i e tt

@@ -7,7 +7,7 @@ use Rattle.std.proofs.lemmas.List.{map-append}
 use Rattle.std.proofs.lemmas.List.Elements.{filter-append}
 use Rattle.std.proofs.lemmas.Option.{slice_get_cases}
 use Rattle.osbase.specs.declared.references.CoreId.{CoreId}
-use Rattle.osbase.specs.declared.messages.Envelope.{Envelope}
+use Rattle.osbase.specs.declared.messages.Letter.{Letter}
 use Rattle.osbase.specs.declared.turns.Choice.{Choice}
 use Rattle.osbase.specs.declared.turns.Choice.TheVariants.{Serve}
 use Rattle.osbase.specs.declared.turns.CoreStimuli.{CoreStimuli}
@@ -35,14 +35,14 @@ serves core froms = map (λ (from : CoreId). (core, Serve from)) froms
 module _ (plan : Plan) (stimuli : List CoreStimuli) (w : World) (seats : List Seat) (between : Between) (plays : Plays plan stimuli w seats between) (core : CoreId) (nothing : (nat_lt core.number CORES && has_mail between.mail core) ≡ false) where
   module _ (from : CoreId) where
     none-oldest : core.number < CORES → (b : Bool) → nat_lt from.number CORES ≡ b → cond b (oldest_of between.mail from core) None ≡ None
-    none-oldest known true below = ap (λ (envelopes : List Envelope). slice_get envelopes 0) (no_mail between.mail from core (ltb-true from.number CORES below) (grind (arith, nat_tests, nothing, known)))
+    none-oldest known true below = ap (λ (letters : List Letter). slice_get letters 0) (no_mail between.mail from core (ltb-true from.number CORES below) (grind (arith, nat_tests, nothing, known)))
     none-oldest known false below = refl
 
     none-named : (seat : Seat) → seat.id ≡ core → next_by plan between seat.id seat.stimuli.now seat.kernel (Serve from) ≡ None
     none-named seat is =
         let known : core.number < CORES = subst (λ (id : CoreId). id.number < CORES) is seat.known in
         subst (λ (id : CoreId). leads_to id (watch_in seat.kernel) (Oldest from) (Found (cond (nat_lt from.number CORES) (oldest_of between.mail from id) None)) ≡ None) (sym is)
-        (ap (λ (o : Option Envelope). leads_to core (watch_in seat.kernel) (Oldest from) (Found o)) (none-oldest known (nat_lt from.number CORES) refl))
+        (ap (λ (o : Option Letter). leads_to core (watch_in seat.kernel) (Oldest from) (Found o)) (none-oldest known (nat_lt from.number CORES) refl))
 
     unserved-turn : turn plan stimuli w (core, Serve from) ≡ w
     unserved-turn = by (position (is_seat_of core) seats) refl

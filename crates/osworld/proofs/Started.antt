@@ -5,7 +5,7 @@ use Rattle.std.specs.Option.{option_map_or}
 use Rattle.std.proofs.lemmas.List.{map-append, length-replicate}
 use Rattle.std.proofs.lemmas.List.Elements.{All-push}
 use Rattle.osbase.specs.declared.references.CoreId.{CoreId}
-use Rattle.osbase.specs.declared.messages.Envelope.{Envelope}
+use Rattle.osbase.specs.declared.messages.Letter.{Letter}
 use Rattle.osbase.specs.declared.items.Item.{Item}
 use Rattle.osbase.specs.declared.turns.CoreStimuli.{CoreStimuli}
 use Rattle.osbase.specs.declared.limits.TheConstants.{CORES}
@@ -55,7 +55,7 @@ module _ (plan : Plan) where
   pub no_mail : (mail : Mail) → mail ≡ empty_mail plan.cap → IsMail plan (first_world plan) mail
   no_mail mail is = rw is (record {
     cap = refl;
-    places = length-replicate {A = List Envelope} (CORES * CORES) [];
+    places = length-replicate {A = List Letter} (CORES * CORES) [];
     boxes = λ from to a b. box_of-empty plan.cap from to a b
         ∙ sym (ap (λ (h : History). drop (received_count from h) (posted to (history_in plan (first_world plan) from))) (no_history to) ∙ ap (posted to) (no_history from));
     order = λ from to. rw (no_history to) (omega arith);

@@ -9,6 +9,7 @@ use Rattle.std.proofs.lemmas.List.Elements.{All-get_or, All-set}
 use Rattle.std.proofs.Math.Seq.{map-set_same}
 use Rattle.osbase.specs.declared.references.CoreId.{CoreId}
 use Rattle.osbase.specs.declared.messages.Envelope.{Envelope}
+use Rattle.osbase.specs.declared.messages.Letter.{Letter}
 use Rattle.osbase.specs.declared.items.Item.{Item}
 use Rattle.osbase.specs.declared.turns.Choice.{Choice}
 use Rattle.osbase.specs.declared.turns.CoreStimuli.{CoreStimuli}
@@ -176,8 +177,8 @@ module _ (mail : Mail) (id : CoreId) (item : Item) where
   room-placed watch to true true below free leads = is-placed (Item.Posted to) (ltb-true to.number CORES below, subst (λ (b : Bool). IsTrue b) (sym free) refl) leads
   room-placed watch to known room below free leads = cc
 
-  oldest-placed : (watch : Watch) (from : CoreId) (known : Bool) (found : Option Envelope) → nat_lt from.number CORES ≡ known → oldest_of mail from id ≡ found → named_by id watch (Oldest from) (Found (cond known found None)) ≡ Some item → IsPlaced mail id item
-  oldest-placed watch from true (Some e) below there leads = is-placed (Item.Received from e.number e.message) (ltb-true from.number CORES below, subst (λ (o : Option Envelope). IsSome o) (sym there) refl) leads
+  oldest-placed : (watch : Watch) (from : CoreId) (known : Bool) (found : Option Letter) → nat_lt from.number CORES ≡ known → oldest_of mail from id ≡ found → named_by id watch (Oldest from) (Found (cond known found None)) ≡ Some item → IsPlaced mail id item
+  oldest-placed watch from true (Some e) below there leads = is-placed (Item.Received from e.number e.message) (ltb-true from.number CORES below, subst (λ (o : Option Letter). IsSome o) (sym there) refl) leads
   oldest-placed watch from known found below there leads = cc
 
 placed-by : (between : Between) (id : CoreId) (item : Item) (watch : Watch) (ask : Ask) → named_by id watch ask (answer_by between id ask) ≡ Some item → IsPlaced between.mail id item

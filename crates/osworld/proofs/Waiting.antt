@@ -4,7 +4,7 @@ use Rattle.std.proofs.lemmas.List.{drop-drop}
 use Rattle.std.specs.List.{slice_get}
 use Rattle.std.proofs.lemmas.Bool.{false≢true}
 use Rattle.osbase.specs.declared.references.CoreId.{CoreId}
-use Rattle.osbase.specs.declared.messages.Envelope.{Envelope}
+use Rattle.osbase.specs.declared.messages.Letter.{Letter}
 use Rattle.osbase.specs.declared.limits.TheConstants.{CORES}
 use Rattle.osbase.specs.History.{same_core}
 use Rattle.osmail.specs.Mail.{Mail, box_of, with_box}
@@ -12,7 +12,7 @@ use Rattle.osmail.proofs.Boxes.{box_of-with_box_same, box_of-with_box_other}
 use Rattle.osbase.proofs.Same.{same_core-true, same_core-refl}
 
 -- One mailbox is changed, and every other one is as it was.
-pub box-changed : (mail : Mail) (a b : CoreId) (xs : List Envelope) (from to : CoreId) → a.number < CORES → b.number < CORES → to.number < CORES → length mail.boxes ≡ CORES * CORES → box_of (with_box mail a b xs) from to ≡ cond (same_core a from && same_core b to) xs (box_of mail from to)
+pub box-changed : (mail : Mail) (a b : CoreId) (xs : List Letter) (from to : CoreId) → a.number < CORES → b.number < CORES → to.number < CORES → length mail.boxes ≡ CORES * CORES → box_of (with_box mail a b xs) from to ≡ cond (same_core a from && same_core b to) xs (box_of mail from to)
 box-changed mail a b xs from to a-known b-known to-known places = by (same_core a from) (same_core b to) refl refl
   where
     by : (p q : Bool) → same_core a from ≡ p → same_core b to ≡ q → box_of (with_box mail a b xs) from to ≡ cond (p && q) xs (box_of mail from to)
@@ -23,7 +23,7 @@ box-changed mail a b xs from to a-known b-known to-known places = by (same_core 
     by false q e f = box_of-with_box_other mail a b from to xs b-known to-known (λ one two. false≢true (sym e ∙ subst (λ (n : ℕ). same_core a (record { number = n }) ≡ true) (sym one) (same_core-refl a)))
 
 -- A stream that is shorter by the oldest one.
-pub waiting-shorter : (n : ℕ) (xs : List Envelope) → drop (suc n) xs ≡ drop 1 (drop n xs)
+pub waiting-shorter : (n : ℕ) (xs : List Letter) → drop (suc n) xs ≡ drop 1 (drop n xs)
 waiting-shorter n xs = let one_more : n + 1 ≡ suc n = omega arith in sym (drop-drop 1 n xs ∙ ap (λ (k : ℕ). drop k xs) one_more)
 
 -- What is in front of a rest.

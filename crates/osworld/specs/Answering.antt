@@ -61,7 +61,7 @@ spins_told core ask holders = holders
 
 -- The mailboxes after it: a post puts the outbox's front into one, and what is received leaves one.
 abbrev pub carried : CoreId → Option (CoreId × Envelope) → Item → Mail → Mail
-carried core front (Item.Posted to) mail = option_map_or (λ (f : CoreId × Envelope). after_send mail core to f.1) front mail
+carried core front (Item.Posted to) mail = option_map_or (λ (f : CoreId × Envelope). after_send mail core to f.1.letter) front mail
 carried core front (Item.Received from number message) mail = after_take mail from core
 carried core front item mail = mail
 

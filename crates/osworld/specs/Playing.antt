@@ -2,7 +2,7 @@
 use Rattle.std.specs.Prelude.{◌≡◌, ℕ, ◌*◌, ◌<◌, ◌≤◌, Bool, not, IsTrue, Some, List, length, drop, take, map, position, slice_get}
 use Rattle.std.specs.List.{All}
 use Rattle.osbase.specs.declared.references.CoreId.{CoreId}
-use Rattle.osbase.specs.declared.messages.Envelope.{Envelope}
+use Rattle.osbase.specs.declared.messages.Letter.{Letter}
 use Rattle.osbase.specs.declared.items.Item.{Item}
 use Rattle.osbase.specs.declared.turns.Choice.{Choice}
 use Rattle.osbase.specs.declared.turns.CoreStimuli.{CoreStimuli}
@@ -27,7 +27,7 @@ abbrev pub lists_of : List Seat → List (CoreId × List Item)
 lists_of seats = map (λ (s : Seat). (s.id, s.items.items)) seats
 
 -- What was posted from one core to another and not received.
-abbrev pub waiting : Plan → World → CoreId → CoreId → List Envelope
+abbrev pub waiting : Plan → World → CoreId → CoreId → List Letter
 waiting plan w from to = drop (received_count from (history_in plan w to)) (posted to (history_in plan w from))
 
 -- The mailboxes hold what was posted and not received.

@@ -56,7 +56,7 @@ has_room plan w from to =
     nat_lt to.number CORES
     && nat_lt (length (posted to (history_in plan w from))) (received_count from (history_in plan w to) + plan.cap)
 
--- What a core's turn is answered: the board's or a spinlock's reply; whether there is room; the oldest envelope from the
+-- What a core's turn is answered: the board's or a spinlock's reply; whether there is room; the oldest letter from the
 -- other core that is not received yet. [own]
 abbrev pub answer_in : Plan → World → CoreId → Ask → Answer
 answer_in plan w id (OfBoard call) = Replied (board_reply id call (board_in plan w))

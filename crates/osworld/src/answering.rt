@@ -9,7 +9,7 @@ ghost use Rattle.oskernel.specs.Wants.{watch_in};
 ghost use Rattle.osturn.specs.Asking.{leads_to};
 ghost use Rattle.osworld.specs.Answering.{answer_by, carried, is_undisturbed, IsPlaced, next_by, told};
 
-use osbase::{CORES, Choice, CoreId, Envelope, Item, MAILBOX};
+use osbase::{CORES, Choice, CoreId, Envelope, Item, Letter, MAILBOX};
 use osboard::BoardList;
 use oskernel::Watch;
 use osmail::ListMail;
@@ -69,8 +69,8 @@ impl Between {
             Ask::OfSpins(wish) => Some(Answer::Spun(self.spins.reply(id, spin_call_of(wish)))),
             Ask::Room(to) => Some(Answer::HasRoom(has_room(&self.mail, id, to))),
             Ask::Oldest(from) => {
-                let envelope = oldest(&self.mail, id, from)?;
-                Some(Answer::Found(Some(envelope)))
+                let letter = oldest(&self.mail, id, from)?;
+                Some(Answer::Found(Some(letter)))
             }
             Ask::StartUnknown(_) | Ask::TakeStimulus(_) => Some(Answer::Unasked),
         }
@@ -157,8 +157,8 @@ fn has_room(mail: &Mailboxes, id: CoreId, to: CoreId) -> bool
     }
 }
 
-// The oldest envelope from that core.
-fn oldest(mail: &Mailboxes, id: CoreId, from: CoreId) -> Option<Envelope>
+// The letter of the oldest envelope from that core.
+fn oldest(mail: &Mailboxes, id: CoreId, from: CoreId) -> Option<Letter>
     requires { id.number < CORES }
     ensures { result ≡ (if nat_lt from.number CORES then oldest_of mail.now from id else None) }
 {

@@ -235,7 +235,7 @@ halt 1 E_OS_STATE
 hook Shutdown E_OS_STATE
 ended
 
-// The halt finds both envelopes in the outbox, and the second one finds the mailbox full once.
+// The halt finds both letters in the outbox, and the second one finds the mailbox full once.
 turns "0o 1l 1o 0o 0l 1l 0o 1o 0l 1l 0o 1o 0o 1o 0l 0o 0o 1s0 0o 1s0 1o 0o 0l 1l 0l 1l"
 run
 as before

@@ -10,7 +10,7 @@ use std::alloc::Global;
 use std::process::Abort;
 use std::test::Fail;
 
-/// Room for eight jobs and sixteen envelopes; priorities and ceilings are below 8.
+/// Room for eight jobs and sixteen letters; priorities and ceilings are below 8.
 type SmallKernel<'a> = Kernel<'a, 8, 8, 16>;
 
 /// Preemption, events, a resource, Schedule, a chain, and a call to another core. No alarm or schedule table acts.

@@ -403,7 +403,7 @@ const POSTING: &str = r#"
 // envelope.
 config {"cap":1,"spinlocks":[{"name":"S"}],"cores":[{"id":0,"start":[1],"tasks":[{"name":"A","prio":1,"auto":["M"],"script":"GetSpinlock S;TerminateTask"}],"counters":[{"name":"C","max":9}],"alarms":[{"name":"L1","counter":"C","action":"ActivateTask P","auto":{"modes":["M"],"start":1,"cycle":0}},{"name":"L2","counter":"C","action":"ActivateTask Q","auto":{"modes":["M"],"start":1,"cycle":0}}]},{"id":1,"tasks":[{"name":"X","prio":2,"auto":["M"],"script":"ShutdownAllCores 7"},{"name":"P","prio":1,"script":"TerminateTask"},{"name":"Q","prio":1,"script":"TerminateTask"}]}]}
 stimuli {"0":"op tick op","1":"op"}
-// The halt finds both envelopes in the outbox.
+// The halt finds both letters in the outbox.
 turns "0o 1l 1o 0o 0l 1l 0o 1o 0l 1l 0o 0o 0o 1o 1o 0l 0o 0o 1s0 0o 0o 1s0 0o 1o 0l 1l 0l 1l"
 run
 core 0

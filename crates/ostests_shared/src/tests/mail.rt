@@ -1,11 +1,12 @@
 //! Mailboxes of a listed run, and of cores on threads of their own.
 
-use osbase::{CoreId, Envelope, Message, Status};
-use osmail::{ListMail, LockedMail, Mail};
+use osbase::{CoreId, Envelope, Letter, Message, Status};
+use osmail::{ListMail, LockedMail, Mail, RingEnd, RingMail};
 use std::test::Fail;
 
 fn envelope(number: u64, message: Message) -> Envelope {
-    Envelope { number, message }
+    let letter = Letter { number, message };
+    Envelope { letter }
 }
 
 fn value(number: u64) -> Envelope {
@@ -68,5 +69,43 @@ fn what_is_taken_and_left_is_what_was_sent(rt: HostRuntime) -> Result<(), Fail> 
         left.settles(rt.alloc(), first, sent, second, &[]),
         Ok(false)
     );
+    Ok(())
+}
+
+#[test]
+fn envelopes_leave_a_ring_in_the_order_in_which_they_came(rt: HostRuntime) -> Result<(), Fail> {
+    let (first, second) = (CoreId { number: 0 }, CoreId { number: 15 });
+    let made: (RingMail<4>, Vec<RingEnd>) = RingMail::new(rt.alloc(), &[first, second], 2)?;
+    let (_mail, mut ends) = made;
+    let (Some(mut receiver), Some(mut sender)) = (ends.pop(), ends.pop()) else {
+        panic!(rt; "two ends")
+    };
+    for number in 0..2u64 {
+        assert_eq!(rt; sender.send(second, reply(number)), Ok(()));
+    }
+    assert_eq!(rt; sender.send(second, reply(2)), Err(reply(2)));
+    assert_eq!(rt; sender.take(second), None);
+    assert_eq!(rt; receiver.take(first), Some(reply(0)));
+    assert_eq!(rt; sender.send(second, reply(2)), Ok(()));
+    assert_eq!(rt; receiver.send(first, value(0)), Ok(()));
+    assert_eq!(rt; receiver.take(first), Some(reply(1)));
+    assert_eq!(rt; sender.take(second), Some(value(0)));
+    assert_eq!(rt; receiver.take(first), Some(reply(2)));
+    assert_eq!(rt; receiver.take(first), None);
+    Ok(())
+}
+
+#[test]
+fn an_end_has_rings_of_its_own_run_alone(rt: HostRuntime) -> Result<(), Fail> {
+    let (first, other) = (CoreId { number: 3 }, CoreId { number: 4 });
+    let made: (RingMail<4>, Vec<RingEnd>) = RingMail::new(rt.alloc(), &[first], 1)?;
+    let (_mail, mut ends) = made;
+    let Some(mut end) = ends.pop() else {
+        panic!(rt; "an end")
+    };
+    assert_eq!(rt; end.send(other, reply(0)), Err(reply(0)));
+    assert_eq!(rt; end.take(other), None);
+    assert_eq!(rt; end.send(first, reply(0)), Ok(()));
+    assert_eq!(rt; end.take(first), Some(reply(0)));
     Ok(())
 }

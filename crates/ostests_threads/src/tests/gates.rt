@@ -2,10 +2,10 @@
 //! has the same verdict whatever the schedule is.
 
 use super::reports::text_under;
-use super::threads::FEW;
+use super::threads::{FEW, KINDS};
 use osbase::{CORES, CoreId};
 use osplay::{cut_of, result_of, same};
-use osthreads::Gate;
+use osthreads::{Gate, MailKind};
 use std::alloc::Global;
 use std::process::Abort;
 use std::sync::Wait;
@@ -188,14 +188,15 @@ impl Gate for Delay {
     }
 }
 
-// The reports of a run of the four cores, as a text.
+// The reports of a run of the four cores with this kind of mail, as a text.
 fn four_under<R: Threads + Wait + Sync, G: Gate + Sync>(
     rt: &R,
     alloc: Global,
+    mail: MailKind,
     gate: &G,
     turns: u64,
 ) -> Result<String, Fail> {
-    text_under(rt, alloc, (FOUR_CORES, STIMULI), gate, turns)
+    text_under(rt, alloc, mail, (FOUR_CORES, STIMULI), gate, turns)
 }
 
 // Each core came to the gate before each of its first turns, and all others began as many.
@@ -220,91 +221,110 @@ fn has(alloc: Global, text: &str, word: &str, due: &str) -> Result<(), Fail> {
 #[test]
 fn cores_that_call_each_other_end(rt: HostRuntime) -> Result<(), Fail> {
     let alloc = rt.alloc();
-    let text = four_under(&rt, alloc, &Watcher::new(None, false), MANY)?;
-    has(alloc, text.as_str(), "stat ", BOTH_RETURN)?;
-    has(alloc, text.as_str(), "worker ", THREE_END)
+    for mail in KINDS.iter() {
+        let text = four_under(&rt, alloc, *mail, &Watcher::new(None, false), MANY)?;
+        has(alloc, text.as_str(), "stat ", BOTH_RETURN)?;
+        has(alloc, text.as_str(), "worker ", THREE_END)?;
+    }
+    Ok(())
 }
 
 #[test]
 fn all_cores_run_at_once(rt: HostRuntime) -> Result<(), Fail> {
     let alloc = rt.alloc();
-    let gate = Watcher::new(None, true);
-    let text = four_under(&rt, alloc, &gate, MANY)?;
-    has(alloc, text.as_str(), "worker ", THREE_END)?;
-    have_met(&rt, &gate);
+    for mail in KINDS.iter() {
+        let gate = Watcher::new(None, true);
+        let text = four_under(&rt, alloc, *mail, &gate, MANY)?;
+        has(alloc, text.as_str(), "worker ", THREE_END)?;
+        have_met(&rt, &gate);
+    }
     Ok(())
 }
 
 #[test]
 fn sixteen_cores_run_at_once(rt: HostRuntime) -> Result<(), Fail> {
     let alloc = rt.alloc();
-    let gate = Watcher::over(CORES, None, None, true);
-    let text = text_under(&rt, alloc, (SIXTEEN_CORES, "{}"), &gate, MANY)?;
-    has(alloc, text.as_str(), "worker ", SIXTEEN_END)?;
-    have_met(&rt, &gate);
+    for mail in KINDS.iter() {
+        let gate = Watcher::over(CORES, None, None, true);
+        let text = text_under(&rt, alloc, *mail, (SIXTEEN_CORES, "{}"), &gate, MANY)?;
+        has(alloc, text.as_str(), "worker ", SIXTEEN_END)?;
+        have_met(&rt, &gate);
+    }
     Ok(())
 }
 
 #[test]
 fn a_core_that_nobody_starts_does_not_hold_up_the_others(rt: HostRuntime) -> Result<(), Fail> {
     let alloc = rt.alloc();
-    let text = four_under(&rt, alloc, &Watcher::new(None, false), MANY)?;
-    has(alloc, text.as_str(), "worker ", THREE_END)?;
-    assert!(rt; text.ends_with("\ncore 3\ntook 0\nworker 3 stopped\n"));
+    for mail in KINDS.iter() {
+        let text = four_under(&rt, alloc, *mail, &Watcher::new(None, false), MANY)?;
+        has(alloc, text.as_str(), "worker ", THREE_END)?;
+        assert!(rt; text.ends_with("\ncore 3\ntook 0\nworker 3 stopped\n"));
+    }
     Ok(())
 }
 
 #[test]
 fn a_separate_core_prints_what_its_configuration_alone_prints(rt: HostRuntime) -> Result<(), Fail> {
     let alloc = rt.alloc();
-    let gate = Watcher::new(None, false);
-    let text = four_under(&rt, alloc, &gate, MANY)?;
-    has(alloc, text.as_str(), "worker ", THREE_END)?;
-    assert!(rt; text.contains(SEPARATE));
-    let printed = result_of(&rt, alloc, &cut_of(2), &[Some(FOUR_CORES)])?;
-    let (alone, _) = printed.split_once('\n').ok_or("a configuration")?;
-    let text = text_under(&rt, alloc, (alone, STIMULI_OF_CORE_2), &gate, MANY)?;
-    has(alloc, text.as_str(), "worker ", "worker 2 ended\n")?;
-    assert!(rt; text.starts_with(SEPARATE));
+    for mail in KINDS.iter() {
+        let gate = Watcher::new(None, false);
+        let text = four_under(&rt, alloc, *mail, &gate, MANY)?;
+        has(alloc, text.as_str(), "worker ", THREE_END)?;
+        assert!(rt; text.contains(SEPARATE));
+        let printed = result_of(&rt, alloc, &cut_of(2), &[Some(FOUR_CORES)])?;
+        let (alone, _) = printed.split_once('\n').ok_or("a configuration")?;
+        let text = text_under(&rt, alloc, *mail, (alone, STIMULI_OF_CORE_2), &gate, MANY)?;
+        has(alloc, text.as_str(), "worker ", "worker 2 ended\n")?;
+        assert!(rt; text.starts_with(SEPARATE));
+    }
     Ok(())
 }
 
 #[test]
 fn a_core_that_waits_for_ever_does_not_end(rt: HostRuntime) -> Result<(), Fail> {
     let alloc = rt.alloc();
-    let gate = Delay::new();
-    let text = four_under(&rt, alloc, &gate, FEW)?;
-    assert_eq!(rt; gate.missed.load(Ordering::SeqCst), 0);
-    has(alloc, text.as_str(), "worker ", NONE_ENDS)?;
-    assert!(rt;
-        text.starts_with("core 0\nstart 1 E_OK\nstart 2 E_OK\ntook "),
-        "{text}"
-    );
+    for mail in KINDS.iter() {
+        let gate = Delay::new();
+        let text = four_under(&rt, alloc, *mail, &gate, FEW)?;
+        assert_eq!(rt; gate.missed.load(Ordering::SeqCst), 0);
+        has(alloc, text.as_str(), "worker ", NONE_ENDS)?;
+        assert!(rt;
+            text.starts_with("core 0\nstart 1 E_OK\nstart 2 E_OK\ntook "),
+            "{text}"
+        );
+    }
     Ok(())
 }
 
 #[test]
 fn with_no_turn_allowed_nothing_is_done(rt: HostRuntime) -> Result<(), Fail> {
     let alloc = rt.alloc();
-    let text = four_under(&rt, alloc, &Watcher::new(None, false), 0)?;
-    has(alloc, text.as_str(), "worker ", NONE_ENDS)?;
-    has(
-        alloc,
-        text.as_str(),
-        "took ",
-        "took 0\ntook 0\ntook 0\ntook 0\n",
-    )
+    for mail in KINDS.iter() {
+        let text = four_under(&rt, alloc, *mail, &Watcher::new(None, false), 0)?;
+        has(alloc, text.as_str(), "worker ", NONE_ENDS)?;
+        has(
+            alloc,
+            text.as_str(),
+            "took ",
+            "took 0\ntook 0\ntook 0\ntook 0\n",
+        )?;
+    }
+    Ok(())
 }
 
 #[test]
 fn a_thread_that_may_not_start_is_a_fault(rt: HostRuntime) -> Result<(), Fail> {
     let alloc = rt.alloc();
-    let text = four_under(&rt, alloc, &Watcher::new(Some(CORE_1), false), 10)?;
-    assert!(rt; text.starts_with("a thread could not be started\ncore 2\n"));
-    has(
-        alloc,
-        text.as_str(),
-        "worker ",
-        "worker 2 stopped\nworker 3 stopped\n",
-    )
+    for mail in KINDS.iter() {
+        let text = four_under(&rt, alloc, *mail, &Watcher::new(Some(CORE_1), false), 10)?;
+        assert!(rt; text.starts_with("a thread could not be started\ncore 2\n"));
+        has(
+            alloc,
+            text.as_str(),
+            "worker ",
+            "worker 2 stopped\nworker 3 stopped\n",
+        )?;
+    }
+    Ok(())
 }

@@ -1,4 +1,4 @@
-//! A worker to whose core an envelope comes that this core cannot take: it stops, and hands the envelope out beside its
+//! A worker to whose core an envelope comes that this core cannot take: it stops, and hands the letter out beside its
 //! core's report. Core 0 works here. The test makes core 1's calls of the board, and sends from core 1's end of the mail.
 
 ghost use Rattle.std.specs.Prelude.{◌≡◌, ◌<◌, ◌∷◌, [], IfOk, vec_len, vec_capacity};
@@ -8,14 +8,14 @@ ghost use Rattle.osmail.specs.Ends.{sent_to, taken_from};
 ghost use Rattle.osthreads.specs.Seats.{first_seats, shared};
 
 use osbase::{
-    Agreement, CORES, CoreId, CoreMode, CoreSet, Envelope, Item, List, MAILBOX, Message, ModeId,
-    Report, Status,
+    Agreement, CORES, CoreId, CoreMode, CoreSet, Envelope, Item, Letter, List, MAILBOX, Message,
+    ModeId, Report, Status,
 };
 use osboard::{Board, BoardSeat};
 use osconf::read_config;
-use osmail::{LockedMail, Mail, MailStep};
+use osmail::{LockedMail, Mail, MailStep, RingEnd, RingMail};
 use osspin::{SpinBank, SpinSeat};
-use osthreads::{Gate, Run, Seats, Stop, Worked, core_worker};
+use osthreads::{Gate, Run, Seats, Stop, Wakers, Worked, core_worker};
 use osturn::ids_of;
 use std::alloc::{AllocError, Global};
 use std::process::Abort;
@@ -32,7 +32,7 @@ const CORE_1: CoreId = CoreId { number: 1 };
 const MODE: ModeId = ModeId { index: 0 };
 
 /// A reply, though core 0 made no request.
-const REPLY: Envelope = Envelope {
+const REPLY: Letter = Letter {
     number: 0,
     message: Message::Reply(Status::EOk),
 };
@@ -65,6 +65,10 @@ impl Mail for Forged {
 
     ghost has_room = { λ end. vec_len end.steps < vec_capacity end.steps };
 
+    ghost Which = { Unit {0} };
+
+    ghost which = { λ _. tt };
+
     fn room(&mut self) -> Result<(), AllocError> {
         self.steps.reserve(1)
     }
@@ -79,7 +83,8 @@ impl Mail for Forged {
             return None;
         }
         let envelope = self.envelope.take()?;
-        self.steps.push_reserved(MailStep::Taken(from, envelope));
+        self.steps
+            .push_reserved(MailStep::Taken(from, envelope.letter));
         Some(envelope)
     }
 }
@@ -144,12 +149,14 @@ fn work<R: Wait + Abort, M: Mail>(rt: &R, alloc: Global, mail: M) -> Worked<M>
         panic!(rt; "what the cores share")
     };
     let seats = seats_of(rt, &board, &bank, at_board, at_spinlocks);
+    let wakers = Wakers::new();
     let run = Run {
         config: &config,
         stimuli: &[],
         cores: cores.as_slice(),
         board: &board,
         bank: &bank,
+        wakers: &wakers,
         turns: 1000,
     };
     core_worker(rt, alloc, &run, seats, mail, &Open)
@@ -157,11 +164,11 @@ fn work<R: Wait + Abort, M: Mail>(rt: &R, alloc: Global, mail: M) -> Worked<M>
 
 // The core started, and took nothing from core 1.
 fn judge(rt: &impl Abort, report: &Report, stop: Stop) {
-    let Stop::Refused(from, envelope) = stop else {
+    let Stop::Refused(from, letter) = stop else {
         panic!(rt; "a refusal")
     };
     assert_eq!(rt; from, CORE_1);
-    assert_eq!(rt; envelope, REPLY);
+    assert_eq!(rt; letter, REPLY);
     let mut members = [false; CORES];
     members[0] = true;
     members[1] = true;
@@ -182,7 +189,7 @@ fn judge(rt: &impl Abort, report: &Report, stop: Stop) {
 // The end took the one envelope.
 fn has_taken(steps: &[MailStep]) -> bool {
     match steps {
-        [MailStep::Taken(from, envelope)] => *from == CORE_1 && *envelope == REPLY,
+        [MailStep::Taken(from, letter)] => *from == CORE_1 && *letter == REPLY,
         _ => false,
     }
 }
@@ -193,7 +200,7 @@ fn a_reply_that_nobody_awaits_stops_a_worker(rt: HostRuntime) -> Result<(), Fail
     let mail: LockedMail<MAILBOX> = LockedMail::new(alloc, &[CORE_0, CORE_1], 1)?;
     let mut other = mail.end(&rt, alloc, CORE_1);
     other.room()?;
-    assert_eq!(rt; other.send(CORE_0, REPLY), Ok(()));
+    assert_eq!(rt; other.send(CORE_0, Envelope { letter: REPLY }), Ok(()));
     let worked = work(&rt, alloc, mail.end(&rt, alloc, CORE_0));
     judge(&rt, &worked.report, worked.stop);
     assert!(rt; has_taken(worked.mail.into_steps().as_slice()));
@@ -201,9 +208,24 @@ fn a_reply_that_nobody_awaits_stops_a_worker(rt: HostRuntime) -> Result<(), Fail
 }
 
 #[test]
+fn a_reply_by_a_ring_that_nobody_awaits_stops_a_worker(rt: HostRuntime) -> Result<(), Fail> {
+    let alloc = rt.alloc();
+    let made: (RingMail<MAILBOX>, Vec<RingEnd>) = RingMail::new(alloc, &[CORE_0, CORE_1], 1)?;
+    let (_mail, mut ends) = made;
+    let (Some(mut other), Some(own)) = (ends.pop(), ends.pop()) else {
+        panic!(rt; "two ends")
+    };
+    assert_eq!(rt; other.send(CORE_0, Envelope { letter: REPLY }), Ok(()));
+    let mut worked = work(&rt, alloc, own);
+    judge(&rt, &worked.report, worked.stop);
+    assert_eq!(rt; worked.mail.take(CORE_1), None);
+    Ok(())
+}
+
+#[test]
 fn a_worker_stops_whatever_end_of_mail_it_has(rt: HostRuntime) -> Result<(), Fail> {
     let mail = Forged {
-        envelope: Some(REPLY),
+        envelope: Some(Envelope { letter: REPLY }),
         steps: Vec::new(rt.alloc()),
     };
     let worked = work(&rt, rt.alloc(), mail);

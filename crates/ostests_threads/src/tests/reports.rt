@@ -31,10 +31,11 @@ fn reports_text(alloc: Global, config: &Config, reports: &[Report]) -> Result<St
     Ok(text)
 }
 
-// The reports of a run by threads under a gate.
+// The reports of a run by threads with this kind of mail, under a gate.
 fn reports_under<R: Threads + Wait + Sync, G: Gate + Sync>(
     rt: &R,
     alloc: Global,
+    mail: MailKind,
     config: &Config,
     stimuli: &Stimuli,
     gate: &G,
@@ -42,7 +43,7 @@ fn reports_under<R: Threads + Wait + Sync, G: Gate + Sync>(
 ) -> Result<Vec<Report>, ThreadFault>
     requires { AreKnown config.now stimuli.now }
 {
-    run_threads(rt, alloc, config, stimuli, MailKind::Locked, gate, turns)
+    run_threads(rt, alloc, config, stimuli, mail, gate, turns)
 }
 
 // Why a run broke off, and the reports that there are.
@@ -51,17 +52,18 @@ fn fault_text(alloc: Global, config: &Config, fault: &ThreadFault) -> Result<Str
     Ok(format!(in alloc; "{}\n{text}", fault.reason)?)
 }
 
-/// The reports of a run by threads under a gate, as a text. Where the run broke off, its first line says why.
+/// The reports of a run by threads with this kind of mail, under a gate, as a text. Where the run broke off, its first line says why.
 pub(super) fn text_under<R: Threads + Wait + Sync, G: Gate + Sync>(
     rt: &R,
     alloc: Global,
+    mail: MailKind,
     (config, stimuli): (&str, &str),
     gate: &G,
     turns: u64,
 ) -> Result<String, Fail> {
     let config = read_config(alloc, config)?;
     let stimuli = read_stimuli(alloc, &config, stimuli)?;
-    match reports_under(rt, alloc, &config, &stimuli, gate, turns) {
+    match reports_under(rt, alloc, mail, &config, &stimuli, gate, turns) {
         Ok(reports) => reports_text(alloc, &config, reports.as_slice()),
         Err(fault) => fault_text(alloc, &config, &fault),
     }
@@ -96,18 +98,18 @@ fn replay_all(
     Ok(())
 }
 
-/// Each report's log of a run by threads replays to its block. Answers how many reports there are.
+/// Each report's log of a run by threads with this kind of mail replays to its block. Answers how many reports there are.
 pub(super) fn replays(
     rt: &(impl Threads + Wait + Sync),
     alloc: Global,
-    text: &str,
-    stimuli: &str,
+    mail: MailKind,
+    (text, stimuli): (&str, &str),
     turns: u64,
 ) -> Result<usize, Fail> {
     let config = read_config(alloc, text)?;
     let stimuli = read_stimuli(alloc, &config, stimuli)?;
     let gate = Yielding::new(config.plan().cores.len());
-    match reports_under(rt, alloc, &config, &stimuli, &gate, turns) {
+    match reports_under(rt, alloc, mail, &config, &stimuli, &gate, turns) {
         Ok(reports) => {
             replay_all(rt, alloc, (text, &config), reports.as_slice())?;
             Ok(reports.len())

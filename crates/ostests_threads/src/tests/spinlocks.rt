@@ -28,6 +28,9 @@ ended
 threads 1000000000
 as before
 
+threads locked 1000000000
+as before
+
 items 0
 began 1 E_OK
 entered
@@ -280,5 +283,8 @@ stat C ReleaseSpinlock E_OK
 ended
 
 threads 1000000000
+as before
+
+threads locked 1000000000
 as before
 "#;

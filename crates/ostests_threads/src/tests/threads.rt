@@ -2,6 +2,7 @@
 
 use super::reports::replays;
 use super::spinlocks::{OWED, SHARED};
+use osbase::MailKind;
 use osplay::examples::{ALL_DOWN, ASKERS, MUTUAL, POLLING, REFUSED, RING};
 use osplay::{Difference, given, play_all, result_of, run_of, threads_of};
 use std::alloc::Global;
@@ -12,6 +13,9 @@ use std::thread::Threads;
 
 /// More turns than any core of the runs below may find nothing to do in.
 const MANY: u64 = 1_000_000_000;
+
+/// The kinds of mail. What a test says holds with each.
+pub const KINDS: [MailKind; 2] = [MailKind::Ring, MailKind::Locked];
 
 /// Some turns, for a run that does not end.
 pub(super) const FEW: u64 = 1_000;
@@ -80,6 +84,9 @@ stim op
 drained
 passend
 last
+
+threads locked 1000000000 2
+as before
 
 items 2
 as before
@@ -165,6 +172,34 @@ in 0 ActivateTask B E_OK
 pre B
 ended
 
+// Three alarms that act on another core, whose mailbox holds one envelope.
+config {"cap":1,"cores":[{"id":0,"start":[1],"counters":[{"name":"C","max":9}],"alarms":[{"name":"L1","counter":"C","action":"ActivateTask P","auto":{"modes":["M"],"start":1,"cycle":0}},{"name":"L2","counter":"C","action":"ActivateTask Q","auto":{"modes":["M"],"start":1,"cycle":0}},{"name":"L3","counter":"C","action":"ActivateTask R","auto":{"modes":["M"],"start":1,"cycle":0}}]},{"id":1,"tasks":[{"name":"P","prio":1,"script":"TerminateTask"},{"name":"Q","prio":1,"script":"TerminateTask"},{"name":"R","prio":1,"script":"TerminateTask"}]}]}
+stimuli {"0":"tick"}
+threads 1000000000
+core 0
+start 1 E_OK
+hook Startup
+tick
+alarm L1
+out 1 ActivateTask P
+alarm L2
+out 1 ActivateTask Q
+alarm L3
+out 1 ActivateTask R
+core 1
+hook Startup
+act P
+in 0 ActivateTask P E_OK
+pre P
+act Q
+in 0 ActivateTask Q E_OK
+act R
+in 0 ActivateTask R E_OK
+ended
+
+threads locked 1000000000
+as before
+
 // Faults come in their order.
 config {}
 stimuli x
@@ -193,46 +228,70 @@ fn runs_by_threads_come_to_their_texts(rt: HostRuntime) -> Result<(), Fail> {
         &rt,
         rt.alloc(),
         &[BOUND_AND_SEPARATE, RUNS, OWED, SHARED],
-        54,
+        59,
     )
 }
 
-// The result of a run by threads of a table's first files.
+// The result of a run by threads of a table's first files, with this kind of mail.
 fn threaded(
     rt: &(impl Threads + Wait + Sync),
     alloc: Global,
+    mail: MailKind,
     table: &str,
     turns: u64,
 ) -> Result<String, Difference> {
     let (config, stimuli) = given(table)?;
     let texts = [Some(config), Some(stimuli)];
-    result_of(rt, alloc, &threads_of(turns, None), &texts)
+    result_of(rt, alloc, &threads_of(mail, turns, None), &texts)
+}
+
+// Two cores that call each other end, and the run's text ends so.
+fn both_answer(
+    rt: &(impl Abort + Threads + Wait + Sync),
+    alloc: Global,
+    mail: MailKind,
+    (table, end): (&str, &str),
+) -> Result<(), Fail> {
+    let result = threaded(rt, alloc, mail, table, MANY)?;
+    assert!(rt; result.contains("stat A ActivateTask E_OK\n"));
+    assert!(rt; result.contains("stat B ActivateTask E_OK\n"));
+    let text = result.strip_suffix("and reports\nand exits with 0");
+    assert!(rt; text.ok_or("a run that ended")?.ends_with(end));
+    Ok(())
 }
 
 #[test]
 fn cores_that_call_each_other_end_and_a_separate_one_prints_its_block(
     rt: HostRuntime,
 ) -> Result<(), Fail> {
-    for (table, end) in [(MUTUAL, "ended\n"), (BOUND_AND_SEPARATE, SEPARATE_END)].as_slice() {
-        let result = threaded(&rt, rt.alloc(), table, MANY)?;
-        assert!(rt; result.contains("stat A ActivateTask E_OK\n"));
-        assert!(rt; result.contains("stat B ActivateTask E_OK\n"));
-        let text = result.strip_suffix("and reports\nand exits with 0");
-        assert!(rt; text.ok_or("a run that ended")?.ends_with(end));
+    for mail in KINDS.iter() {
+        both_answer(&rt, rt.alloc(), *mail, (MUTUAL, "ended\n"))?;
+        both_answer(&rt, rt.alloc(), *mail, (BOUND_AND_SEPARATE, SEPARATE_END))?;
     }
     Ok(())
 }
 
-#[test]
-fn sixteen_cores_in_a_ring_answer_each_other(rt: HostRuntime) -> Result<(), Fail> {
-    let alloc = rt.alloc();
-    let result = threaded(&rt, alloc, RING, MANY)?;
+// Each of the sixteen cores gets its answer, and the run ends.
+fn ring_answers(
+    rt: &(impl Abort + Threads + Wait + Sync),
+    alloc: Global,
+    mail: MailKind,
+) -> Result<(), Fail> {
+    let result = threaded(rt, alloc, mail, RING, MANY)?;
     for core in 0..16u8 {
         let answered = format!(in alloc; "stat A{core} ActivateTask E_OK\n")?;
         assert!(rt; result.contains(answered.as_str()), "{answered}");
     }
     assert!(rt; !result.contains("E_OS_"));
     assert!(rt; result.ends_with("ended\nand reports\nand exits with 0"));
+    Ok(())
+}
+
+#[test]
+fn sixteen_cores_in_a_ring_answer_each_other(rt: HostRuntime) -> Result<(), Fail> {
+    for mail in KINDS.iter() {
+        ring_answers(&rt, rt.alloc(), *mail)?;
+    }
     Ok(())
 }
 
@@ -251,13 +310,15 @@ fn each_log_of_a_run_by_threads_replays_to_its_block(rt: HostRuntime) -> Result<
     ];
     for (table, cores, turns) in examples.as_slice() {
         let (config, stimuli) = given(table)?;
-        let replayed = replays(&rt, rt.alloc(), config, stimuli, *turns)?;
-        assert_eq!(rt; replayed, *cores);
+        for mail in KINDS.iter() {
+            let replayed = replays(&rt, rt.alloc(), *mail, (config, stimuli), *turns)?;
+            assert_eq!(rt; replayed, *cores);
+        }
     }
     Ok(())
 }
 
-// A run by threads of a table's first files ends. Its result is that of their run by the default schedule, or that of the run of
+// A run by threads of a table's first files ends, with each kind of mail. Its result is that of their run by the default schedule, or that of the run of
 // these files.
 fn is_either(
     rt: &(impl Abort + Threads + Wait + Sync),
@@ -269,9 +330,11 @@ fn is_either(
     let (config, stimuli) = given(table)?;
     let one = result_of(rt, alloc, &run_of(None), &[Some(config), Some(stimuli)])?;
     let other = result_of(rt, alloc, &run_of(schedule), files)?;
-    let result = threaded(rt, alloc, table, MANY)?;
-    assert!(rt; result.ends_with("ended\nand reports\nand exits with 0"));
-    assert!(rt; result.as_str() == one.as_str() || result.as_str() == other.as_str());
+    for mail in KINDS.iter() {
+        let result = threaded(rt, alloc, *mail, table, MANY)?;
+        assert!(rt; result.ends_with("ended\nand reports\nand exits with 0"));
+        assert!(rt; result.as_str() == one.as_str() || result.as_str() == other.as_str());
+    }
     Ok(())
 }
 
@@ -290,7 +353,9 @@ fn all_cores_see_who_asked_first_for_their_shutdown(rt: HostRuntime) -> Result<(
 
 #[test]
 fn a_core_that_waits_for_a_spinlock_gives_up_whoever_took_it(rt: HostRuntime) -> Result<(), Fail> {
-    let result = threaded(&rt, rt.alloc(), REFUSED, FEW)?;
-    assert!(rt; result.ends_with("stalled\nand reports\nand exits with 3"));
+    for mail in KINDS.iter() {
+        let result = threaded(&rt, rt.alloc(), *mail, REFUSED, FEW)?;
+        assert!(rt; result.ends_with("stalled\nand reports\nand exits with 3"));
+    }
     Ok(())
 }

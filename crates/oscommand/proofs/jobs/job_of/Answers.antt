@@ -12,7 +12,7 @@ use Rattle.clap.proofs.OnLiterals.{clap_on_literals}
 use Rattle.clap.proofs.WalkLemmas.{first_value-rows}
 use Rattle.oscommand.specs.declared.jobs.Job.{Job}
 use Rattle.oscommand.specs.declared.jobs.TheConstants.{MOST_TURNS}
-use Rattle.oscommand.specs.CommandLine.{AreMailKinds, AsksFor, FailsByWords, HasEntries, MailKinds, command_line, subcommand_name}
+use Rattle.oscommand.specs.CommandLine.{AreMailKinds, AsksFor, FailsByWords, HasEntries, IsMailName, MailKinds, command_line, subcommand_name}
 use Rattle.oscommand.proofs.Usage.{IsJob, check_has, cut_has, names_job, replay_has, run_has, threads_has}
 use Rattle.oscommand.proofs.jobs.job_of.Goals as goal
 
@@ -55,9 +55,9 @@ has_no_memory : (kinds : MailKinds) → AreMailKinds kinds → (made : Result Co
     → (words : List Text) (error : Error) → kind_of error ≡ OutOfMemory → FailsByWords words (Err error)
 has_no_memory kinds are made is words error out = record { kinds = kinds; kinds_are = are; fails = inl out }
 
-has_job : (kinds : MailKinds) (app : App) (words : List Text) (m : ArgMatches) → Succeeds kinds app words m → IsSomeAnd (subcommand_rows_of m) IsJob
-has_job kinds app words m parse =
-    subst (λ (o : Option (Text × List Row)). IsSomeAnd o IsJob) (sym (rows_known kinds app words m parse)) (names_job kinds words (no_fault kinds app words m parse))
+has_job : (kinds : MailKinds) → AreMailKinds kinds → (app : App) (words : List Text) (m : ArgMatches) → Succeeds kinds app words m → IsSomeAnd (subcommand_rows_of m) IsJob
+has_job kinds are app words m parse =
+    subst (λ (o : Option (Text × List Row)). IsSomeAnd o IsJob) (sym (rows_known kinds app words m parse)) (names_job kinds are words (no_fault kinds app words m parse))
 
 -- a subcommand's name and its rows
 named_rows : {X A B : Type 0} (f : X → A) (g : X → B) (o : Option X) (a : A) (b : B) → option_map f o ≡ Some a
@@ -69,13 +69,13 @@ record IsEntered (kinds : MailKinds) (words : List Text) (name : Text) (rows : L
   names : subcommand_of (command_line kinds) words ≡ Some (name, rows)
   job : IsJob (name, rows)
 
-entered : (kinds : MailKinds) (app : App) (words : List Text) (m : ArgMatches) (name : Text) (rows : List Row) → Succeeds kinds app words m → subcommand_name_of m ≡ Some name
+entered : (kinds : MailKinds) → AreMailKinds kinds → (app : App) (words : List Text) (m : ArgMatches) (name : Text) (rows : List Row) → Succeeds kinds app words m → subcommand_name_of m ≡ Some name
     → option_map (λ (p : Text × List Row). p.1) (subcommand_rows_of m) ≡ Some rows → IsEntered kinds words name rows
-entered kinds app words m name rows parse is has =
+entered kinds are app words m name rows parse is has =
     let both : subcommand_rows_of m ≡ Some (name, rows) = named_rows _ _ _ _ _ is has in
     record {
       names = sym (rows_known kinds app words m parse) ∙ both;
-      job = subst (λ (o : Option (Text × List Row)). IsSomeAnd o IsJob) both (has_job kinds app words m parse);
+      job = subst (λ (o : Option (Text × List Row)). IsSomeAnd o IsJob) both (has_job kinds are app words m parse);
     }
 
 -- the subcommand's entries are what the words ask for
@@ -119,7 +119,7 @@ run_job-requires g c =
     let parse : Succeeds _ (app_of c.in_ok-command.field-0) words c.in_ok-matches.matches =
     record { is = c.in_ok-command.ensures; matches = c.in_ok-matches.ensures.matches; faults = c.in_ok-matches.ensures.kinds } in
     let found = found_of c.in-Some.run'.now in
-    let run = run_has (rows_of found) (entered _ _ words _ (codes "run") (rows_of found) parse (c.in-Some.ensures.found.0 refl) c.in-Some.ensures.rows).job in
+    let run = run_has (rows_of found) (entered _ refl _ words _ (codes "run") (rows_of found) parse (c.in-Some.ensures.found.0 refl) c.in-Some.ensures.rows).job in
     record {
       config = value_there found (codes "CFG") _ run.config;
       stimuli = value_there found (codes "STIM") _ run.stimuli;
@@ -132,7 +132,7 @@ returns-in-Some-clause-job g c =
     let parse : Succeeds _ (app_of c.in_ok-command.field-0) words c.in_ok-matches.matches =
     record { is = c.in_ok-command.ensures; matches = c.in_ok-matches.ensures.matches; faults = c.in_ok-matches.ensures.kinds } in
     let rows = rows_of (found_of c.in-Some.run'.now) in
-    asks_for _ refl words rows (codes "run") c.run_job.result (entered _ _ words _ (codes "run") rows parse (c.in-Some.ensures.found.0 refl) c.in-Some.ensures.rows) c.run_job.ensures
+    asks_for _ refl words rows (codes "run") c.run_job.result (entered _ refl _ words _ (codes "run") rows parse (c.in-Some.ensures.found.0 refl) c.in-Some.ensures.rows) c.run_job.ensures
 
 pub returns-in-Some-clause-fault : goal.returns-in-Some-clause-fault
 returns-in-Some-clause-fault g c =
@@ -146,7 +146,7 @@ check_job-requires g c =
     record { is = c.in_ok-command.ensures; matches = c.in_ok-matches.ensures.matches; faults = c.in_ok-matches.ensures.kinds } in
     let sub = c.in-Some-subcommand_matches in
     let found = found_of sub.check.now in
-    let check = check_has (rows_of found) (entered _ _ words _ (codes "check") (rows_of found) parse (sub.ensures.found.0 refl) sub.ensures.rows).job in
+    let check = check_has (rows_of found) (entered _ refl _ words _ (codes "check") (rows_of found) parse (sub.ensures.found.0 refl) sub.ensures.rows).job in
     record { config = value_there found (codes "CFG") _ check.config }
 
 pub returns-in-Some-subcommand_matches-clause-job : goal.returns-in-Some-subcommand_matches-clause-job
@@ -156,7 +156,7 @@ returns-in-Some-subcommand_matches-clause-job g c =
     record { is = c.in_ok-command.ensures; matches = c.in_ok-matches.ensures.matches; faults = c.in_ok-matches.ensures.kinds } in
     let sub = c.in-Some-subcommand_matches in
     let rows = rows_of (found_of sub.check.now) in
-    asks_for _ refl words rows (codes "check") c.check_job.result (entered _ _ words _ (codes "check") rows parse (sub.ensures.found.0 refl) sub.ensures.rows) c.check_job.ensures
+    asks_for _ refl words rows (codes "check") c.check_job.result (entered _ refl _ words _ (codes "check") rows parse (sub.ensures.found.0 refl) sub.ensures.rows) c.check_job.ensures
 
 pub returns-in-Some-subcommand_matches-clause-fault : goal.returns-in-Some-subcommand_matches-clause-fault
 returns-in-Some-subcommand_matches-clause-fault g c =
@@ -168,7 +168,7 @@ unreachable-requires g c =
     let words = map g.S.AsStr.text c.args.words.now in
     let parse : Succeeds _ (app_of c.in_ok-command.field-0) words c.in_ok-matches.matches =
     record { is = c.in_ok-command.ensures; matches = c.in_ok-matches.ensures.matches; faults = c.in_ok-matches.ensures.kinds } in
-    no_other _ _ _ (has_job _ _ words c.in_ok-matches.matches parse) c.in_default.ensures.found.1
+    no_other _ _ _ (has_job _ refl _ words c.in_ok-matches.matches parse) c.in_default.ensures.found.1
     c.in_default-subcommand_matches.ensures.found.1 c.in_default-subcommand_matches-2.ensures.found.1 c.in_default-subcommand_matches-3.ensures.found.1
     c.in_default-subcommand_matches-4.ensures.found.1
 
@@ -179,7 +179,7 @@ cut_job-requires g c =
     record { is = c.in_ok-command.ensures; matches = c.in_ok-matches.ensures.matches; faults = c.in_ok-matches.ensures.kinds } in
     let sub = c.in-Some-subcommand_matches-2 in
     let found = found_of sub.cut.now in
-    let cut = cut_has (rows_of found) (entered _ _ words _ (codes "cut") (rows_of found) parse (sub.ensures.found.0 refl) sub.ensures.rows).job in
+    let cut = cut_has (rows_of found) (entered _ refl _ words _ (codes "cut") (rows_of found) parse (sub.ensures.found.0 refl) sub.ensures.rows).job in
     record {
       config = value_there found (codes "CFG") _ cut.config;
       core = subst (λ (o : Option Text). IsSomeAnd o (IsUnsignedIn 0 255)) (sym (first_value-rows found (codes "CORE"))) cut.core;
@@ -192,7 +192,7 @@ returns-in-Some-subcommand_matches-2-clause-job g c =
     record { is = c.in_ok-command.ensures; matches = c.in_ok-matches.ensures.matches; faults = c.in_ok-matches.ensures.kinds } in
     let sub = c.in-Some-subcommand_matches-2 in
     let rows = rows_of (found_of sub.cut.now) in
-    asks_for _ refl words rows (codes "cut") c.cut_job.result (entered _ _ words _ (codes "cut") rows parse (sub.ensures.found.0 refl) sub.ensures.rows) c.cut_job.ensures
+    asks_for _ refl words rows (codes "cut") c.cut_job.result (entered _ refl _ words _ (codes "cut") rows parse (sub.ensures.found.0 refl) sub.ensures.rows) c.cut_job.ensures
 
 pub returns-in-Some-subcommand_matches-2-clause-fault : goal.returns-in-Some-subcommand_matches-2-clause-fault
 returns-in-Some-subcommand_matches-2-clause-fault g c =
@@ -206,7 +206,7 @@ replay_job-requires g c =
     record { is = c.in_ok-command.ensures; matches = c.in_ok-matches.ensures.matches; faults = c.in_ok-matches.ensures.kinds } in
     let sub = c.in-Some-subcommand_matches-3 in
     let found = found_of sub.replay.now in
-    let replay = replay_has (rows_of found) (entered _ _ words _ (codes "replay") (rows_of found) parse (sub.ensures.found.0 refl) sub.ensures.rows).job in
+    let replay = replay_has (rows_of found) (entered _ refl _ words _ (codes "replay") (rows_of found) parse (sub.ensures.found.0 refl) sub.ensures.rows).job in
     record {
       config = value_there found (codes "CFG") _ replay.config;
       core = subst (λ (o : Option Text). IsSomeAnd o (IsUnsignedIn 0 255)) (sym (first_value-rows found (codes "CORE"))) replay.core;
@@ -220,7 +220,7 @@ returns-in-Some-subcommand_matches-3-clause-job g c =
     record { is = c.in_ok-command.ensures; matches = c.in_ok-matches.ensures.matches; faults = c.in_ok-matches.ensures.kinds } in
     let sub = c.in-Some-subcommand_matches-3 in
     let rows = rows_of (found_of sub.replay.now) in
-    asks_for _ refl words rows (codes "replay") c.replay_job.result (entered _ _ words _ (codes "replay") rows parse (sub.ensures.found.0 refl) sub.ensures.rows) c.replay_job.ensures
+    asks_for _ refl words rows (codes "replay") c.replay_job.result (entered _ refl _ words _ (codes "replay") rows parse (sub.ensures.found.0 refl) sub.ensures.rows) c.replay_job.ensures
 
 pub returns-in-Some-subcommand_matches-3-clause-fault : goal.returns-in-Some-subcommand_matches-3-clause-fault
 returns-in-Some-subcommand_matches-3-clause-fault g c =
@@ -234,11 +234,12 @@ threads_job-requires g c =
     record { is = c.in_ok-command.ensures; matches = c.in_ok-matches.ensures.matches; faults = c.in_ok-matches.ensures.kinds } in
     let sub = c.in-Some-subcommand_matches-4 in
     let found = found_of sub.threads.now in
-    let threads = threads_has (rows_of found) (entered _ _ words _ (codes "threads") (rows_of found) parse (sub.ensures.found.0 refl) sub.ensures.rows).job in
+    let threads = threads_has (rows_of found) (entered _ refl _ words _ (codes "threads") (rows_of found) parse (sub.ensures.found.0 refl) sub.ensures.rows).job in
     record {
       config = value_there found (codes "CFG") _ threads.config;
       stimuli = value_there found (codes "STIM") _ threads.stimuli;
       turns = subst (λ (o : Option Text). IfSome o (IsUnsignedIn 1 MOST_TURNS)) (sym (first_value-rows found (codes "turns"))) threads.turns;
+      mail = subst (λ (o : Option Text). IfSome o IsMailName) (sym (first_value-rows found (codes "mail"))) threads.mail;
       items = subst (λ (o : Option Text). IfSome o (IsUnsignedIn 0 255)) (sym (first_value-rows found (codes "items"))) threads.items;
     }
 
@@ -249,7 +250,7 @@ returns-clause-job g c =
     record { is = c.in_ok-command.ensures; matches = c.in_ok-matches.ensures.matches; faults = c.in_ok-matches.ensures.kinds } in
     let sub = c.in-Some-subcommand_matches-4 in
     let rows = rows_of (found_of sub.threads.now) in
-    asks_for _ refl words rows (codes "threads") c.threads_job.result (entered _ _ words _ (codes "threads") rows parse (sub.ensures.found.0 refl) sub.ensures.rows) c.threads_job.ensures
+    asks_for _ refl words rows (codes "threads") c.threads_job.result (entered _ refl _ words _ (codes "threads") rows parse (sub.ensures.found.0 refl) sub.ensures.rows) c.threads_job.ensures
 
 pub returns-clause-fault : goal.returns-clause-fault
 returns-clause-fault g c =

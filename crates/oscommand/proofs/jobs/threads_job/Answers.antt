@@ -8,4 +8,4 @@ returns c =
     let found = found_of c.args.threads.now in
     let config = sym (first_value-rows found (codes "CFG")) ∙ sym c.in-Some-Some.ensures in
     let stimuli = sym (first_value-rows found (codes "STIM")) ∙ sym c.in-Some-Some.ensures' in
-    ((config, stimuli, c.turns_of.ensures, c.items_core.ensures), refl)
+    ((config, stimuli, c.turns_of.ensures, c.mail_of.ensures, c.items_core.ensures), refl)

@@ -1,16 +1,21 @@
-use Rattle.std.proofs.Common.{List, IsTrue, arith, map, sym, ap, subst, ◌∙◌}
+use Rattle.std.proofs.Common.{List, IsTrue, arith, is_some, map, sym, ap, subst, ◌∙◌}
 use Rattle.osbase.specs.declared.references.CoreId.{CoreId}
 use Rattle.osplan.specs.declared.plans.Plan.{Plan}
 use Rattle.osplan.specs.Limits.{is_within_limits, sizes_of}
+use Rattle.osplan.specs.View.{core_of}
+use Rattle.osmail.specs.Rings.{AreCores}
 use Rattle.osseat.specs.Seats.{AllApart, fresh}
 use Rattle.osboard.specs.declared.calls.BoardCall.{BoardCall}
 use Rattle.osboard.specs.declared.calls.BoardReply.{BoardReply}
 use Rattle.osspin.specs.declared.calls.SpinCall.{SpinCall}
 use Rattle.osspin.specs.declared.calls.SpinReply.{SpinReply}
 use Rattle.osturn.specs.Fits.{ids_of}
+use Rattle.osthreads.specs.declared.seats.Seats.{Seats}
 use Rattle.osthreads.specs.Seats.{paired, shared}
+use Rattle.osthreads.specs.Threads.{AreEndsFor, equipped}
 use Rattle.osplan.proofs.Numbered.{master-low}
 use Rattle.osplan.proofs.Within.{between, cap-within, limit-parts}
+use Rattle.osmail.proofs.Chosen.{chosen_cores}
 use Rattle.osthreads.proofs.Gathering.{new-paired}
 use Rattle.osthreads.proofs.Senders.{ids-apart}
 use Rattle.osthreads.proofs.runs.prepare.Goals as goal
@@ -26,20 +31,31 @@ new-requires-clause-master c =
 pub new-requires-2 : goal.new-requires-2
 new-requires-2 c = subst AllApart (sym (c.from_vec-2.ensures ∙ c.in_ok-ids_of-2.ensures)) (ids-apart c.plan-plan.result.now)
 
-pub new-requires-3 : goal.new-requires-3
-new-requires-3 c =
-    let plan = c.plan-plan.result.now in
-    let limits = subst (λ (p : Plan). IsTrue (is_within_limits p)) (sym c.plan-plan.ensures.value) c.plan-plan.ensures.limits in
-    let cap = between 1 16 plan.cap (cap-within (sizes_of plan) (limit-parts plan limits).sizes) in
-    (omega arith, omega (arith, c.from.ensures, cap))
-
 pub returns-clause-cores : goal.returns-clause-cores
 returns-clause-cores c = c.in_ok-cores.ensures ∙ ap ids_of c.plan-plan.ensures.value
 
-pub returns-clause-seats : goal.returns-clause-seats
-returns-clause-seats c =
+pub mail_of-requires-clause-cores : goal.mail_of-requires-clause-cores
+mail_of-requires-clause-cores c =
+    subst AreCores (sym (c.as_slice.ensures.value ∙ c.in_ok-cores.ensures)) (chosen_cores (λ id. is_some (core_of c.plan-plan.result.now id)))
+
+pub mail_of-requires-clause-room : goal.mail_of-requires-clause-room
+mail_of-requires-clause-room c =
+    let plan = c.plan-plan.result.now in
+    let limits = subst (λ (p : Plan). IsTrue (is_within_limits p)) (sym c.plan-plan.ensures.value) c.plan-plan.ensures.limits in
+    let cap = between 1 16 plan.cap (cap-within (sizes_of plan) (limit-parts plan limits).sizes) in
+    omega (arith, c.from.ensures, cap)
+
+pub returns-clause-outfits : goal.returns-clause-outfits
+returns-clause-outfits c =
     let ids = c.from_vec.ensures ∙ c.in_ok-ids_of.ensures ∙ ap ids_of c.plan-plan.ensures.value in
     let ids_again = c.from_vec-2.ensures ∙ c.in_ok-ids_of-2.ensures ∙ ap ids_of c.plan-plan.ensures.value in
     let board = c.in_ok-board.ensures.seats ∙ ap (λ (cs : List CoreId). map (λ k. fresh {C = BoardCall} {R = BoardReply} c.in_ok-board.board k) cs) ids in
     let spins = c.in_ok-bank.ensures.seats ∙ ap (λ (cs : List CoreId). map (λ k. fresh {C = SpinCall} {R = SpinReply} c.in_ok-bank.bank k) cs) ids_again in
-    c.in_ok-seats.ensures ∙ (λ i. paired (board i) (spins i)) ∙ new-paired (shared c.in_ok-board.board c.in_ok-bank.bank) (ids_of c.args.config.now)
+    let seats = c.in_ok-seats.ensures ∙ (λ i. paired (board i) (spins i)) ∙ new-paired (shared c.in_ok-board.board c.in_ok-bank.bank) (ids_of c.args.config.now) in
+    record {
+      ends = c.in_ok-mail.ends.items;
+      made = c.in_ok-outfits.ensures ∙ ap (λ (ss : List Seats). equipped ss c.in_ok-mail.ends.items) seats;
+      ends_for = subst (λ (cs : List CoreId). AreEndsFor c.args.kind cs c.in_ok-mail.ends.items) (c.as_slice.ensures.value ∙ c.in_ok-cores.ensures ∙ ap ids_of c.plan-plan.ensures.value) c.in_ok-mail.ensures.cores;
+      all = c.in_ok-mail.ensures.ends;
+      unused = c.in_ok-mail.ensures.unused;
+    }

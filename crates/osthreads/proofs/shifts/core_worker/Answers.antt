@@ -36,6 +36,7 @@ loop-init g c = (
     running = ap (λ (k : KernelState). is_ended_phase k.progress.phase) c.new-core.ensures.kernel ∙ first-running _;
     stuck = λ some own. let before = own-before (length c.args.run.now.cores.now) 0 in absurd (omega (arith, own, before));
   },
+  refl,
 )
 
 pub returns-in-Some-go_on-clause-worked : goal.returns-in-Some-go_on-clause-worked
@@ -45,3 +46,6 @@ returns-in-Some-go_on-clause-worked g c =
     (c.in-Some-go_on.ensures.some c.args.run.now.stimuli.now c.loop.invariant.2)
     (someone c.args.run.now.config.now c.plan-plan.ensures.limits c.args.seats.board.core c.requires.configured)
     c.hand_back.ensures.report c.hand_back.ensures.seats c.hand_back.ensures.mail c.hand_back.ensures.stop
+
+pub returns-in-Some-go_on-clause-which : goal.returns-in-Some-go_on-clause-which
+returns-in-Some-go_on-clause-which g c = ap (g.M.Mail.which) c.hand_back.ensures.mail ∙ c.go_on.ensures.which ∙ c.loop.invariant.3

@@ -1,4 +1,4 @@
-use Rattle.std.proofs.Common.{◌≡◌, ◌<◌, length, ◌∷◌, [], ◌++◌, List, ap, sym, ◌∙◌, arith}
+use Rattle.std.proofs.Common.{◌<◌, length, ◌∷◌, [], ◌++◌, List, ap, sym, ◌∙◌, arith}
 use Rattle.osbase.specs.declared.turns.Report.{Report}
 use Rattle.osturn.specs.Seats.{report_of}
 use Rattle.osworld.proofs.worlds.report_each.Goals as goal

@@ -14,7 +14,7 @@ overflow_add-self g c =
 pub invariant_of-self-2 : goal.invariant_of-self-2
 invariant_of-self-2 g c =
     let all : length c.self.inside.counts ≡ CORES = search rules in
-    let longer : length c.push.new.self ≡ c.len.result + 1 = ap length c.push.ensures ∙ length-append c.index_mut-letters.result.now (c.args.envelope ∷ []) ∙ ap (λ n. n + 1) (sym c.len.ensures) in
+    let longer : length c.push.new.self ≡ c.len.result + 1 = ap length c.push.ensures ∙ length-append c.index_mut-letters.result.now (c.args.envelope.letter ∷ []) ∙ ap (λ n. n + 1) (sym c.len.ensures) in
     let was : length (get_or c.self.inside.boxes.items (place_of c.args.from c.args.to) []) ≡ c.len.result = ap length (read-at c.self.inside.boxes.items c.args.from c.args.to c.place.result _ c.requires.sender c.requires.receiver c.self.invariant.0.places c.place.ensures.value c.index_mut-letters.ensures.value) ∙ sym c.len.ensures in
     rw (c.place.ensures.value, c.from.ensures)
     (counted-set g.row.CAP c.self.inside.cap c.self.inside.counts c.self.inside.boxes.items c.args.from c.args.to c.push.new.self (get_or c.self.inside.counts c.args.to.number 0 + 1) c.requires.sender c.requires.receiver all c.self.invariant

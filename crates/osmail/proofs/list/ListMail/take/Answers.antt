@@ -10,7 +10,7 @@ overflow_sub-self g c =
     let is : get_or c.self.inside.counts c.from.result 0 ≡ waiting_in c.self.inside.boxes.items c.args.to = rw c.from.ensures (c.self.invariant.1 c.args.to c.requires.receiver) in
     let part = waiting-part c.self.inside.boxes.items c.args.from c.args.to c.requires.sender in
     let was = ap length (read-at c.self.inside.boxes.items c.args.from c.args.to c.place.result _ c.requires.sender c.requires.receiver c.self.invariant.0.places c.place.ensures.value c.index_mut.ensures.value) in
-    let some = slice_get_within c.index_mut.result.now 0 c.in_ok-envelope.envelope (sym c.pop.ensures.oldest ∙ c.in_ok-envelope.was) in
+    let some = slice_get_within c.index_mut.result.now 0 c.in_ok-letter.letter (sym c.pop.ensures.oldest ∙ c.in_ok-letter.was) in
     omega (arith, is, part, was, some)
 
 pub invariant_of-self-2 : goal.invariant_of-self-2
@@ -18,7 +18,7 @@ invariant_of-self-2 g c =
     let all : length c.self.inside.counts ≡ CORES = search rules in
     let shorter : length c.pop.new.self ≡ length c.index_mut.result.now - 1 = ap length c.pop.ensures.rest ∙ length-drop 1 c.index_mut.result.now in
     let was = ap length (read-at c.self.inside.boxes.items c.args.from c.args.to c.place.result _ c.requires.sender c.requires.receiver c.self.invariant.0.places c.place.ensures.value c.index_mut.ensures.value) in
-    let some = slice_get_within c.index_mut.result.now 0 c.in_ok-envelope.envelope (sym c.pop.ensures.oldest ∙ c.in_ok-envelope.was) in
+    let some = slice_get_within c.index_mut.result.now 0 c.in_ok-letter.letter (sym c.pop.ensures.oldest ∙ c.in_ok-letter.was) in
     let part = waiting-part c.self.inside.boxes.items c.args.from c.args.to c.requires.sender in
     let is = c.self.invariant.1 c.args.to c.requires.receiver in
     let cap = c.self.invariant.0.within (place_of c.args.from c.args.to) (omega (arith, c.place.ensures.below, c.place.ensures.value)) in

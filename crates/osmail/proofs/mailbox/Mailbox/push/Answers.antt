@@ -1,5 +1,8 @@
-use Rattle.std.proofs.Common.{◌≡◌, ◌∷◌, ◌++◌, List, [], length, length-append, subst, sym, ap, arith}
+use Rattle.std.proofs.Common.{◌≡◌, ◌+◌, ◌∷◌, ◌++◌, ◌∙◌, List, [], length, length-append, subst, sym, ap, arith}
+use Rattle.std.proofs.lemmas.List.{length-map, map-append}
 use Rattle.osbase.specs.declared.messages.Envelope.{Envelope}
+use Rattle.osbase.specs.declared.messages.Letter.{Letter}
+use Rattle.osmail.specs.Ends.{letters_of}
 use Rattle.osmail.specs.Mailboxes.{AreNumbered, IsNext, MailboxState}
 use Rattle.osmail.proofs.Steps.{numbered-push}
 use Rattle.osmail.proofs.mailbox.Mailbox.push.Goals as goal
@@ -8,17 +11,18 @@ pub invariant_of-self : goal.invariant_of-self
 invariant_of-self g c =
     let old = c.self.inside in
     let e = c.args.envelope in
+    let letter = (λ (x : Envelope). x.letter) in
     let is = c.in-Ok.ensures.items in
-    let next = subst (λ (t : MailboxState). IsNext t e) (sym c.self.view_is) (c.is_next.ensures.0 c.if-not-is_next.false) in
+    let next = subst (λ (t : MailboxState). IsNext t e.letter) (sym c.self.view_is) (c.is_next.ensures.0 c.if-not-is_next.false) in
     let i = c.self.invariant in
-    let l : length c.push_back.new.self.items ≡ length (old.envelopes.items ++ e ∷ []) = ap (λ (l : List Envelope). length l) is in
-    let m = length-append old.envelopes.items (e ∷ []) in
-    let k : length old.envelopes.items ≡ c.len.result = omega (arith, c.len.ensures, old.envelopes.ok.0) in (
+    let letters : letters_of c.push_back.new.self.items ≡ letters_of old.envelopes.items ++ e.letter ∷ [] = ap letters_of is ∙ map-append letter old.envelopes.items (e ∷ []) in
+    let l : length (letters_of c.push_back.new.self.items) ≡ length (letters_of old.envelopes.items) + 1 = ap (λ (ls : List Letter). length ls) letters ∙ length-append (letters_of old.envelopes.items) (e.letter ∷ []) in
+    let k : length (letters_of old.envelopes.items) ≡ c.len.result = omega (arith, length-map old.envelopes.items letter, c.len.ensures, old.envelopes.ok.0) in (
       omega (arith, i.0, c.push_back.ensures.capacity),
       record {
-        within = omega (arith, c.if-len-self.false);
+        within = omega (arith, l, k, c.if-len-self.false);
         fits = i.1.fits;
-        small = omega (arith, next.number, next.small);
-        numbered = subst (λ (l : List Envelope). AreNumbered old.next l) (sym is) (numbered-push old.next old.envelopes.items e i.1.numbered next.number);
+        small = omega (arith, l, next.number, next.small);
+        numbered = subst (λ (ls : List Letter). AreNumbered old.next ls) (sym letters) (numbered-push old.next (letters_of old.envelopes.items) e.letter i.1.numbered next.number);
       },
     )

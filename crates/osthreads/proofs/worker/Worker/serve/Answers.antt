@@ -10,7 +10,7 @@ use Rattle.osthreads.proofs.worker.Worker.serve.Goals as goal
 pub returns-clause-turns : goal.returns-clause-turns
 returns-clause-turns g c stimuli loads done =
     let old = c.args.self.now in
-    let e = c.in-Some.envelope in
+    let e = c.in-Some.envelope.letter in
     receipt-took old.run.now.config.now stimuli loads old.core c.take-2.new.self (made_from old.seats) _ _ _ _ _ done (Oldest c.args.from) (Found (Some e)) (Item.Received c.args.from e.number e.message)
     (Choice.Serve c.args.from, refl) refl (sym c.may_take.ensures.state ∙ c.if-not-may_take.false)
     (record { id = c.take-2.ensures.id; left = c.take-2.ensures.stimuli; items = c.take-2.ensures.taken; does = c.take-2.ensures.does })

@@ -1,0 +1,35 @@
+-- What a thread gives back, whatever the kind of mail: it is an ending of its core's worker.
+use Rattle.std.proofs.Common.{◌≡◌, subst}
+use Rattle.osbase.specs.declared.references.CoreId.{CoreId}
+use Rattle.osplan.specs.View.{view_of}
+use Rattle.osmail.specs.Ends.{Streams}
+use Rattle.osturn.specs.Fits.{history_by}
+use Rattle.osthreads.specs.declared.ending.Ending.{Ending}
+use Rattle.osthreads.specs.declared.ending.Kept.{Kept}
+use Rattle.osthreads.specs.declared.run.Run.{Run}
+use Rattle.osthreads.specs.declared.worker.Worked.{Worked}
+use Rattle.osthreads.specs.Seats.{AreAt, shared}
+use Rattle.osthreads.specs.Threads.{IsEnded, sent_of, taken_of}
+use Rattle.osthreads.specs.Working.{IsMailed, IsWorked, refusal_at}
+use Rattle.osthreads.proofs.Shifting.{worked-finished}
+use Rattle.osthreads.proofs.Working.{spins-thin, thin}
+
+-- What the worker of a core gave back, whatever its end of the mail left behind that says what it sent and took.
+abbrev pub ending : {M : Type 0} → Worked M → Kept → Ending
+ending w kept = record { report = w.report; seats = w.seats; kept = kept; stop = w.stop }
+
+pub ended-by : {M : Type 0} (sent taken : M → Streams) (run : Run) (id : CoreId) (w : Worked M) (kept : Kept) → IsWorked sent taken run w → w.report.core ≡ id → AreAt (shared run.board.now run.bank.now) id w.seats → sent w.mail ≡ sent_of kept → taken w.mail ≡ taken_of kept → IsEnded run.config.now run.stimuli.now run.turns (shared run.board.now run.bank.now) id (ending w kept)
+ended-by sent taken run id w kept worked core at same_sent same_taken = record {
+  core = core;
+  placed = at;
+  log = worked.calls.log;
+  is_run = record {
+    alone = record { own = worked.own; fits = worked.fits };
+    answers = worked.calls.answers;
+  };
+  board = thin _ _ _ _ worked.calls;
+  spins = spins-thin _ _ _ _ worked.calls;
+  mail = subst (λ (s : Streams). IsMailed (view_of run.config.now w.report.core) (history_by run.config.now w.report.core w.report.items) s (taken_of kept) (refusal_at w.stop)) same_sent
+      (subst (λ (t : Streams). IsMailed (view_of run.config.now w.report.core) (history_by run.config.now w.report.core w.report.items) (sent w.mail) t (refusal_at w.stop)) same_taken worked.mail);
+  finished = worked-finished sent taken run w worked;
+}

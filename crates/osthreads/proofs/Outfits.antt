@@ -1,0 +1,249 @@
+-- What the cores' threads start with; and of the ends of rings, that those which come back are those which were given, and what they
+-- show together.
+use Rattle.std.proofs.Common.{◌≡◌, Bool, true, false, Option, Some, None, is_some, List, [], ◌∷◌, ◌++◌, drop, length, map, refl, sym, ap, subst, ◌∙◌, append_assoc, append-nil, arith}
+use Rattle.std.specs.Option.{option_to_list}
+use Rattle.std.proofs.lemmas.Option.{same_Some}
+use Rattle.std.proofs.lemmas.Bool.{false≢true}
+use Rattle.std.specs.List.{AllByRecursion}
+use Rattle.osbase.specs.declared.references.CoreId.{CoreId}
+use Rattle.osbase.specs.declared.messages.Letter.{Letter}
+use Rattle.osbase.specs.declared.turns.Report.{Report}
+use Rattle.osplan.specs.declared.plans.Plan.{Plan}
+use Rattle.osplan.specs.View.{core_of}
+use Rattle.osmail.specs.declared.ends.MailStep.{MailStep}
+use Rattle.osmail.specs.declared.rings.RingEnd.{RingEnd}
+use Rattle.osmail.specs.Ends.{Streams, sent_to, taken_from}
+use Rattle.osmail.specs.Rings.{AreDelivered, EndId, EndPast, IsDelivered, IsUnused, core_of_end, end_id, past_of, ring_sent, ring_taken}
+use Rattle.osturn.specs.Fits.{IsBeginning, ids_of}
+use Rattle.osthreads.specs.declared.ending.Ending.{Ending}
+use Rattle.osthreads.specs.declared.ending.Kept.{Kept}
+use Rattle.osthreads.specs.declared.ending.Kept.TheVariants.{Rings, Steps}
+use Rattle.osthreads.specs.declared.ending.Outfit.{Outfit}
+use Rattle.osbase.specs.declared.messages.MailKind.{MailKind}
+use Rattle.osbase.specs.declared.messages.MailKind.TheVariants.{Locked, Ring}
+use Rattle.osthreads.specs.declared.seats.Seats.{Seats}
+use Rattle.osthreads.specs.Seats.{Shared, first_seats}
+use Rattle.osthreads.specs.Threads.{AreEndsFor, AreEquipped, AreReady, AreSettled, IsReady, IsSameEnd, IsSettled, end_kept, end_of, ends_kept, equipped, kept_in, outfit_cores, sent_of, taken_of, which_kept}
+use Rattle.osthreads.proofs.Gathering.{all-configured}
+
+pub outfit_cores-push : (os : List Outfit) (o : Outfit) → outfit_cores (os ++ o ∷ []) ≡ outfit_cores os ++ o.seats.board.core ∷ []
+outfit_cores-push [] o = refl
+outfit_cores-push (p ∷ os) o = ap (λ (cs : List CoreId). p.seats.board.core ∷ cs) (outfit_cores-push os o)
+
+pub kept-push : (es : List Ending) (e : Ending) → map end_kept (es ++ e ∷ []) ≡ map end_kept es ++ end_kept e ∷ []
+kept-push [] e = refl
+kept-push (x ∷ es) e = ap (λ (is : List (Option EndId)). end_kept x ∷ is) (kept-push es e)
+
+pub given-push : (os : List Outfit) (o : Outfit) → map end_of (os ++ o ∷ []) ≡ map end_of os ++ end_of o ∷ []
+given-push [] o = refl
+given-push (p ∷ os) o = ap (λ (is : List (Option EndId)). end_of p ∷ is) (given-push os o)
+
+-- ---- before the threads
+
+-- One core's seats more, with the next end, if there is one.
+abbrev outfit : Seats → Option RingEnd → Outfit
+outfit s end = record { seats = s; end = end }
+
+no-shorter : {X : Type 0} (x : X) (xs : List X) → x ∷ xs ≡ xs → ⊥
+no-shorter x xs same = let lengths = ap length same in omega (arith, lengths)
+
+one-equipped : (s : Seats) (more : List Seats) (left rest : List RingEnd) (end : Option RingEnd) → left ≡ option_to_list end ++ rest → rest ≡ drop 1 left → equipped (s ∷ more) left ≡ outfit s end ∷ equipped more rest
+one-equipped s more left rest (Some e) items dropped = ap (equipped (s ∷ more)) items
+one-equipped s more [] rest None items dropped = ap (λ (es : List RingEnd). outfit s None ∷ equipped more es) items
+one-equipped s more (x ∷ xs) rest None items dropped = absurd (no-shorter x xs (items ∙ dropped))
+
+pub equipped_more : (done : List Seats) (s : Seats) (ends left rest : List RingEnd) (outfits outfits' : List Outfit) (end : Option RingEnd) → left ≡ option_to_list end ++ rest → rest ≡ drop 1 left → outfits' ≡ outfits ++ outfit s end ∷ [] → ((more : List Seats) → equipped (done ++ more) ends ≡ outfits ++ equipped more left) → (more : List Seats) → equipped ((done ++ s ∷ []) ++ more) ends ≡ outfits' ++ equipped more rest
+equipped_more done s ends left rest outfits outfits' end items dropped pushed so more =
+    ap (λ (ss : List Seats). equipped ss ends) (append_assoc done (s ∷ []) more) ∙ so (s ∷ more)
+    ∙ ap (λ (os : List Outfit). outfits ++ os) (one-equipped s more left rest end items dropped)
+    ∙ sym (append_assoc outfits (outfit s end ∷ []) (equipped more rest))
+    ∙ ap (λ (os : List Outfit). os ++ equipped more rest) (sym pushed)
+
+pub equipped_whole : (done seats : List Seats) (ends left : List RingEnd) (outfits : List Outfit) → done ≡ seats → ((more : List Seats) → equipped (done ++ more) ends ≡ outfits ++ equipped more left) → outfits ≡ equipped seats ends
+equipped_whole done seats ends left outfits all so =
+    sym (append-nil outfits) ∙ sym (so []) ∙ ap (λ (ss : List Seats). equipped ss ends) (append-nil done ∙ all)
+
+-- ---- by kind
+
+abbrev is_ring : MailKind → Bool
+is_ring Ring = true
+is_ring Locked = false
+
+pub not_locked : (kind : MailKind) (es : List Ending) → kind ≡ Ring → kind ≡ Locked → AreSettled es
+not_locked kind es ring locked = absurd (false≢true (sym (ap is_ring (sym ring ∙ locked))))
+
+pub ring_ends : (kind : MailKind) (cores : List CoreId) (ends : List RingEnd) → kind ≡ Ring → map core_of_end ends ≡ cores → AreEndsFor kind cores ends
+ring_ends kind cores ends is all = subst (λ (k : MailKind). AreEndsFor k cores ends) (sym is) all
+
+pub no_ends : (kind : MailKind) (cores : List CoreId) (ends : List RingEnd) → kind ≡ Locked → ends ≡ [] → AreEndsFor kind cores ends
+no_ends kind cores ends is none = subst (λ (k : MailKind). AreEndsFor k cores ends) (sym is) none
+
+pub none_linked : (ends : List RingEnd) (rings : List EndId) → ends ≡ [] → rings ≡ [] → map end_id ends ≡ rings
+none_linked ends rings none none' = ap (map end_id) none ∙ sym none'
+
+pub none_unused : (ends : List RingEnd) → ends ≡ [] → AllByRecursion IsUnused ends
+none_unused ends none = subst (AllByRecursion IsUnused) (sym none) tt
+
+equipped-cores : (shared : Shared) (cs : List CoreId) (ends : List RingEnd) → outfit_cores (equipped (map (first_seats shared) cs) ends) ≡ cs
+equipped-cores shared [] ends = refl
+equipped-cores shared (c ∷ cs) [] = ap (λ (ds : List CoreId). c ∷ ds) (equipped-cores shared cs [])
+equipped-cores shared (c ∷ cs) (e ∷ ends) = ap (λ (ds : List CoreId). c ∷ ds) (equipped-cores shared cs ends)
+
+module _ (plan : Plan) (cores : List CoreId) (shared : Shared) (listed : cores ≡ ids_of plan) where
+  ready-each : (cs : List CoreId) (ends : List RingEnd) → AllByRecursion (λ c. is_some (core_of plan c) ≡ true) cs → AllByRecursion IsUnused ends → AreReady plan cores shared (equipped (map (first_seats shared) cs) ends)
+  ready-each [] ends all unused = tt
+  ready-each (c ∷ cs) [] all unused = (
+    record { listed = listed; configured = all.0; placed = record { board = refl; spins = refl; board_core = refl; spins_core = refl }; fresh = refl; unused = tt },
+    ready-each cs [] all.1 tt,
+  )
+  ready-each (c ∷ cs) (e ∷ ends) all unused = (
+    record { listed = listed; configured = all.0; placed = record { board = refl; spins = refl; board_core = refl; spins_core = refl }; fresh = refl; unused = unused.0 },
+    ready-each cs ends all.1 unused.1,
+  )
+
+  -- Each configured core's outfit is ready.
+  pub all-ready : (kind : MailKind) (rings : List EndId) (outfits : List Outfit) → AreEquipped kind (ids_of plan) shared rings outfits → AreReady plan cores shared outfits
+  all-ready kind rings outfits are = subst (AreReady plan cores shared) (sym are.made) (ready-each (ids_of plan) are.ends (all-configured plan) are.unused)
+
+-- An outfit with an end of the rings, or without one.
+pub ready_with : (plan : Plan) (cores : List CoreId) (shared : Shared) (outfit : Outfit) (end : Option RingEnd) → outfit.end ≡ end → IsReady plan cores shared outfit → IsReady plan cores shared (record { seats = outfit.seats; end = end })
+ready_with plan cores shared outfit end is ready = subst (λ (e : Option RingEnd). IsReady plan cores shared (record { seats = outfit.seats; end = e })) is ready
+
+pub same_given : (given end : Option RingEnd) (kept : Kept) → given ≡ end → IsSameEnd end kept → IsSameEnd given kept
+same_given given end kept is same = subst (λ (e : Option RingEnd). IsSameEnd e kept) (sym is) same
+
+-- ---- after them
+
+-- One ending more, and what it left behind.
+pub kept_more : (es : List Ending) (e : Ending) (ends ends' : List RingEnd) → ends ≡ ends_kept es → ends' ≡ ends ++ kept_in e.kept → ends' ≡ ends_kept (es ++ e ∷ [])
+kept_more es e ends ends' are more = more ∙ ap (λ (xs : List RingEnd). xs ++ kept_in e.kept) are ∙ push es
+  where
+    push : (es : List Ending) → ends_kept es ++ kept_in e.kept ≡ ends_kept (es ++ e ∷ [])
+    push [] = sym (append-nil (kept_in e.kept))
+    push (x ∷ es) = append_assoc (kept_in x.kept) (ends_kept es) (kept_in e.kept) ∙ ap (λ (xs : List RingEnd). kept_in x.kept ++ xs) (push es)
+
+-- What two records of mailboxes under locks show.
+pub settled_by : (a b : Ending) (sent taken : List MailStep) (left : List Letter) → (sent_of a.kept ≡ sent_to sent) × (taken_of a.kept ≡ taken_from sent) → (sent_of b.kept ≡ sent_to taken) × (taken_of b.kept ≡ taken_from taken) → taken_from taken a.report.core ++ left ≡ sent_to sent b.report.core → IsSettled a b
+settled_by a b sent taken left from to same =
+    subst (λ (s : Streams). IsBeginning (taken_of b.kept a.report.core) (s b.report.core)) (sym from.0)
+    (subst (λ (s : Streams). IsBeginning (s a.report.core) (sent_to sent b.report.core)) (sym to.1) (left, same))
+
+-- Those that are there.
+abbrev somes : {X : Type 0} → List (Option X) → List X
+somes [] = []
+somes (None ∷ os) = somes os
+somes (Some x ∷ os) = x ∷ somes os
+
+abbrev first-of : {X : Type 0} → List X → Option X
+first-of [] = None
+first-of (x ∷ xs) = Some x
+
+abbrev rest-of : {X : Type 0} → List X → List X
+rest-of [] = []
+rest-of (x ∷ xs) = xs
+
+abbrev is_cons : {X : Type 0} → List X → Bool
+is_cons [] = false
+is_cons (x ∷ xs) = true
+
+some-none : {X : Type 0} (x : X) (xs : List X) → x ∷ xs ≡ [] → ⊥
+some-none x xs same = false≢true (sym (ap is_cons same))
+
+same-first : {X : Type 0} (x y : X) (xs ys : List X) → x ∷ xs ≡ y ∷ ys → x ≡ y
+same-first x y xs ys same = same_Some _ _ (ap first-of same)
+
+same-rest : {X : Type 0} (x y : X) (xs ys : List X) → x ∷ xs ≡ y ∷ ys → xs ≡ ys
+same-rest x y xs ys same = ap rest-of same
+
+ids-back : (es : List Ending) → map end_id (ends_kept es) ≡ somes (map end_kept es)
+ids-back [] = refl
+ids-back (e ∷ es) = by e.kept (ids-back es)
+  where
+    by : (kept : Kept) → map end_id (ends_kept es) ≡ somes (map end_kept es) → map end_id (kept_in kept ++ ends_kept es) ≡ somes (which_kept kept ∷ map end_kept es)
+    by (Steps steps) rest = rest
+    by (Rings end) rest = ap (λ (is : List EndId). end_id end ∷ is) rest
+
+given-each : (shared : Shared) (cs : List CoreId) (ends : List RingEnd) → map core_of_end ends ≡ cs → somes (map end_of (equipped (map (first_seats shared) cs) ends)) ≡ map end_id ends
+given-each shared [] [] cores = refl
+given-each shared [] (e ∷ ends) cores = absurd (some-none _ _ cores)
+given-each shared (c ∷ cs) [] cores = absurd (some-none _ _ (sym cores))
+given-each shared (c ∷ cs) (e ∷ ends) cores = ap (λ (is : List EndId). end_id e ∷ is) (given-each shared cs ends (same-rest _ _ _ _ cores))
+
+given-none : (ss : List Seats) → somes (map end_of (equipped ss [])) ≡ []
+given-none [] = refl
+given-none (s ∷ ss) = given-none ss
+
+given-all : (kind : MailKind) (shared : Shared) (cs : List CoreId) (ends : List RingEnd) → AreEndsFor kind cs ends → somes (map end_of (equipped (map (first_seats shared) cs) ends)) ≡ map end_id ends
+given-all Ring shared cs ends cores = given-each shared cs ends cores
+given-all Locked shared cs ends none = subst (λ (es : List RingEnd). somes (map end_of (equipped (map (first_seats shared) cs) es)) ≡ map end_id es) (sym none) (given-none (map (first_seats shared) cs))
+
+-- It left an end of the rings behind, of its core.
+record IsRung (e : Ending) : Type 0 where
+  end : RingEnd
+  kept : e.kept ≡ Rings end
+  core : core_of_end end ≡ e.report.core
+
+rung-by : (e : Ending) (given : RingEnd) → end_kept e ≡ Some (end_id given) → core_of_end given ≡ e.report.core → IsRung e
+rung-by e given same core = by e.kept refl same
+  where
+    by : (kept : Kept) → e.kept ≡ kept → which_kept kept ≡ Some (end_id given) → IsRung e
+    by (Steps steps) is same = absurd (false≢true (ap is_some same))
+    by (Rings end) is same = record { end = end; kept = is; core = ap (λ (i : EndId). i.core) (same_Some _ _ same) ∙ core }
+
+abbrev report_cores : List Ending → List CoreId
+report_cores es = map (λ (r : Report). r.core) (map (λ (e : Ending). e.report) es)
+
+rung-each : (shared : Shared) (cs : List CoreId) (ends : List RingEnd) (es : List Ending) → map core_of_end ends ≡ cs → map end_kept es ≡ map end_of (equipped (map (first_seats shared) cs) ends) → report_cores es ≡ cs → AllByRecursion IsRung es
+rung-each shared cs ends [] cores same reports = tt
+rung-each shared [] ends (e ∷ es) cores same reports = absurd (some-none _ _ reports)
+rung-each shared (c ∷ cs) [] (e ∷ es) cores same reports = absurd (some-none _ _ (sym cores))
+rung-each shared (c ∷ cs) (g ∷ ends) (e ∷ es) cores same reports = (
+  rung-by e g (same-first _ _ _ _ same) (same-first _ _ _ _ cores ∙ sym (same-first _ _ _ _ reports)),
+  rung-each shared cs ends es (same-rest _ _ _ _ cores) (same-rest _ _ _ _ same) (same-rest _ _ _ _ reports),
+)
+
+abbrev pasts : (es : List Ending) → AllByRecursion IsRung es → List EndPast
+pasts [] rung = []
+pasts (e ∷ es) rung = past_of rung.0.end ∷ pasts es rung.1
+
+pasts-are : (es : List Ending) (rung : AllByRecursion IsRung es) → map past_of (ends_kept es) ≡ pasts es rung
+pasts-are [] rung = refl
+pasts-are (e ∷ es) rung =
+    ap (λ (kept : Kept). map past_of (kept_in kept ++ ends_kept es)) rung.0.kept ∙ ap (λ (ps : List EndPast). past_of rung.0.end ∷ ps) (pasts-are es rung.1)
+
+settled-one : (a b : Ending) (from : IsRung a) (to : IsRung b) → IsDelivered (past_of from.end) (past_of to.end) → IsSettled a b
+settled-one a b from to delivered =
+    subst (λ (k : Kept). IsBeginning (taken_of k a.report.core) (sent_of a.kept b.report.core)) (sym to.kept)
+    (subst (λ (k : Kept). IsBeginning (ring_taken to.end a.report.core) (sent_of k b.report.core)) (sym from.kept)
+    (subst (λ (c : CoreId). IsBeginning (ring_taken to.end c) (ring_sent from.end b.report.core)) from.core
+    (subst (λ (c : CoreId). IsBeginning (ring_taken to.end (core_of_end from.end)) (ring_sent from.end c)) to.core delivered)))
+
+settled-row : (a : Ending) (from : IsRung a) (bs : List Ending) (rung : AllByRecursion IsRung bs) → AllByRecursion (IsDelivered (past_of from.end)) (pasts bs rung) → AllByRecursion (IsSettled a) bs
+settled-row a from [] rung all = tt
+settled-row a from (b ∷ bs) rung all = (settled-one a b from rung.0 all.0, settled-row a from bs rung.1 all.1)
+
+settled-rows : (es : List Ending) (to : AllByRecursion IsRung es) (xs : List Ending) (from : AllByRecursion IsRung xs) → AllByRecursion (λ a. AllByRecursion (IsDelivered a) (pasts es to)) (pasts xs from) → AllByRecursion (λ (a : Ending). AllByRecursion (IsSettled a) es) xs
+settled-rows es to [] from all = tt
+settled-rows es to (x ∷ xs) from all = (settled-row x from.0 es to all.0, settled-rows es to xs from.1 all.1)
+
+rings-settled : (es : List Ending) → AllByRecursion IsRung es → AreDelivered (map past_of (ends_kept es)) → AreSettled es
+rings-settled es rung delivered = settled-rows es rung es rung (subst AreDelivered (pasts-are es rung) delivered)
+
+module _ (kind : MailKind) (cs : List CoreId) (shared : Shared) (rings : List EndId) (outfits : List Outfit) (are : AreEquipped kind cs shared rings outfits) where
+  pub all-cores : outfit_cores outfits ≡ cs
+  all-cores = ap outfit_cores are.made ∙ equipped-cores shared cs are.ends
+
+  module _ (es : List Ending) (same : map end_kept es ≡ map end_of outfits) where
+    -- All ends of the rings came back, and no others.
+    pub all-back : map end_id (ends_kept es) ≡ rings
+    all-back = ids-back es ∙ ap somes (same ∙ ap (map end_of) are.made) ∙ given-all kind shared cs are.ends are.ends_for ∙ are.all
+
+    -- What the ends of rings show together is what the comparison of mailboxes under locks shows.
+    pub all-settled : report_cores es ≡ cs → AreDelivered (map past_of (ends_kept es)) → (kind ≡ Locked → AreSettled es) → AreSettled es
+    all-settled reports delivered compared = by kind refl
+      where
+        by : (k : MailKind) → kind ≡ k → AreSettled es
+        by Locked is = compared is
+        by Ring is =
+            let cores : map core_of_end are.ends ≡ cs = subst (λ (k : MailKind). AreEndsFor k cs are.ends) is are.ends_for in
+            rings-settled es (rung-each shared cs are.ends es cores (same ∙ ap (map end_of) are.made) reports) delivered
