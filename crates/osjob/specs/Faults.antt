@@ -48,6 +48,7 @@ of_log log.NoMemory = NoMemoryToRun
 
 -- The fault of a run by threads.
 abbrev pub of_threads : ThreadReason → Fault
+of_threads threads.NotBegun = NoMemoryToRun
 of_threads threads.NoMemory = NoMemoryToRun
 of_threads threads.NoThread = NoThread
 of_threads threads.MailBreak = MailBreak

@@ -108,6 +108,7 @@ impl From<ThreadFault> for Fault {
 
     fn from(broken: ThreadFault) -> Fault {
         match broken.reason {
+            ThreadReason::NotBegun => Fault::NoMemoryToRun,
             ThreadReason::NoMemory => Fault::NoMemoryToRun,
             ThreadReason::NoThread => Fault::NoThread,
             ThreadReason::MailBreak => Fault::MailBreak,

@@ -1,10 +1,10 @@
 //! One core's end of the mail, and the record of what it sent and took.
 
 ghost use Rattle.std.specs.Prelude.{◌≡◌, IfOk, IfErr, OnOk, IfSome, IfNone};
-ghost use Rattle.osmail.specs.Ends.{AreUnchanged, HasOneMore, letters_of, sent_to, taken_from};
+ghost use Rattle.osmail.specs.Ends.{AreUnchanged, HasOneMore};
 
 use osbase::{CoreId, Envelope, Letter};
-use std::alloc::{AllocError, Global};
+use std::alloc::AllocError;
 
 /// What an end did.
 #[derive(Clone, Copy)]
@@ -55,49 +55,4 @@ pub trait Mail {
         ensures none { IfNone result (AreUnchanged (taken self.old) (taken self.new) × has_room self.new) }
         ensures sent { AreUnchanged (sent self.old) (sent self.new) }
         ensures which { which self.new ≡ which self.old };
-}
-
-// The letters in envelopes.
-pub(crate) fn letters_of(alloc: Global, envelopes: &[Envelope]) -> Result<Vec<Letter>, AllocError>
-    ensures { IfOk result (λ v. v.items ≡ letters_of envelopes.now) }
-{
-    let mut all = Vec::new(alloc);
-    for envelope in envelopes {
-        all.push(envelope.letter)?;
-    }
-    Ok(all)
-}
-
-/// What was sent to a core.
-pub fn sent_to(alloc: Global, steps: &[MailStep], to: CoreId) -> Result<Vec<Letter>, AllocError>
-    ensures { IfOk result (λ v. v.items ≡ sent_to steps.now to) }
-{
-    let mut all = Vec::new(alloc);
-    for step in steps {
-        if let MailStep::Sent(core, letter) = step {
-            if core.number == to.number {
-                all.push(*letter)?;
-            }
-        }
-    }
-    Ok(all)
-}
-
-/// What was taken from a core.
-pub fn taken_from(
-    alloc: Global,
-    steps: &[MailStep],
-    from: CoreId,
-) -> Result<Vec<Letter>, AllocError>
-    ensures { IfOk result (λ v. v.items ≡ taken_from steps.now from) }
-{
-    let mut all = Vec::new(alloc);
-    for step in steps {
-        if let MailStep::Taken(core, letter) = step {
-            if core.number == from.number {
-                all.push(*letter)?;
-            }
-        }
-    }
-    Ok(all)
 }

@@ -12,6 +12,7 @@ pub mod locked;
 pub mod mailbox;
 pub mod rings;
 mod sameness;
+mod settling;
 
 pub use ends::{Mail, MailStep};
 pub use list::ListMail;

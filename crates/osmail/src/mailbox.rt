@@ -1,11 +1,12 @@
 //! The mailbox of one ordered pair of cores.
 
-ghost use Rattle.std.specs.Prelude.{◌≡◌, ◌++◌, ◌<◌, ◌≤◌, ◌↔◌, ◌⊎◌, length, slice_get, IfOk, IfErr, OnOk, IsTrue};
+ghost use Rattle.std.specs.Prelude.{◌≡◌, ◌++◌, ◌<◌, ◌≤◌, ◌↔◌, ◌⊎◌, List, length, slice_get, IfOk, IfErr, IfSome, IfNone, OnOk, IsTrue};
+ghost use Rattle.osbase.specs.declared.messages.Letter.{Letter};
 ghost use Rattle.osmail.specs.Ends.{letter_in, sent_to, taken_from};
 ghost use Rattle.osmail.specs.Mailboxes.{IsNext, after_pop, after_push, empty_mailbox};
 
-use crate::ends::{MailStep, letters_of, sent_to, taken_from};
-use crate::sameness::are_same;
+use crate::ends::MailStep;
+use crate::settling::{next_sent, without, without_taken};
 use osbase::{CoreId, Envelope};
 use std::alloc::{AllocError, Global};
 use std::collections::VecDeque;
@@ -88,22 +89,28 @@ impl<const CAP: usize> Mailbox<CAP> {
         Some(oldest)
     }
 
-    /// Whether what `to` took from `from`, and then what is left here, is what `from` sent to `to`.
-    pub fn settles(
-        &self,
-        alloc: Global,
-        from: CoreId,
-        sent: &[MailStep],
-        to: CoreId,
-        taken: &[MailStep],
-    ) -> Result<bool, AllocError>
-        ensures { IfOk result (λ b. IsTrue b ↔ taken_from taken.now from ++ self.now.letters ≡ sent_to sent.now to) }
+    // The steps behind the letters that are left here, if they were sent first.
+    fn without_left<'a>(&self, sent: &'a [MailStep], to: CoreId) -> Option<&'a [MailStep]>
+        ensures some { IfSome result (λ left. sent_to sent.now to ≡ self.now.letters ++ sent_to left.now to) }
+        ensures none { IfNone result ((more : List Letter) → self.now.letters ++ more ≡ sent_to sent.now to → ⊥) }
     {
-        let posted = sent_to(alloc, sent, to)?;
-        let mut received = taken_from(alloc, taken, from)?;
-        let envelopes: Vec<Envelope> = self.envelopes.iter().copied().collect(alloc)?;
-        let mut left = letters_of(alloc, envelopes.as_slice())?;
-        received.append(&mut left)?;
-        Ok(are_same(received.as_slice(), posted.as_slice()))
+        let mut left = sent;
+        for i in 0..self.envelopes.len() {
+            left = without(left, to, &self.envelopes[i].letter)?;
+        }
+        Some(left)
+    }
+
+    /// Whether what `to` took from `from`, and then what is left here, is what `from` sent to `to`. It takes no memory.
+    pub fn settles(&self, from: CoreId, sent: &[MailStep], to: CoreId, taken: &[MailStep]) -> bool
+        ensures { IsTrue result ↔ taken_from taken.now from ++ self.now.letters ≡ sent_to sent.now to }
+    {
+        let Some(sent) = without_taken(sent, to, taken, from) else {
+            return false;
+        };
+        let Some(sent) = self.without_left(sent, to) else {
+            return false;
+        };
+        next_sent(sent, to).is_none()
     }
 }

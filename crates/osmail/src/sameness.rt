@@ -1,25 +1,11 @@
-//! Whether two lists of letters are the same. `==` answers so too, but no clause says what its answer means.
+//! Whether two letters are the same. `==` answers so too, but no clause says what its answer means.
 
 ghost use Rattle.std.specs.Prelude.{◌≡◌, ◌↔◌, IsTrue};
 
 use osbase::{AlarmRef, CoreId, Letter, Message, RemoteCall, Status, TaskRef};
 
-/// Whether these lists are the same.
-pub(crate) fn are_same(left: &[Letter], right: &[Letter]) -> bool
-    ensures { IsTrue result ↔ left.now ≡ right.now }
-{
-    if left.len() != right.len() {
-        return false;
-    }
-    for i in 0..left.len() {
-        if !is_same(&left[i], &right[i]) {
-            return false;
-        }
-    }
-    true
-}
-
-fn is_same(left: &Letter, right: &Letter) -> bool
+/// Whether these letters are the same.
+pub(crate) fn is_same(left: &Letter, right: &Letter) -> bool
     ensures { IsTrue result ↔ left.now ≡ right.now }
 {
     if left.number != right.number {

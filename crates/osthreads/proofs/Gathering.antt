@@ -31,11 +31,11 @@ use Rattle.osthreads.specs.declared.ending.Ending.{Ending}
 use Rattle.osplan.specs.declared.plans.Plan.{Plan}
 use Rattle.osbase.specs.declared.turns.CoreStimuli.{CoreStimuli}
 use Rattle.osthreads.specs.declared.seats.Seats.{Seats}
-use Rattle.osthreads.specs.Runs.{AreFinished, AreOneSpins, AreRuns, IsDelivered, IsOneBoard, new_board, new_spins}
+use Rattle.osthreads.specs.Runs.{AreFinished, AreOneSpins, AreRuns, IsDelivered, IsOneBoard, IsOneCore, new_board, new_spins}
 use Rattle.osthreads.specs.Seats.{Shared, first_seats, made_from, paired}
-use Rattle.osthreads.specs.Threads.{AreAllFinished, AreEnded, AreSettled, IsEnded, IsSettled, sent_of, taken_of}
+use Rattle.osthreads.specs.Threads.{AreAllFinished, AreAllKept, AreEnded, AreSettled, IsEnded, IsSettled, sent_of, taken_of}
 use Rattle.osthreads.specs.declared.turns.Stop.{Stop}
-use Rattle.osthreads.specs.Working.{IsFinished, Refusal, is_finished_by, is_kept_by, is_short_of_memory, refusal_at, refused_from}
+use Rattle.osthreads.specs.Working.{IsFinished, Refusal, is_finished_by, is_kept_by, refusal_at, refused_from, was_stopped_by}
 use Rattle.osthreads.proofs.Senders.{ids-apart, nobody-listed}
 use Rattle.osthreads.proofs.Threaded.{both, runs-sound}
 
@@ -53,17 +53,13 @@ all-front P (x ∷ xs) ys all = let rest = all-front P xs ys all.1 in ((all.0, r
 pub all-more : {X : Type 0} (P : X → Type 0) (xs : List X) (i : ℕ) (d : X) → i < length xs → AllByRecursion P (take i xs) → P (get_or xs i d) → AllByRecursion P (take (i + 1) xs)
 all-more P xs i d lt all here = subst (AllByRecursion P) (sym (take_more xs i d lt)) (all-push P (take i xs) (get_or xs i d) all here)
 
-pub all-map : {X Y : Type 0} (P : Y → Type 0) (f : X → Y) (xs : List X) → AllByRecursion (λ x. P (f x)) xs → AllByRecursion P (map f xs)
-all-map P f [] all = tt
-all-map P f (x ∷ xs) all = (all.0, all-map P f xs all.1)
-
 abbrev BoardSeat : Type 0
 BoardSeat = Held CoreId BoardCall BoardReply
 
 abbrev SpinSeat : Type 0
 SpinSeat = Held Unit SpinCall SpinReply
 
-abbrev reports_of : List Ending → List Report
+abbrev pub reports_of : List Ending → List Report
 reports_of es = map (λ (e : Ending). e.report) es
 
 abbrev boards_of : List Ending → List BoardSeat
@@ -74,22 +70,28 @@ spins_of es = map (λ (e : Ending). e.seats.spins) es
 
 -- ---- endings
 
-no-refusal : (stop : Stop) → is_finished_by stop ≡ true → refusal_at stop ≡ None
-no-refusal (Stop.Refused from e) finished = absurd (false≢true finished)
-no-refusal stop finished = refl
+no-refusal : (stop : Stop) → is_kept_by stop ≡ true → refusal_at stop ≡ None
+no-refusal (Stop.Refused from e) kept = absurd (false≢true kept)
+no-refusal Stop.Ended kept = refl
+no-refusal Stop.Stalled kept = refl
+no-refusal Stop.NoMemory kept = refl
+no-refusal Stop.Told kept = refl
 
--- Workers that stopped neither for memory nor for an envelope had ended or stalled.
-pub all_finished : (es : List Ending) → list_any (λ (e : Ending). is_short_of_memory e.stop) es ≡ false → list_all (λ (e : Ending). is_kept_by e.stop) es ≡ true → AreAllFinished es
+-- Each letter that was taken became an item.
+pub all_kept : (es : List Ending) → list_all (λ (e : Ending). is_kept_by e.stop) es ≡ true → AreAllKept es
+all_kept [] kept = tt
+all_kept (e ∷ es) kept = let rest = and_parts (is_kept_by e.stop) _ kept in (rest.0, all_kept es rest.1)
+
+-- Workers that nothing stopped, neither want of memory nor a letter, had ended or stalled.
+pub all_finished : (es : List Ending) → list_any (λ (e : Ending). was_stopped_by e.stop) es ≡ false → AreAllKept es → AreAllFinished es
 all_finished [] none kept = tt
-all_finished (e ∷ es) none kept =
-    let others = or_parts (is_short_of_memory e.stop) _ none in
-    let rest = and_parts (is_kept_by e.stop) _ kept in
-    (by e.stop others.0 rest.0, all_finished es others.1 rest.1)
+all_finished (e ∷ es) none kept = let others = or_parts (was_stopped_by e.stop) _ none in (by e.stop others.0 kept.0, all_finished es others.1 kept.1)
   where
-    by : (stop : Stop) → is_short_of_memory stop ≡ false → is_kept_by stop ≡ true → is_finished_by stop ≡ true
+    by : (stop : Stop) → was_stopped_by stop ≡ false → is_kept_by stop ≡ true → is_finished_by stop ≡ true
     by Stop.Ended none kept = refl
     by Stop.Stalled none kept = refl
     by Stop.NoMemory none kept = absurd (false≢true (sym none))
+    by Stop.Told none kept = absurd (false≢true (sym none))
     by (Stop.Refused from e) none kept = absurd (false≢true kept)
 
 module _ (plan : Plan) (stimuli : List CoreStimuli) (turns : ℕ) (shared : Shared) where
@@ -106,6 +108,13 @@ module _ (plan : Plan) (stimuli : List CoreStimuli) (turns : ℕ) (shared : Shar
   reports-cores (i ∷ is) [] ended = absurd ended
   reports-cores (i ∷ is) (e ∷ es) ended =
       ap (λ (c : CoreId). c ∷ map (λ (r : Report). r.core) (reports_of es)) ended.0.core ∙ ap (λ (cs : List CoreId). i ∷ cs) (reports-cores is es ended.1)
+
+  -- The report of each says what its own items say.
+  pub reports-alone : (ids : List CoreId) (es : List Ending) → AreEnded plan stimuli turns shared ids es → AllByRecursion (IsOneCore plan stimuli) (reports_of es)
+  reports-alone [] [] ended = tt
+  reports-alone [] (e ∷ es) ended = absurd ended
+  reports-alone (i ∷ is) [] ended = absurd ended
+  reports-alone (i ∷ is) (e ∷ es) ended = (ended.0.is_run.alone, reports-alone is es ended.1)
 
   -- The seats of the cores' workers, at the board and at the spinlocks.
   pub boards-cores : (ids : List CoreId) (es : List Ending) → AreEnded plan stimuli turns shared ids es → cores_of (boards_of es) ≡ ids
@@ -164,16 +173,16 @@ module _ (plan : Plan) (stimuli : List CoreStimuli) (turns : ℕ) (shared : Shar
     sent : (to : CoreId) → sent_of e.kept to ≡ posted to (past e)
     taken : (from : CoreId) → taken_of e.kept from ≡ received from (past e)
 
-  each-flows : (ids : List CoreId) (es : List Ending) → AreEnded plan stimuli turns shared ids es → AreAllFinished es → AllByRecursion Flows es
-  each-flows [] [] ended finished = tt
-  each-flows [] (e ∷ es) ended finished = absurd ended
-  each-flows (i ∷ is) [] ended finished = absurd ended
-  each-flows (i ∷ is) (e ∷ es) ended finished = (
+  each-flows : (ids : List CoreId) (es : List Ending) → AreEnded plan stimuli turns shared ids es → AreAllKept es → AllByRecursion Flows es
+  each-flows [] [] ended kept = tt
+  each-flows [] (e ∷ es) ended kept = absurd ended
+  each-flows (i ∷ is) [] ended kept = absurd ended
+  each-flows (i ∷ is) (e ∷ es) ended kept = (
     record {
       sent = ended.0.mail.sent_is;
-      taken = λ from. ended.0.mail.taken_is from ∙ ap (λ (refusal : Refusal). received from (past e) ++ refused_from refusal from) (no-refusal e.stop finished.0) ∙ append-nil (received from (past e));
+      taken = λ from. ended.0.mail.taken_is from ∙ ap (λ (refusal : Refusal). received from (past e) ++ refused_from refusal from) (no-refusal e.stop kept.0) ∙ append-nil (received from (past e));
     },
-    each-flows is es ended.1 finished.1,
+    each-flows is es ended.1 kept.1,
   )
 
   delivered : (a b : Ending) → Flows a → Flows b → IsSettled a b → IsDelivered plan a.report b.report
@@ -212,9 +221,9 @@ module _ (plan : Plan) (stimuli : List CoreStimuli) (turns : ℕ) (shared : Shar
         refused_idle (spins-logged ids es ended) one.spins)
 
     -- Where what was taken is what was sent but for what is left, and each letter became an item, the reports are sound.
-    pub seats-sound : IsTrue (is_within_limits plan) → AreKnown plan stimuli → AreAllFinished es → AreSettled es → AreSound plan stimuli (reports_of es)
-    seats-sound limits known finished settled =
-        let flow = each-flows ids es ended finished in
+    pub seats-sound : IsTrue (is_within_limits plan) → AreKnown plan stimuli → AreAllKept es → AreSettled es → AreSound plan stimuli (reports_of es)
+    seats-sound limits known kept settled =
+        let flow = each-flows ids es ended kept in
         runs-sound plan stimuli limits known (reports_of es) (logs_of ids es ended) (reports-cores ids es ended ∙ cores) (are-runs ids es ended)
         (delivered-all es flow es flow settled) one-board one-spins
 

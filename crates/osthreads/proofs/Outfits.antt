@@ -1,6 +1,6 @@
 -- What the cores' threads start with; and of the ends of rings, that those which come back are those which were given, and what they
 -- show together.
-use Rattle.std.proofs.Common.{◌≡◌, Bool, true, false, Option, Some, None, is_some, List, [], ◌∷◌, ◌++◌, drop, length, map, refl, sym, ap, subst, ◌∙◌, append_assoc, append-nil, arith}
+use Rattle.std.proofs.Common.{◌≡◌, ◌⊎◌, inl, inr, ℕ, IsTrue, Bool, true, false, Option, Some, None, is_some, List, [], ◌∷◌, ◌++◌, drop, length, map, refl, sym, ap, subst, ◌∙◌, append_assoc, append-nil, arith}
 use Rattle.std.specs.Option.{option_to_list}
 use Rattle.std.proofs.lemmas.Option.{same_Some}
 use Rattle.std.proofs.lemmas.Bool.{false≢true}
@@ -23,8 +23,15 @@ use Rattle.osbase.specs.declared.messages.MailKind.{MailKind}
 use Rattle.osbase.specs.declared.messages.MailKind.TheVariants.{Locked, Ring}
 use Rattle.osthreads.specs.declared.seats.Seats.{Seats}
 use Rattle.osthreads.specs.Seats.{Shared, first_seats}
-use Rattle.osthreads.specs.Threads.{AreEndsFor, AreEquipped, AreReady, AreSettled, IsReady, IsSameEnd, IsSettled, end_kept, end_of, ends_kept, equipped, kept_in, outfit_cores, sent_of, taken_of, which_kept}
-use Rattle.osthreads.proofs.Gathering.{all-configured}
+use Rattle.osthreads.specs.Threads.{AreAllKept, AreEnded, AreEndsFor, AreEquipped, AreReady, AreSettled, IsReady, IsSameEnd, IsSettled, IsThreadFault, end_kept, end_of, ends_kept, equipped, kept_in, outfit_cores, sent_of, taken_of, which_kept}
+use Rattle.osbase.specs.declared.turns.CoreStimuli.{CoreStimuli}
+use Rattle.osplan.specs.Limits.{is_within_limits}
+use Rattle.osplan.specs.Stimuli.{AreKnown}
+use Rattle.osturn.specs.Sound.{AreSound}
+use Rattle.osthreads.specs.declared.runs.ThreadReason.{ThreadReason}
+use Rattle.osthreads.specs.declared.runs.ThreadReason.TheVariants.{NoMemory, NoThread}
+use Rattle.osthreads.specs.Runs.{IsOneCore}
+use Rattle.osthreads.proofs.Gathering.{AreOneEach, all-configured, reports-alone, reports-cores, reports_of, seats-sound}
 
 pub outfit_cores-push : (os : List Outfit) (o : Outfit) → outfit_cores (os ++ o ∷ []) ≡ outfit_cores os ++ o.seats.board.core ∷ []
 outfit_cores-push [] o = refl
@@ -247,3 +254,29 @@ module _ (kind : MailKind) (cs : List CoreId) (shared : Shared) (rings : List En
         by Ring is =
             let cores : map core_of_end are.ends ≡ cs = subst (λ (k : MailKind). AreEndsFor k cs are.ends) is are.ends_for in
             rings-settled es (rung-each shared cs are.ends es cores (same ∙ ap (map end_of) are.made) reports) delivered
+
+-- ---- what the reports of all cores are
+
+module _ (plan : Plan) (ss stimuli : List CoreStimuli) (turns : ℕ) (shared : Shared) (kind : MailKind) (rings : List EndId) (outfits : List Outfit) (are : AreEquipped kind (ids_of plan) shared rings outfits)
+    (es : List Ending) (reports : List Report) (ended : AreEnded plan ss turns shared (outfit_cores outfits) es) (same : map end_kept es ≡ map end_of outfits) (come : reports ≡ reports_of es) (listed : ss ≡ stimuli) where
+  -- Where the mail is whole, they are sound.
+  pub whole-sound : AreOneEach plan ss turns shared es → IsTrue (is_within_limits plan) → AreKnown plan stimuli → AreAllKept es → AreDelivered (map past_of (ends_kept es)) → (kind ≡ Locked → AreSettled es) → AreSound plan stimuli reports
+  whole-sound one limits known kept delivered compared =
+      let cores = all-cores kind (ids_of plan) shared rings outfits are in
+      subst (AreSound plan stimuli) (sym come)
+      (subst (λ (xs : List CoreStimuli). AreSound plan xs (reports_of es)) listed
+      (seats-sound plan ss turns shared (outfit_cores outfits) es cores ended one limits (subst (AreKnown plan) (sym listed) known) kept
+      (all-settled kind (ids_of plan) shared rings outfits are es same (reports-cores plan ss turns shared (outfit_cores outfits) es ended ∙ cores) delivered compared)))
+
+  -- There is one for each configured core, and it says what its own items say.
+  pub each-alone : (map (λ (r : Report). r.core) reports ≡ ids_of plan) × AllByRecursion (IsOneCore plan stimuli) reports
+  each-alone = (
+    ap (map (λ (r : Report). r.core)) come ∙ reports-cores plan ss turns shared (outfit_cores outfits) es ended ∙ all-cores kind (ids_of plan) shared rings outfits are,
+    subst (AllByRecursion (IsOneCore plan stimuli)) (sym come)
+        (subst (λ (xs : List CoreStimuli). AllByRecursion (IsOneCore plan xs) (reports_of es)) listed (reports-alone plan ss turns shared (outfit_cores outfits) es ended)),
+  )
+
+-- Sound reports stand beside a thread that was refused, and beside want of memory.
+pub fault-sound : (plan : Plan) (stimuli : List CoreStimuli) (reason : ThreadReason) (reports : List Report) → (reason ≡ NoThread) ⊎ (reason ≡ NoMemory) → AreSound plan stimuli reports → IsThreadFault plan stimuli reason reports
+fault-sound plan stimuli reason reports (inl is) sound = subst (λ (r : ThreadReason). IsThreadFault plan stimuli r reports) (sym is) sound
+fault-sound plan stimuli reason reports (inr is) sound = subst (λ (r : ThreadReason). IsThreadFault plan stimuli r reports) (sym is) sound

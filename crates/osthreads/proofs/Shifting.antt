@@ -200,6 +200,7 @@ worked-finished sent taken run worked is finished = record {
     stalled-by Stop.Ended finished going = absurd (false≢true (sym going))
     stalled-by Stop.Stalled finished going = refl
     stalled-by Stop.NoMemory finished going = absurd (false≢true finished)
+    stalled-by Stop.Told finished going = absurd (false≢true finished)
     stalled-by (Stop.Refused from e) finished going = absurd (false≢true finished)
 
 -- What a worker that stopped hands back.

@@ -22,7 +22,11 @@ use Rattle.osbase.specs.declared.messages.MailKind.TheVariants.{Locked, Ring}
 use Rattle.osthreads.specs.declared.seats.Seats.{Seats}
 use Rattle.osthreads.specs.Runs.{IsOneCore, IsRun}
 use Rattle.osthreads.specs.Seats.{AreAt, Shared, first_seats, made_from}
-use Rattle.osthreads.specs.Working.{IsFinished, IsMailed, is_finished_by, refusal_at}
+use Rattle.osthreads.specs.Working.{IsFinished, IsMailed, is_finished_by, is_kept_by, refusal_at}
+use Rattle.osturn.specs.Sound.{AreSound}
+use Rattle.osbase.specs.declared.turns.Report.{Report}
+use Rattle.osthreads.specs.declared.runs.ThreadReason.{ThreadReason}
+use Rattle.osthreads.specs.declared.runs.ThreadReason.TheVariants.{NotBegun, NoMemory, NoThread, MailBreak}
 
 -- What a core's end of the mail sent and took, by what it left behind.
 abbrev pub sent_of : Kept → Streams
@@ -113,11 +117,11 @@ AreEnded plan stimuli turns shared [] (e ∷ es) = ⊥
 AreEnded plan stimuli turns shared (i ∷ is) [] = ⊥
 AreEnded plan stimuli turns shared (i ∷ is) (e ∷ es) = IsEnded plan stimuli turns shared i e × AreEnded plan stimuli turns shared is es
 
--- The report of each says what its own items say.
-abbrev pub AreAlone : Plan → List CoreStimuli → List Ending → Type 0
-AreAlone plan stimuli es = AllByRecursion (λ (e : Ending). IsOneCore plan stimuli e.report) es
+-- Each envelope that was taken became an item.
+abbrev pub AreAllKept : List Ending → Type 0
+AreAllKept es = AllByRecursion (λ (e : Ending). is_kept_by e.stop ≡ true) es
 
--- Each worker's core has ended, or its turns changed nothing any more. So each envelope that it took became an item.
+-- Each worker's core has ended, or its turns changed nothing any more.
 abbrev pub AreAllFinished : List Ending → Type 0
 AreAllFinished es = AllByRecursion (λ (e : Ending). is_finished_by e.stop ≡ true) es
 
@@ -127,3 +131,11 @@ IsSettled a b = IsBeginning (taken_of b.kept a.report.core) (sent_of a.kept b.re
 
 abbrev pub AreSettled : List Ending → Type 0
 AreSettled es = AllByRecursion (λ a. AllByRecursion (IsSettled a) es) es
+
+-- What the reports beside a fault are. None where nothing ran; sound ones, one for each configured core, where a worker had no memory or
+-- a thread could not be started; and where the mail broke, one for each, which says what its own items say.
+abbrev pub IsThreadFault : Plan → List CoreStimuli → ThreadReason → List Report → Type 0
+IsThreadFault plan stimuli NotBegun reports = reports ≡ []
+IsThreadFault plan stimuli NoMemory reports = AreSound plan stimuli reports
+IsThreadFault plan stimuli NoThread reports = AreSound plan stimuli reports
+IsThreadFault plan stimuli MailBreak reports = (map (λ (r : Report). r.core) reports ≡ ids_of plan) × AllByRecursion (IsOneCore plan stimuli) reports

@@ -174,12 +174,14 @@ abbrev pub refusal_at : Stop → Refusal
 refusal_at Stop.Ended = None
 refusal_at Stop.Stalled = None
 refusal_at Stop.NoMemory = None
+refusal_at Stop.Told = None
 refusal_at (Stop.Refused from e) = Some (from, e)
 
--- The worker stopped since an allocation failed.
-abbrev pub is_short_of_memory : Stop → Bool
-is_short_of_memory Stop.NoMemory = true
-is_short_of_memory stop = false
+-- The worker stopped since an allocation failed, or since it was told to.
+abbrev pub was_stopped_by : Stop → Bool
+was_stopped_by Stop.NoMemory = true
+was_stopped_by Stop.Told = true
+was_stopped_by stop = false
 
 -- Each envelope that it took became an item.
 abbrev pub is_kept_by : Stop → Bool

@@ -5,9 +5,10 @@ use osbase::{CoreId, CoreStimuli};
 use osboard::Board;
 use osplan::Config;
 use osspin::SpinBank;
+use std::sync::atomic::AtomicBool;
 
 /// What the workers of a run share: the configuration, the listed stimuli, the configured cores, ascending, the board,
-/// the spinlocks, what wakes them, and how many turns in a row may change nothing.
+/// the spinlocks, what wakes them, whether they were told to stop, and how many turns in a row may change nothing.
 #[derive(Clone, Copy)]
 pub struct Run<'a> {
     pub config: &'a Config,
@@ -16,5 +17,6 @@ pub struct Run<'a> {
     pub board: &'a Board,
     pub bank: &'a SpinBank,
     pub wakers: &'a Wakers,
+    pub told: &'a AtomicBool,
     pub turns: u64,
 }

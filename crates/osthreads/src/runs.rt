@@ -1,6 +1,6 @@
 //! Runs of a configuration by threads.
 
-ghost use Rattle.std.specs.Prelude.{◌≡◌, ◌≤◌, [], IsTrue, IfOk, IfErr, OnOk, map, vec_len, vec_capacity};
+ghost use Rattle.std.specs.Prelude.{◌≡◌, ◌≤◌, [], ◌⊎◌, IsTrue, IfOk, IfErr, IfNone, IfSome, map, vec_len, vec_capacity};
 ghost use Rattle.osmail.specs.Rings.{AreCores, IsUnused, end_id};
 ghost use Rattle.osbase.specs.declared.limits.TheConstants.{MAILBOX};
 ghost use Rattle.osbase.specs.declared.messages.MailKind.TheVariants.{Locked};
@@ -9,10 +9,11 @@ ghost use Rattle.osplan.specs.Stimuli.{AreKnown};
 ghost use Rattle.osturn.specs.Fits.{ids_of};
 ghost use Rattle.osturn.specs.Sound.{AreSound};
 ghost use Rattle.osthreads.specs.declared.ending.Ending.{Ending as EndingValue};
-ghost use Rattle.osthreads.specs.Runs.{AreFinished, IsOneCore, new_board, new_spins};
+ghost use Rattle.osthreads.specs.Runs.{AreFinished, new_board, new_spins};
+ghost use Rattle.osthreads.specs.declared.runs.ThreadReason.TheVariants.{NoMemory, NoThread};
 ghost use Rattle.osthreads.specs.Seats.{first_seats, paired, shared};
-ghost use Rattle.osthreads.specs.Threads.{AreAllFinished, AreEndsFor, AreEquipped, AreSettled, IsSettled, ends_kept, equipped};
-ghost use Rattle.osthreads.specs.Working.{is_kept_by, is_short_of_memory};
+ghost use Rattle.osthreads.specs.Threads.{AreAllFinished, AreAllKept, AreEndsFor, AreEquipped, AreSettled, IsSettled, IsThreadFault, ends_kept, equipped};
+ghost use Rattle.osthreads.specs.Working.{is_kept_by, was_stopped_by};
 
 use crate::ending::{Ending, Outfit};
 use crate::gates::Gate;
@@ -30,16 +31,21 @@ use osturn::ids_of;
 use std::alloc::{AllocError, Global};
 use std::collections::VecDeque;
 use std::sync::Wait;
+use std::sync::atomic::AtomicBool;
 use std::thread::Threads;
 use thiserror::Error;
 
 /// Why a threaded run is none.
 #[derive(Clone, Copy, Debug, PartialEq, Eq, Error)]
 pub enum ThreadReason {
-    /// An allocation failed, before the threads started or before a worker's turn.
+    /// An allocation failed before the threads started. There is nothing to report.
+    #[error("out of memory")]
+    NotBegun,
+    /// An allocation failed before a worker's turn. All workers were told to stop, and their reports fit one another.
     #[error("out of memory")]
     NoMemory,
-    /// A thread could not be started.
+    /// A thread could not be started. All workers were told to stop, and their reports fit one another; that of a core
+    /// without a thread is empty.
     #[error("a thread could not be started")]
     NoThread,
     /// A core could not take an envelope; or, through mailboxes under locks, what was taken and left is not what was sent.
@@ -47,8 +53,8 @@ pub enum ThreadReason {
     MailBreak,
 }
 
-/// Why a threaded run is none, and the reports of the workers that ran, by ascending core. Each says what its own items
-/// say.
+/// Why a threaded run is none, and a report for each configured core, by ascending core, unless nothing was begun. Each
+/// says what its own items say.
 #[derive(Debug, Drop, Error)]
 #[error("{reason}")]
 pub struct ThreadFault {
@@ -56,8 +62,7 @@ pub struct ThreadFault {
     pub reports: Vec<Report>,
 }
 
-// What a run needs before its threads start. All its memory is taken before, but for what the workers' turns allocate and
-// what the comparison of the mail takes.
+// What a run needs before its threads start. All its memory is taken before, but for what the workers' turns allocate.
 #[derive(Drop)]
 struct Prepared {
     cores: Vec<CoreId>,
@@ -212,15 +217,17 @@ pub fn run_threads<R: Threads + Wait + Sync, G: Gate + Sync>(
     requires { AreKnown config.now stimuli.now }
     ensures sound { IfOk result (λ reports. AreSound config.now stimuli.now reports.items) }
     ensures finished { IfOk result (λ reports. AreFinished config.now stimuli.now turns reports.items) }
-    ensures fault { IfErr result (λ f. AllByRecursion (IsOneCore config.now stimuli.now) f.reports.items) }
+    ensures fault { IfErr result (λ f. IsThreadFault config.now stimuli.now f.reason f.reports.items) }
 {
     let _plan = config.plan();
     let Ok(prepared) = prepare(alloc, config, kind) else {
         return Err(ThreadFault {
-            reason: ThreadReason::NoMemory,
+            reason: ThreadReason::NotBegun,
             reports: Vec::new(alloc),
         });
     };
+    let told = AtomicBool::new(false);
+    let wakers = Wakers::new();
     let Prepared {
         cores,
         board,
@@ -230,7 +237,6 @@ pub fn run_threads<R: Threads + Wait + Sync, G: Gate + Sync>(
         endings,
         returned,
     } = prepared;
-    let wakers = Wakers::new();
     let run = Run {
         config,
         stimuli: stimuli.as_slice(),
@@ -238,64 +244,64 @@ pub fn run_threads<R: Threads + Wait + Sync, G: Gate + Sync>(
         board: &board,
         bank: &bank,
         wakers: &wakers,
+        told: &told,
         turns,
     };
     let joined = run_all(rt, alloc, &run, outfits, &mail.locked, gate, endings);
-    let judged = judge(alloc, kind, &mut mail.locked, &joined);
+    let is_whole = is_whole(kind, &mut mail.locked, &joined);
+    let broken = reason_in(&joined);
     let Returned {
         board: at_board,
         spins: at_spins,
         ends,
         reports,
     } = part(joined.endings, returned);
-    match judged {
-        Ok(()) => {
-            board.gather(at_board);
-            bank.gather(at_spins);
-            mail.rings.gather(ends);
-            Ok(reports)
-        }
-        Err(reason) => Err(ThreadFault { reason, reports }),
+    if !is_whole {
+        return Err(ThreadFault {
+            reason: ThreadReason::MailBreak,
+            reports,
+        });
+    }
+    board.gather(at_board);
+    bank.gather(at_spins);
+    mail.rings.gather(ends);
+    match broken {
+        None => Ok(reports),
+        Some(reason) => Err(ThreadFault { reason, reports }),
     }
 }
 
-// Whether all threads ran and each worker went on until its core had ended or its turns changed nothing; and of mailboxes
-// under locks whether every envelope that was sent was taken in its turn or is left. Of rings that needs no test.
+// Whether every letter that was taken became an item; and of mailboxes under locks whether every one that was sent was taken
+// in its turn or is left. Of rings that needs no test.
+#[tactic(auto, using(crate::proofs::Gathering::all_kept))]
+fn is_whole(kind: MailKind, mail: &mut LockedMail<MAILBOX>, joined: &Joined) -> bool
+    ensures kept { IsTrue result → AreAllKept joined.now.endings.items }
+    ensures settled { IsTrue result → kind ≡ Locked → AreSettled joined.now.endings.items }
+{
+    let endings = joined.endings.as_slice();
+    are_kept(endings) && is_delivered(kind, mail, endings)
+}
+
+// Why a run whose mail is whole is none, if it is none.
 #[tactic(auto, using(crate::proofs::Gathering::all_finished))]
-fn judge(
-    alloc: Global,
-    kind: MailKind,
-    mail: &mut LockedMail<MAILBOX>,
-    joined: &Joined,
-) -> Result<(), ThreadReason>
-    ensures complete { OnOk result (IsTrue joined.now.complete) }
-    ensures finished { OnOk result (AreAllFinished joined.now.endings.items) }
-    ensures settled { OnOk result (kind ≡ Locked → AreSettled joined.now.endings.items) }
+fn reason_in(joined: &Joined) -> Option<ThreadReason>
+    ensures none { IfNone result (AreAllKept joined.now.endings.items → AreAllFinished joined.now.endings.items) }
+    ensures some { IfSome result (λ reason. (reason ≡ NoThread) ⊎ (reason ≡ NoMemory)) }
 {
     if !joined.complete {
-        return Err(ThreadReason::NoThread);
+        return Some(ThreadReason::NoThread);
     }
-    let endings = joined.endings.as_slice();
-    if had_no_memory(endings) {
-        return Err(ThreadReason::NoMemory);
+    if was_stopped(joined.endings.as_slice()) {
+        return Some(ThreadReason::NoMemory);
     }
-    if !are_kept(endings) {
-        return Err(ThreadReason::MailBreak);
-    }
-    match is_delivered(alloc, kind, mail, endings) {
-        Ok(true) => Ok(()),
-        Ok(false) => Err(ThreadReason::MailBreak),
-        Err(_) => Err(ThreadReason::NoMemory),
-    }
+    None
 }
 
-// Whether some worker stopped since an allocation failed.
-fn had_no_memory(endings: &[Ending]) -> bool
-    ensures { result ≡ list_any (λ (e : EndingValue). is_short_of_memory e.stop) endings.now }
+// Whether some worker stopped since an allocation failed, or since it was told to.
+fn was_stopped(endings: &[Ending]) -> bool
+    ensures { result ≡ list_any (λ (e : EndingValue). was_stopped_by e.stop) endings.now }
 {
-    endings
-        .iter()
-        .any(|ending| matches!(ending.stop, Stop::NoMemory))
+    endings.iter().any(|ending| matches!(ending.stop, Stop::NoMemory | Stop::Told))
 }
 
 // Whether each envelope that was taken became an item.
@@ -309,71 +315,52 @@ fn are_kept(endings: &[Ending]) -> bool
 
 // Of mailboxes under locks, whether what was taken and what is left is what was sent. Of rings that needs no comparison.
 #[tactic(auto, using(crate::proofs::Outfits::not_locked))]
-fn is_delivered(
-    alloc: Global,
-    kind: MailKind,
-    mail: &mut LockedMail<MAILBOX>,
-    endings: &[Ending],
-) -> Result<bool, AllocError>
-    ensures { IfOk result (λ b. IsTrue b → kind ≡ Locked → AreSettled endings.now) }
+fn is_delivered(kind: MailKind, mail: &mut LockedMail<MAILBOX>, endings: &[Ending]) -> bool
+    ensures { IsTrue result → kind ≡ Locked → AreSettled endings.now }
 {
     match kind {
-        MailKind::Ring => Ok(true),
-        MailKind::Locked => all_settle(alloc, mail, endings),
+        MailKind::Ring => true,
+        MailKind::Locked => all_settle(mail, endings),
     }
 }
 
 // Whether what each core took of each, and then what is left, is what that one sent to it.
-fn all_settle(
-    alloc: Global,
-    mail: &mut LockedMail<MAILBOX>,
-    endings: &[Ending],
-) -> Result<bool, AllocError>
-    ensures { IfOk result (λ b. IsTrue b → AreSettled endings.now) }
+fn all_settle(mail: &mut LockedMail<MAILBOX>, endings: &[Ending]) -> bool
+    ensures { IsTrue result → AreSettled endings.now }
 {
     for sender in endings {
-        if !settles_with(alloc, mail, sender, endings)? {
-            return Ok(false);
+        if !settles_with(mail, sender, endings) {
+            return false;
         }
     }
-    Ok(true)
+    true
 }
 
 // Whether it is so of what one core sent.
-fn settles_with(
-    alloc: Global,
-    mail: &mut LockedMail<MAILBOX>,
-    sender: &Ending,
-    receivers: &[Ending],
-) -> Result<bool, AllocError>
-    ensures { IfOk result (λ b. IsTrue b → AllByRecursion (IsSettled sender.now) receivers.now) }
+fn settles_with(mail: &mut LockedMail<MAILBOX>, sender: &Ending, receivers: &[Ending]) -> bool
+    ensures { IsTrue result → AllByRecursion (IsSettled sender.now) receivers.now }
 {
     for receiver in receivers {
-        if !settles_one(alloc, mail, sender, receiver)? {
-            return Ok(false);
+        if !settles_one(mail, sender, receiver) {
+            return false;
         }
     }
-    Ok(true)
+    true
 }
 
 // Whether it is so of what one core sent to one.
 #[tactic(auto, using(crate::proofs::Outfits::settled_by))]
-fn settles_one(
-    alloc: Global,
-    mail: &mut LockedMail<MAILBOX>,
-    sender: &Ending,
-    receiver: &Ending,
-) -> Result<bool, AllocError>
-    ensures { IfOk result (λ b. IsTrue b → IsSettled sender.now receiver.now) }
+fn settles_one(mail: &mut LockedMail<MAILBOX>, sender: &Ending, receiver: &Ending) -> bool
+    ensures { IsTrue result → IsSettled sender.now receiver.now }
 {
     let (Some(sent), Some(taken)) = (sender.kept.steps(), receiver.kept.steps()) else {
-        return Ok(false);
+        return false;
     };
     let (from, to) = (sender.report.core, receiver.report.core);
     let Some(left) = mail.left(from, to) else {
-        return Ok(false);
+        return false;
     };
-    left.settles(alloc, from, sent, to, taken)
+    left.settles(from, sent, to, taken)
 }
 
 // The seats, the ends of the rings and the reports, in vectors that have room for them.

@@ -23,6 +23,7 @@ use osmail::Mail;
 use osturn::Seat;
 use std::alloc::Global;
 use std::sync::Wait;
+use std::sync::atomic::Ordering;
 
 impl<'a, M: Mail> Shift<'a, M> {
     // The other core that is served at this place of the round. The cores ascend, and the own one is left out.
@@ -101,11 +102,15 @@ impl<'a, M: Mail> Shift<'a, M> {
         ensures id { self.new.worker.core.id ≡ self.old.worker.core.id }
         ensures which { M.which self.new.worker.mail ≡ M.which self.old.worker.mail }
     {
+        if self.worker.run.told.load(Ordering::SeqCst) {
+            return Some(Stop::Told);
+        }
         if self.fruitless >= self.worker.run.turns {
             return Some(Stop::Stalled);
         }
         gate.before(self.worker.core.id);
         if self.worker.make_room().is_err() {
+            self.worker.run.told.store(true, Ordering::SeqCst);
             return Some(Stop::NoMemory);
         }
         match self.turn() {
@@ -153,8 +158,8 @@ impl<'a, M: Mail> Shift<'a, M> {
 }
 
 /// The worker of one core. In rounds it serves every other core by ascending number, does its core's own work and looks
-/// at the board, until its core has ended, so many turns in a row changed nothing, an allocation failed, or it took
-/// an envelope that its core cannot take.
+/// at the board, until its core has ended, so many turns in a row changed nothing, an allocation failed, it was told
+/// to stop, or it took an envelope that its core cannot take. One whose allocation failed tells the others to stop.
 pub fn core_worker<'a, R: Wait, M: Mail, G: Gate>(
     rt: &R,
     alloc: Global,

@@ -1,9 +1,9 @@
 //! A worker for each configured core, each on a thread of its own.
 
 ghost use Rattle.std.specs.Option.{option_to_list};
-ghost use Rattle.std.specs.Prelude.{◌≡◌, ◌++◌, ◌+◌, ◌≤◌, length, map, [], IsTrue, IfNone, IfSome, None, Some, vec_len, vec_capacity};
+ghost use Rattle.std.specs.Prelude.{◌≡◌, ◌++◌, ◌+◌, ◌≤◌, length, map, [], IfErr, IfNone, IfOk, IfSome, None, Some, vec_len, vec_capacity};
 ghost use Rattle.osthreads.specs.Seats.{shared};
-ghost use Rattle.osthreads.specs.Threads.{AreAlone, AreEnded, AreReady, IsEnded, IsReady, IsSameEnd, end_kept, end_of, outfit_cores};
+ghost use Rattle.osthreads.specs.Threads.{AreEnded, AreReady, IsEnded, IsReady, IsSameEnd, end_kept, end_of, outfit_cores};
 
 use crate::ending::{EndOf, Ending, Kept, Outfit};
 use crate::gates::Gate;
@@ -15,6 +15,7 @@ use osmail::{LockedMail, RingEnd};
 use std::alloc::Global;
 use std::snapshot::Snapshot;
 use std::sync::Wait;
+use std::sync::atomic::Ordering;
 use std::thread;
 use std::thread::{PromisedHandle, Scope, Threads};
 
@@ -93,7 +94,8 @@ fn work_by_locks<R: Wait, G: Gate>(
     }
 }
 
-// Starts the thread of a core, if the gate lets it start and one can be had.
+// Starts the thread of a core, if nobody was told to stop, the gate lets it start, and one can be had. Else all are told to stop,
+// and the core's worker stops before its first turn, on this thread.
 fn start<'s, E, R: Threads + Wait + Sync, G: Gate + Sync>(
     rt: &'s R,
     scope: &Scope<'s, E>,
@@ -102,16 +104,14 @@ fn start<'s, E, R: Threads + Wait + Sync, G: Gate + Sync>(
     outfit: Outfit,
     locked: &'s LockedMail<MAILBOX>,
     gate: &'s G,
-) -> Option<PromisedHandle<Ending, EndOf<'s>>>
+) -> Result<PromisedHandle<Ending, EndOf<'s>>, Ending>
     requires { IsReady run.now.config.now run.now.cores.now (shared run.now.board.now run.now.bank.now) outfit }
-    ensures run { IfSome result (λ h. h.promise.run ≡ run.now) }
-    ensures id { IfSome result (λ h. h.promise.id ≡ outfit.seats.board.core) }
-    ensures end { IfSome result (λ h. h.promise.end.value ≡ outfit.end) }
+    ensures run { IfOk result (λ h. h.promise.run ≡ run.now) }
+    ensures id { IfOk result (λ h. h.promise.id ≡ outfit.seats.board.core) }
+    ensures end { IfOk result (λ h. h.promise.end.value ≡ outfit.end) }
+    ensures here { IfErr result (λ e. IsEnded run.now.config.now run.now.stimuli.now run.now.turns (shared run.now.board.now run.now.bank.now) outfit.seats.board.core e × IsSameEnd outfit.end e.kept) }
 {
     let id = outfit.seats.board.core();
-    if !gate.starts(id) {
-        return None;
-    }
     let Run {
         config,
         stimuli,
@@ -119,6 +119,7 @@ fn start<'s, E, R: Threads + Wait + Sync, G: Gate + Sync>(
         board,
         bank,
         wakers,
+        told,
         turns,
     } = *run;
     let end = Snapshot::of(&outfit.end);
@@ -134,13 +135,22 @@ fn start<'s, E, R: Threads + Wait + Sync, G: Gate + Sync>(
             board,
             bank,
             wakers,
+            told,
             turns,
         };
         work(rt, alloc, &run, outfit, locked, gate)
     };
+    if told.load(Ordering::SeqCst) || !gate.starts(id) {
+        told.store(true, Ordering::SeqCst);
+        return Err(job());
+    }
     match scope.spawn_with(EndOf { run: *run, id, end }, job) {
-        Ok(handle) => Some(handle),
-        Err(_) => None,
+        Ok(handle) => Ok(handle),
+        Err(refused) => {
+            told.store(true, Ordering::SeqCst);
+            let job = refused.value;
+            Err(job())
+        }
     }
 }
 
@@ -157,8 +167,8 @@ fn last_outfit(run: &Run<'_>, outfits: &mut Vec<Outfit>) -> Option<Outfit>
     outfits.pop()
 }
 
-// Starts a thread for each core's outfit, the last one first, and then joins them. It says whether each could be started, and
-// starts no more where one could not.
+// Starts a thread for each core's outfit, the last one first, and then joins them. It says whether each could be started. Where one
+// could not, no more are started, and each core has an ending all the same.
 fn run_each<'s, E, R: Threads + Wait + Sync, G: Gate + Sync>(
     rt: &'s R,
     scope: &Scope<'s, E>,
@@ -172,21 +182,26 @@ fn run_each<'s, E, R: Threads + Wait + Sync, G: Gate + Sync>(
     requires ready { AreReady run.now.config.now run.now.cores.now (shared run.now.board.now run.now.bank.now) outfits.old.items }
     requires empty { endings.old.items ≡ [] }
     requires room { vec_len outfits.old ≤ vec_capacity endings.old }
-    ensures ended { IsTrue result → AreEnded run.now.config.now run.now.stimuli.now run.now.turns (shared run.now.board.now run.now.bank.now) (outfit_cores outfits.old.items) endings.new.items }
-    ensures ends { IsTrue result → map end_kept endings.new.items ≡ map end_of outfits.old.items }
-    ensures alone { AreAlone run.now.config.now run.now.stimuli.now endings.new.items }
+    ensures ended { AreEnded run.now.config.now run.now.stimuli.now run.now.turns (shared run.now.board.now run.now.bank.now) (outfit_cores outfits.old.items) endings.new.items }
+    ensures ends { map end_kept endings.new.items ≡ map end_of outfits.old.items }
     ensures len { vec_len endings.new ≤ vec_len outfits.old }
     ensures capacity { vec_capacity endings.new ≡ vec_capacity endings.old }
 {
     let Some(last) = last_outfit(run, outfits) else {
         return true;
     };
-    let Some(handle) = start(rt, scope, alloc, run, last, locked, gate) else {
-        return false;
-    };
+    let started = start(rt, scope, alloc, run, last, locked, gate);
     let complete = run_each(rt, scope, alloc, run, outfits, locked, gate, endings);
-    endings.push_reserved(handle.join(rt));
-    complete
+    match started {
+        Ok(handle) => {
+            endings.push_reserved(handle.join(rt));
+            complete
+        }
+        Err(ending) => {
+            endings.push_reserved(ending);
+            false
+        }
+    }
 }
 
 /// Runs a worker for each core's outfit, each on a thread of its own, and joins all of them.
@@ -202,9 +217,8 @@ pub(crate) fn run_all<R: Threads + Wait + Sync, G: Gate + Sync>(
     requires ready { AreReady run.now.config.now run.now.cores.now (shared run.now.board.now run.now.bank.now) outfits.items }
     requires empty { endings.items ≡ [] }
     requires room { vec_len outfits ≤ vec_capacity endings }
-    ensures ended { IsTrue result.complete → AreEnded run.now.config.now run.now.stimuli.now run.now.turns (shared run.now.board.now run.now.bank.now) (outfit_cores outfits.items) result.endings.items }
-    ensures ends { IsTrue result.complete → map end_kept result.endings.items ≡ map end_of outfits.items }
-    ensures alone { AreAlone run.now.config.now run.now.stimuli.now result.endings.items }
+    ensures ended { AreEnded run.now.config.now run.now.stimuli.now run.now.turns (shared run.now.board.now run.now.bank.now) (outfit_cores outfits.items) result.endings.items }
+    ensures ends { map end_kept result.endings.items ≡ map end_of outfits.items }
     ensures len { vec_len result.endings ≤ vec_len outfits }
 {
     let Run {
@@ -214,6 +228,7 @@ pub(crate) fn run_all<R: Threads + Wait + Sync, G: Gate + Sync>(
         board,
         bank,
         wakers,
+        told,
         turns,
     } = *run;
     thread::scope(
@@ -223,9 +238,8 @@ pub(crate) fn run_all<R: Threads + Wait + Sync, G: Gate + Sync>(
             requires ready { AreReady config.now cores.now (shared board.now bank.now) outfits.items }
             requires empty { endings.items ≡ [] }
             requires room { vec_len outfits ≤ vec_capacity endings }
-            ensures ended { IsTrue result.complete → AreEnded config.entry.now stimuli.entry.now turns (shared board.entry.now bank.entry.now) (outfit_cores outfits.items) result.endings.items }
-            ensures ends { IsTrue result.complete → map end_kept result.endings.items ≡ map end_of outfits.items }
-            ensures alone { AreAlone config.entry.now stimuli.entry.now result.endings.items }
+            ensures ended { AreEnded config.entry.now stimuli.entry.now turns (shared board.entry.now bank.entry.now) (outfit_cores outfits.items) result.endings.items }
+            ensures ends { map end_kept result.endings.items ≡ map end_of outfits.items }
             ensures len { vec_len result.endings ≤ vec_len outfits }
         {
             let run = Run {
@@ -235,6 +249,7 @@ pub(crate) fn run_all<R: Threads + Wait + Sync, G: Gate + Sync>(
                 board,
                 bank,
                 wakers,
+                told,
                 turns,
             };
             let mut outfits = outfits;

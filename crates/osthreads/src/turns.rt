@@ -22,6 +22,8 @@ pub enum Stop {
     Stalled,
     /// An allocation failed before a turn.
     NoMemory,
+    /// It was told to stop before its next turn, since another worker had no memory or some thread could not be started.
+    Told,
     /// This letter was taken from that core, and the own core could not take it.
     Refused(CoreId, Letter),
 }

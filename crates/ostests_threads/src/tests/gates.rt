@@ -43,8 +43,6 @@ const NONE_ENDS: &str = "worker 0 stopped\nworker 1 stopped\nworker 2 stopped\nw
 
 const CORE_0: CoreId = CoreId { number: 0 };
 
-const CORE_1: CoreId = CoreId { number: 1 };
-
 const CORE_3: CoreId = CoreId { number: 3 };
 
 /// Turns that change nothing before a worker stops: many where its core is to end, so that it waits for the others.
@@ -313,18 +311,32 @@ fn with_no_turn_allowed_nothing_is_done(rt: HostRuntime) -> Result<(), Fail> {
     Ok(())
 }
 
+// Where the thread of this core may not start, no worker goes on: there is a report for each core, and that core's is empty.
+fn stops_all(
+    rt: &(impl Abort + Threads + Wait + Sync),
+    alloc: Global,
+    mail: MailKind,
+    core: u8,
+) -> Result<(), Fail> {
+    let gate = Watcher::new(Some(CoreId { number: core }), false);
+    let text = four_under(rt, alloc, mail, &gate, MANY)?;
+    assert!(rt;
+        text.starts_with("a thread could not be started\ncore 0\n"),
+        "{text}"
+    );
+    has(alloc, text.as_str(), "worker ", NONE_ENDS)?;
+    let none = format!(in alloc; "core {core}\ntook 0\nworker {core} stopped\n")?;
+    assert!(rt; text.contains(none.as_str()), "{text}");
+    Ok(())
+}
+
 #[test]
-fn a_thread_that_may_not_start_is_a_fault(rt: HostRuntime) -> Result<(), Fail> {
+fn a_thread_that_may_not_start_stops_all(rt: HostRuntime) -> Result<(), Fail> {
     let alloc = rt.alloc();
     for mail in KINDS.iter() {
-        let text = four_under(&rt, alloc, *mail, &Watcher::new(Some(CORE_1), false), 10)?;
-        assert!(rt; text.starts_with("a thread could not be started\ncore 2\n"));
-        has(
-            alloc,
-            text.as_str(),
-            "worker ",
-            "worker 2 stopped\nworker 3 stopped\n",
-        )?;
+        for core in 0..4u8 {
+            stops_all(&rt, alloc, *mail, core)?;
+        }
     }
     Ok(())
 }

@@ -20,6 +20,7 @@ use osturn::ids_of;
 use std::alloc::{AllocError, Global};
 use std::process::Abort;
 use std::sync::Wait;
+use std::sync::atomic::AtomicBool;
 use std::test::Fail;
 
 /// Core 0 starts core 1.
@@ -150,6 +151,7 @@ fn work<R: Wait + Abort, M: Mail>(rt: &R, alloc: Global, mail: M) -> Worked<M>
     };
     let seats = seats_of(rt, &board, &bank, at_board, at_spinlocks);
     let wakers = Wakers::new();
+    let told = AtomicBool::new(false);
     let run = Run {
         config: &config,
         stimuli: &[],
@@ -157,6 +159,7 @@ fn work<R: Wait + Abort, M: Mail>(rt: &R, alloc: Global, mail: M) -> Worked<M>
         board: &board,
         bank: &bank,
         wakers: &wakers,
+        told: &told,
         turns: 1000,
     };
     core_worker(rt, alloc, &run, seats, mail, &Open)

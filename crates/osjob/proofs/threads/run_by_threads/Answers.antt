@@ -10,12 +10,14 @@ use Rattle.osjob.proofs.threads.run_by_threads.Goals as goal
 
 -- each reason breaks off the run
 breaks : (reason : ThreadReason) → BreaksThreads (of_threads reason)
+breaks reason.NotBegun = tt
 breaks reason.NoMemory = tt
 breaks reason.NoThread = tt
 breaks reason.MailBreak = tt
 
 -- and none of them names a file
 names_none : (reason : ThreadReason) → of_threads reason ≡ Unreadable → ⊥
+names_none reason.NotBegun e = cc
 names_none reason.NoMemory e = cc
 names_none reason.NoThread e = cc
 names_none reason.MailBreak e = cc

@@ -1,0 +1,10 @@
+use Rattle.std.proofs.Common.{◌≡◌, ◌++◌, ◌↔◌, List, drop}
+use Rattle.osbase.specs.declared.messages.Letter.{Letter}
+use Rattle.osmail.specs.Ends.{letters_of, sent_to}
+use Rattle.osmail.proofs.mailbox.Mailbox.without_left.Given as goal
+
+-- Whatever follows, what is left of both lists begins alike where the whole lists do.
+abbrev pub invariant-loop-i : goal.invariant-loop-i
+invariant-loop-i g l =
+    (more : List Letter) →
+    letters_of l.self-inside.envelopes.items ++ more ≡ sent_to l.sent l.fn.to ↔ letters_of (drop l.i l.self-inside.envelopes.items) ++ more ≡ sent_to l.left l.fn.to

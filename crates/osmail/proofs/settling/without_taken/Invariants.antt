@@ -1,0 +1,10 @@
+use Rattle.std.proofs.Common.{◌≡◌, ◌++◌, ◌↔◌, List, drop}
+use Rattle.osbase.specs.declared.messages.Letter.{Letter}
+use Rattle.osmail.specs.Ends.{sent_to, taken_from}
+use Rattle.osmail.proofs.settling.without_taken.Given as goal
+
+-- Whatever follows, what is left of both lists begins alike where the whole lists do.
+abbrev pub invariant-loop-step : goal.invariant-loop-step
+invariant-loop-step l =
+    (more : List Letter) →
+    taken_from l.taken l.fn.from ++ more ≡ sent_to l.sent l.fn.to ↔ taken_from (drop l.step-index l.taken) l.fn.from ++ more ≡ sent_to l.left l.fn.to
