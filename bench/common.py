@@ -183,6 +183,15 @@ def write(folder, name, value):
     return path
 
 
+def broken(text, others):
+    """Each text that differs in one place: a byte is left out, doubled, or replaced by each of some others."""
+    for place in range(len(text)):
+        yield text[:place] + text[place + 1 :]
+        yield text[: place + 1] + text[place:]
+        for other in others:
+            yield text[:place] + bytes([other]) + text[place + 1 :]
+
+
 def stimuli_of(count, cores=CORES):
     """So many `op` for each core."""
     return {str(core): " ".join(["op"] * count) for core in range(cores)}

@@ -30,19 +30,27 @@ def whole():
     return {"version": 1, "cap": 16, "master": 0, "modes": ["M"], "spinlocks": spinlocks, "cores": cores}
 
 
+def sixteen():
+    """Sixteen cores of version 2, of which the first and the last have an object of each kind."""
+    cores = [core(0, "A", [1, 15]), *({"id": number} for number in range(1, 15)), core(15, "B", [])]
+    return {**whole(), "version": 2, "cores": cores}
+
+
 def core(number, letter, start):
-    """A core whose objects' names end with a letter."""
+    """A core with each member, whose objects' names end with a letter."""
     task, events, resource, counter, alarm, table = (kind + letter for kind in "TERCLS")
     auto = {"modes": ["M"], "start": 1, "cycle": 2}
     return {
         "id": number,
+        "mode": "M",
         "start": start,
+        "protection": "PRO_TERMINATETASKISR",
         "tasks": [
-            {"name": task, "prio": 1, "auto": ["M"], "activations": 1, "script": "work;TerminateTask"},
-            {"name": events, "prio": 2, "extended": True, "script": "WaitEvent 1;ClearEvent 1;jump 0"},
+            {"name": task, "prio": 1, "auto": ["M"], "activations": 1, "budget": 9, "script": "work;TerminateTask"},
+            {"name": events, "prio": 2, "extended": True, "preemptable": False, "script": "WaitEvent 1;ClearEvent 1;jump 0"},
         ],
-        "isrs": [{"name": "I" + letter, "level": 1, "script": "work"}],
-        "resources": [{"name": resource, "ceiling": 2}],
+        "isrs": [{"name": "I" + letter, "level": 1, "budget": 9, "script": "work"}],
+        "resources": [{"name": resource, "ceiling": 2, "lock": 3}],
         "counters": [{"name": counter, "max": 9, "min": 2, "software": False}],
         "alarms": [{"name": alarm, "counter": counter, "action": "ActivateTask " + task, "auto": auto}],
         "tables": [
@@ -74,7 +82,9 @@ def configurations():
     yield from actions()
     yield from names()
     yield from versions()
+    yield from far_cores()
     yield from words_of_cores()
+    yield from members()
     yield from swapped()
 
 
@@ -83,9 +93,9 @@ def data(value):
     return json.dumps(value).encode()
 
 
-def changed(*changes):
-    """The whole configuration with other values at some paths."""
-    value = whole()
+def changed(*changes, of=whole):
+    """The whole configuration, or another one, with other values at some paths."""
+    value = of()
     for path, new in changes:
         at = value
         for key in path[:-1]:
@@ -261,15 +271,14 @@ def scripts():
 
 def words():
     """Each operation with right and wrong words for each of its arguments."""
-    right = {"task": "TA", "resource": "RA", "counter": "CA", "alarm": "LA", "table": "SA", "variable": "v0"}
     others = (
-        "TB", "RB", "CB", "LB", "SB", "EA", "Zz", "M", "?", "??", "1a", "a-b", "", "v7", "v8", "V0", "v01", "0", "1",
-        "2", "3", "00", "01", "-0", "-1", "+1", "0x3", "1.0", "1e3", "4294967295", "4294967296",
+        "TB", "RB", "CB", "LB", "SB", "EA", "IA", "K", "L", "Zz", "M", "?", "??", "1a", "a-b", "", "v7", "v8", "V0", "v01",
+        "0", "1", "2", "3", "15", "16", "17", "00", "01", "-0", "-1", "+1", "0x3", "1.0", "1e3", "4294967295", "4294967296",
         "9223372036854775807", "9223372036854775808", "-9223372036854775808", "-9223372036854775809",
         "18446744073709551616", "9" * 400, "\u0661", "x" * 128, "x" * 129,
     )  # fmt: skip
     for operation in OPERATIONS.values():
-        usual = [right.get(argument.kind, "1") for argument in operation.arguments]
+        usual = usual_words(operation, "A")
         yield operation.form, changed((SCRIPT, " ".join([operation.name] + usual)))
         for place in range(len(usual)):
             for word in others:
@@ -279,6 +288,14 @@ def words():
                 if place == 0 and len(usual) > 1:
                     text = " ".join([operation.name, word] + ["4294967296"] * (len(usual) - 1))
                     yield text[:60], changed((SCRIPT, text))
+
+
+def usual_words(operation, letter):
+    """Right words for the arguments of an operation, with names of the core of a letter."""
+    right = {"task": "T", "resource": "R", "counter": "C", "alarm": "L", "table": "S"}
+    kinds = [argument.kind for argument in operation.arguments]
+    others = {"variable": "v0", "spinlock": "K"}
+    return [right[kind] + letter if kind in right else others.get(kind, "1") for kind in kinds]
 
 
 def actions():
@@ -344,6 +361,61 @@ def versions():
                 yield title, data({"version": version, "cores": cores})
 
 
+def far_cores():
+    """Sixteen cores: each operation of tasks and ISRs on the first and the last core, with names of either, and numbers
+    of cores near the greatest."""
+    yield "sixteen", data(sixteen())
+    for at in (0, 15):
+        for kind in ("tasks", "isrs"):
+            for letter in "AB":
+                for operation in OPERATIONS.values():
+                    text = " ".join([operation.name] + usual_words(operation, letter))
+                    title = "%s in %s of core %d" % (text, kind, at)
+                    yield title, changed((["cores", at, kind, 0, "script"], text), of=sixteen)
+        for letter in "AB":
+            for name in ("alarms", "tables"):
+                for counter in ("C" + letter, "K", "T" + letter):
+                    yield "%s of %s" % (name, counter), changed((["cores", at, name, 0, "counter"], counter), of=sixteen)
+        for number in (-1, 0, 7, 8, 14, 15, 16, 17, 255, 256):
+            yield "id %d at %d" % (number, at), changed((["cores", at, "id"], number), of=sixteen)
+            yield "core %d starts %d" % (at, number), changed((["cores", at, "start"], [number]), of=sixteen)
+            yield "master %d" % number, changed((["master"], number), of=sixteen)
+            yield "StartCore %d" % number, changed((["cores", at, "tasks", 0, "script"], "StartCore %d" % number), of=sixteen)
+    for version in (None, -1, 0, 1, 2, 3, 1.0, 2.0, "2", True):
+        for cores in (sixteen()["cores"], sixteen()["cores"][:8], sixteen()["cores"][8:], sixteen()["cores"] + [{"id": 16}]):
+            title = "version %r, %d cores" % (version, len(cores))
+            yield title, changed((["version"], version), (["cores"], cores), of=sixteen)
+
+
+VALUES = (
+    None, True, False, 0, 1, 2, -1, 1.5, 2**64, "", "M", "TA", "EB", "K", "?", "work", "ActivateTask TA", "1", [], {}, [[]],
+    [{}], [None], [1], ["M"], ["TA"],
+)  # fmt: skip
+
+
+def members():
+    """Each member of each object of the first core, and of what belongs to no core: left out, and with values of each
+    type."""
+    for kind, path in objects_of(whole(), CONFIGURATION):
+        if path[:2] == ("cores", 1):
+            continue
+        for member in kind.members:
+            title = "%s/%s" % ("/".join(map(str, path)), member.name)
+            yield "%s left out" % title, left_out(path, member.name)
+            for value in VALUES:
+                yield "%s is %r" % (title, value), changed((path + (member.name,), value))
+
+
+def left_out(path, name):
+    """The whole configuration without a member."""
+    value = whole()
+    at = value
+    for key in path:
+        at = at[key]
+    at.pop(name, None)
+    return data(value)
+
+
 def words_of_cores():
     """The modes of the configuration, and what a core says of them and of protection."""
     for name in NAMES + ("DONOTCARE", "conflict", "none", "IA", "K"):
@@ -356,7 +428,8 @@ def words_of_cores():
     protections = ("PRO_IGNORE", "PRO_TERMINATETASKISR", "PRO_TERMINATEAPPL", "PRO_TERMINATEAPPL_RESTART", "PRO_SHUTDOWN")
     for word in protections + ("pro_ignore", "PRO_KILL", "", 0, None, []):
         yield "protection %r" % word, changed((["cores", 0, "protection"], word))
-    for script in ("", "GetResource RA", "ReleaseResource RA", "GetResource ?", "GetResource RB", "GetResource", "TerminateTask"):
+    of_resources = ("GetResource RA", "ReleaseResource RA", "GetResource ?", "GetResource RB", "GetResource")
+    for script in ("", *of_resources, "TerminateTask"):
         yield "ISR %r" % script, changed((["cores", 0, "isrs", 0, "script"], script))
 
 
@@ -368,6 +441,57 @@ def swapped():
     )  # fmt: skip
     for text in texts:
         yield "configuration %s" % text, text.encode()
+
+
+# Version 2, with what the texts below are for: each kind of object in few bytes.
+FAR_CONFIGURATION = {
+    "version": 2,
+    "modes": ["M", "N"],
+    "spinlocks": [{"name": "K", "next": "L"}, {"name": "L"}],
+    "cores": [
+        {"id": 0, "start": [8, 15]},
+        {"id": 8, "mode": "DONOTCARE", "isrs": [{"name": "J", "level": 2, "script": "SetEvent E 3;StartCore 15"}]},
+        {
+            "id": 15,
+            "protection": "PRO_IGNORE",
+            "tasks": [
+                {"name": "T", "prio": 1, "auto": ["M"], "script": "GetResource R;GetSpinlock K;ReleaseSpinlock K;ChainTask T"},
+                {"name": "E", "prio": 2, "extended": True, "budget": 5, "script": "WaitEvent 1;jz v0 0"},
+            ],
+            "resources": [{"name": "R", "ceiling": 1, "lock": 4}],
+            "counters": [{"name": "C", "max": 9, "min": 2}],
+            "alarms": [
+                {"name": "A", "counter": "C", "action": "SetEvent E 1", "auto": {"modes": ["N"], "start": 1, "cycle": 0}},
+            ],
+            "tables": [{"name": "S", "counter": "C", "duration": 8, "points": [{"offset": 2, "actions": ["ActivateTask T"]}]}],
+        },
+    ],
+}
+FAR_STIMULI = {"0": "op", "8": "irq=J tick", "15": "op tick"}
+FAR_SCHEDULE = "0o 15l 8s15 15s8"
+
+
+def far_texts():
+    """The three texts of the far configuration, as short as they are."""
+    texts = (FAR_CONFIGURATION, FAR_STIMULI, FAR_SCHEDULE)
+    return [json.dumps(each, separators=(",", ":")).encode() for each in texts]
+
+
+def far_stimuli():
+    """Each text of stimuli for the far configuration, with a title."""
+    for key in [str(number) for number in range(18)] + ["08", "015", "15 ", "150", "1 5", "255", "256", "0xf", "-15"]:
+        yield "key %r" % key, data({key: "op"})
+        yield "key %r and right ones" % key, data({**FAR_STIMULI, key: "tick"})
+        yield "key %r with a wrong word" % key, data({**FAR_STIMULI, key: "irq=K"})
+
+
+def far_schedules():
+    """Each text of a schedule for the far configuration, with a title."""
+    numbers = ("0", "1", "7", "8", "9", "14", "15", "16", "17", "08", "015", "255", "256", "-1", "")
+    for number in numbers:
+        for turn in (number + "o", number + "l", number + "s", number + "x", *(number + "s" + other for other in numbers)):
+            yield "schedule %r" % turn, data(turn)
+            yield "schedule %r between others" % turn, data("15o %s 8l" % turn)
 
 
 STIMULI_CONFIGURATION = {

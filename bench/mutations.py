@@ -346,7 +346,7 @@ class Mutator:
             words = ("op", "tick", "op op", "tik", "", "OP", "op\u00e9", "tick;")
             value[key] = self.changed_text(value.get(key, ""), words)
         elif way < 0.8:
-            value[self.chance.choice(("0", "1", "2", "7", "8", "00", "01", "-1", "", "a", "10"))] = "op"
+            value[self.chance.choice(("0", "1", "2", "7", "8", "15", "16", "00", "01", "-1", "", "a", "10"))] = "op"
         elif way < 0.9:
             value[key] = copy.deepcopy(self.chance.choice(OTHER_VALUES))
         else:
@@ -355,7 +355,8 @@ class Mutator:
 
     def schedule(self, base):
         """The text of a schedule with a mutation."""
-        turns = ("0o", "0l", "1o", "1l", "0s1", "1s0", "0s0", "7o", "9o", "00o", "0s", "o", "0x", "0s01", "10o", "")
+        near = ("0o", "0l", "1o", "1l", "0s1", "1s0", "0s0", "7o", "9o", "00o", "0s", "o", "0x", "0s01", "10o", "")
+        turns = near + ("15o", "15l", "0s15", "15s8", "8s15", "16o", "16s0", "15s16")
         if self.chance.random() < 0.9:
             return self.text(self.changed_text(base, turns))
         return self.text(copy.deepcopy(self.chance.choice(OTHER_VALUES)))
