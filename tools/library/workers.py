@@ -49,9 +49,10 @@ class Workers:
 
     def _done(self, work: Callable[[Any], Any], values: Sequence[Any], what: str) -> List[Any]:
         """The results of some work for each value, in the order of the values."""
-        results = map(work, values) if self._pool is None else self._pool.map(work, values)
         found = []
         try:
+            # A process that ends while the values are handed out breaks the pool here already.
+            results = map(work, values) if self._pool is None else self._pool.map(work, values)
             with progress.shown(what, len(values)) as shown:
                 for shown.done, result in enumerate(results, 1):
                     found.append(result)

@@ -277,6 +277,11 @@ class Processes(unittest.TestCase):
         with workers.Workers(None, 2) as some, self.assertRaisesRegex(ending.Failed, "has ended early"):
             some._done(os._exit, [1, 1, 1], "ends")
 
+    def test_a_process_that_ended_while_values_are_handed_out(self):
+        broken = mock.patch.object(workers.ProcessPoolExecutor, "submit", side_effect=workers.BrokenProcessPool)
+        with broken, workers.Workers(None, 2) as some, self.assertRaisesRegex(ending.Failed, "has ended early"):
+            some._done(abs, [1, 1, 1], "numbers")
+
     def test_the_first_process_alone_shows_how_far_it_is(self):
         terminal = io.StringIO()
         terminal.isatty = lambda: True
