@@ -10,6 +10,7 @@ mod jobs;
 mod prints;
 mod repeats;
 mod scenes;
+pub mod sixteen;
 mod tables;
 
 pub use differences::Difference;

@@ -185,56 +185,56 @@ given-all Ring shared cs ends cores = given-each shared cs ends cores
 given-all Locked shared cs ends none = subst (λ (es : List RingEnd). somes (map end_of (equipped (map (first_seats shared) cs) es)) ≡ map end_id es) (sym none) (given-none (map (first_seats shared) cs))
 
 -- It left an end of the rings behind, of its core.
-record IsRung (e : Ending) : Type 0 where
+record HasEnd (e : Ending) : Type 0 where
   end : RingEnd
   kept : e.kept ≡ Rings end
   core : core_of_end end ≡ e.report.core
 
-rung-by : (e : Ending) (given : RingEnd) → end_kept e ≡ Some (end_id given) → core_of_end given ≡ e.report.core → IsRung e
-rung-by e given same core = by e.kept refl same
+end-by : (e : Ending) (given : RingEnd) → end_kept e ≡ Some (end_id given) → core_of_end given ≡ e.report.core → HasEnd e
+end-by e given same core = by e.kept refl same
   where
-    by : (kept : Kept) → e.kept ≡ kept → which_kept kept ≡ Some (end_id given) → IsRung e
+    by : (kept : Kept) → e.kept ≡ kept → which_kept kept ≡ Some (end_id given) → HasEnd e
     by (Steps steps) is same = absurd (false≢true (ap is_some same))
     by (Rings end) is same = record { end = end; kept = is; core = ap (λ (i : EndId). i.core) (same_Some _ _ same) ∙ core }
 
 abbrev report_cores : List Ending → List CoreId
 report_cores es = map (λ (r : Report). r.core) (map (λ (e : Ending). e.report) es)
 
-rung-each : (shared : Shared) (cs : List CoreId) (ends : List RingEnd) (es : List Ending) → map core_of_end ends ≡ cs → map end_kept es ≡ map end_of (equipped (map (first_seats shared) cs) ends) → report_cores es ≡ cs → AllByRecursion IsRung es
-rung-each shared cs ends [] cores same reports = tt
-rung-each shared [] ends (e ∷ es) cores same reports = absurd (some-none _ _ reports)
-rung-each shared (c ∷ cs) [] (e ∷ es) cores same reports = absurd (some-none _ _ (sym cores))
-rung-each shared (c ∷ cs) (g ∷ ends) (e ∷ es) cores same reports = (
-  rung-by e g (same-first _ _ _ _ same) (same-first _ _ _ _ cores ∙ sym (same-first _ _ _ _ reports)),
-  rung-each shared cs ends es (same-rest _ _ _ _ cores) (same-rest _ _ _ _ same) (same-rest _ _ _ _ reports),
+ends-by : (shared : Shared) (cs : List CoreId) (ends : List RingEnd) (es : List Ending) → map core_of_end ends ≡ cs → map end_kept es ≡ map end_of (equipped (map (first_seats shared) cs) ends) → report_cores es ≡ cs → AllByRecursion HasEnd es
+ends-by shared cs ends [] cores same reports = tt
+ends-by shared [] ends (e ∷ es) cores same reports = absurd (some-none _ _ reports)
+ends-by shared (c ∷ cs) [] (e ∷ es) cores same reports = absurd (some-none _ _ (sym cores))
+ends-by shared (c ∷ cs) (g ∷ ends) (e ∷ es) cores same reports = (
+  end-by e g (same-first _ _ _ _ same) (same-first _ _ _ _ cores ∙ sym (same-first _ _ _ _ reports)),
+  ends-by shared cs ends es (same-rest _ _ _ _ cores) (same-rest _ _ _ _ same) (same-rest _ _ _ _ reports),
 )
 
-abbrev pasts : (es : List Ending) → AllByRecursion IsRung es → List EndPast
-pasts [] rung = []
-pasts (e ∷ es) rung = past_of rung.0.end ∷ pasts es rung.1
+abbrev pasts : (es : List Ending) → AllByRecursion HasEnd es → List EndPast
+pasts [] has = []
+pasts (e ∷ es) has = past_of has.0.end ∷ pasts es has.1
 
-pasts-are : (es : List Ending) (rung : AllByRecursion IsRung es) → map past_of (ends_kept es) ≡ pasts es rung
-pasts-are [] rung = refl
-pasts-are (e ∷ es) rung =
-    ap (λ (kept : Kept). map past_of (kept_in kept ++ ends_kept es)) rung.0.kept ∙ ap (λ (ps : List EndPast). past_of rung.0.end ∷ ps) (pasts-are es rung.1)
+pasts-are : (es : List Ending) (has : AllByRecursion HasEnd es) → map past_of (ends_kept es) ≡ pasts es has
+pasts-are [] has = refl
+pasts-are (e ∷ es) has =
+    ap (λ (kept : Kept). map past_of (kept_in kept ++ ends_kept es)) has.0.kept ∙ ap (λ (ps : List EndPast). past_of has.0.end ∷ ps) (pasts-are es has.1)
 
-settled-one : (a b : Ending) (from : IsRung a) (to : IsRung b) → IsDelivered (past_of from.end) (past_of to.end) → IsSettled a b
+settled-one : (a b : Ending) (from : HasEnd a) (to : HasEnd b) → IsDelivered (past_of from.end) (past_of to.end) → IsSettled a b
 settled-one a b from to delivered =
     subst (λ (k : Kept). IsBeginning (taken_of k a.report.core) (sent_of a.kept b.report.core)) (sym to.kept)
     (subst (λ (k : Kept). IsBeginning (ring_taken to.end a.report.core) (sent_of k b.report.core)) (sym from.kept)
     (subst (λ (c : CoreId). IsBeginning (ring_taken to.end c) (ring_sent from.end b.report.core)) from.core
     (subst (λ (c : CoreId). IsBeginning (ring_taken to.end (core_of_end from.end)) (ring_sent from.end c)) to.core delivered)))
 
-settled-row : (a : Ending) (from : IsRung a) (bs : List Ending) (rung : AllByRecursion IsRung bs) → AllByRecursion (IsDelivered (past_of from.end)) (pasts bs rung) → AllByRecursion (IsSettled a) bs
-settled-row a from [] rung all = tt
-settled-row a from (b ∷ bs) rung all = (settled-one a b from rung.0 all.0, settled-row a from bs rung.1 all.1)
+settled-row : (a : Ending) (from : HasEnd a) (bs : List Ending) (has : AllByRecursion HasEnd bs) → AllByRecursion (IsDelivered (past_of from.end)) (pasts bs has) → AllByRecursion (IsSettled a) bs
+settled-row a from [] has all = tt
+settled-row a from (b ∷ bs) has all = (settled-one a b from has.0 all.0, settled-row a from bs has.1 all.1)
 
-settled-rows : (es : List Ending) (to : AllByRecursion IsRung es) (xs : List Ending) (from : AllByRecursion IsRung xs) → AllByRecursion (λ a. AllByRecursion (IsDelivered a) (pasts es to)) (pasts xs from) → AllByRecursion (λ (a : Ending). AllByRecursion (IsSettled a) es) xs
+settled-rows : (es : List Ending) (to : AllByRecursion HasEnd es) (xs : List Ending) (from : AllByRecursion HasEnd xs) → AllByRecursion (λ a. AllByRecursion (IsDelivered a) (pasts es to)) (pasts xs from) → AllByRecursion (λ (a : Ending). AllByRecursion (IsSettled a) es) xs
 settled-rows es to [] from all = tt
 settled-rows es to (x ∷ xs) from all = (settled-row x from.0 es to all.0, settled-rows es to xs from.1 all.1)
 
-rings-settled : (es : List Ending) → AllByRecursion IsRung es → AreDelivered (map past_of (ends_kept es)) → AreSettled es
-rings-settled es rung delivered = settled-rows es rung es rung (subst AreDelivered (pasts-are es rung) delivered)
+rings-settled : (es : List Ending) → AllByRecursion HasEnd es → AreDelivered (map past_of (ends_kept es)) → AreSettled es
+rings-settled es has delivered = settled-rows es has es has (subst AreDelivered (pasts-are es has) delivered)
 
 module _ (kind : MailKind) (cs : List CoreId) (shared : Shared) (rings : List EndId) (outfits : List Outfit) (are : AreEquipped kind cs shared rings outfits) where
   pub all-cores : outfit_cores outfits ≡ cs
@@ -253,7 +253,7 @@ module _ (kind : MailKind) (cs : List CoreId) (shared : Shared) (rings : List En
         by Locked is = compared is
         by Ring is =
             let cores : map core_of_end are.ends ≡ cs = subst (λ (k : MailKind). AreEndsFor k cs are.ends) is are.ends_for in
-            rings-settled es (rung-each shared cs are.ends es cores (same ∙ ap (map end_of) are.made) reports) delivered
+            rings-settled es (ends-by shared cs are.ends es cores (same ∙ ap (map end_of) are.made) reports) delivered
 
 -- ---- what the reports of all cores are
 

@@ -1,36 +1,11 @@
 //! Runs with cores that version 2 of the configuration alone has.
 
-use osplay::examples::RING;
 use osplay::play_all;
+use osplay::sixteen::RING;
 use std::test::Fail;
 
 const RUNS: &str = r#"
-// A core of a number above 7.
-config {"version":2,"cores":[{"id":0,"start":[9],"tasks":[{"name":"A","prio":1,"auto":["M"],"script":"ActivateTask B;TerminateTask"}]},{"id":9,"tasks":[{"name":"B","prio":1,"script":"TerminateTask"}]}]}
-stimuli {"0":"op op"}
-run
-core 0
-start 9 E_OK
-hook Startup
-act A
-pre A
-out 9 ActivateTask B
-stat A ActivateTask E_OK
-post A
-end A
-core 9
-hook Startup
-act B
-in 0 ActivateTask B E_OK
-pre B
-ended
-
-check
-ok
-core 0 bound
-core 9 bound
-
-// By no other version is there one.
+// A core of a number above 7, by another version than 2.
 config {@"cores":[{"id":0,"start":[9],"tasks":[{"name":"A","prio":1,"auto":["M"],"script":"ActivateTask B;TerminateTask"}]},{"id":9,"tasks":[{"name":"B","prio":1,"script":"TerminateTask"}]}]}
 stimuli {"0":"op op"}
 with |"version":1,|"version":3,
@@ -137,5 +112,5 @@ ended
 
 #[test]
 fn cores_of_version_2_come_to_their_texts(rt: HostRuntime) -> Result<(), Fail> {
-    play_all(&rt, rt.alloc(), &[RUNS, RING], 15)
+    play_all(&rt, rt.alloc(), &[RUNS, RING], 13)
 }

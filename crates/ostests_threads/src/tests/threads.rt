@@ -3,7 +3,8 @@
 use super::reports::replays;
 use super::spinlocks::{OWED, SHARED};
 use osbase::MailKind;
-use osplay::examples::{ALL_DOWN, ASKERS, MUTUAL, POLLING, REFUSED, RING};
+use osplay::examples::{ALL_DOWN, ASKERS, MUTUAL, POLLING, REFUSED};
+use osplay::sixteen::RING;
 use osplay::{Difference, given, play_all, result_of, run_of, threads_of};
 use std::alloc::Global;
 use std::process::Abort;
@@ -155,7 +156,7 @@ ended
 // A core of a number above 7.
 config {"version":2,"cores":[{"id":0,"start":[9],"tasks":[{"name":"A","prio":1,"auto":["M"],"script":"ActivateTask B;TerminateTask"}]},{"id":9,"tasks":[{"name":"B","prio":1,"script":"TerminateTask"}]}]}
 stimuli {"0":"op op"}
-threads 1000000000
+run
 core 0
 start 9 E_OK
 hook Startup
@@ -171,6 +172,17 @@ act B
 in 0 ActivateTask B E_OK
 pre B
 ended
+
+threads 1000000000
+as before
+
+threads locked 1000000000
+as before
+
+check
+ok
+core 0 bound
+core 9 bound
 
 // Three alarms that act on another core, whose mailbox holds one envelope.
 config {"cap":1,"cores":[{"id":0,"start":[1],"counters":[{"name":"C","max":9}],"alarms":[{"name":"L1","counter":"C","action":"ActivateTask P","auto":{"modes":["M"],"start":1,"cycle":0}},{"name":"L2","counter":"C","action":"ActivateTask Q","auto":{"modes":["M"],"start":1,"cycle":0}},{"name":"L3","counter":"C","action":"ActivateTask R","auto":{"modes":["M"],"start":1,"cycle":0}}]},{"id":1,"tasks":[{"name":"P","prio":1,"script":"TerminateTask"},{"name":"Q","prio":1,"script":"TerminateTask"},{"name":"R","prio":1,"script":"TerminateTask"}]}]}
@@ -228,7 +240,7 @@ fn runs_by_threads_come_to_their_texts(rt: HostRuntime) -> Result<(), Fail> {
         &rt,
         rt.alloc(),
         &[BOUND_AND_SEPARATE, RUNS, OWED, SHARED],
-        59,
+        62,
     )
 }
 
