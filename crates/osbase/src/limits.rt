@@ -66,11 +66,11 @@ pub const POINTS: usize = 16;
 /// The most actions of a point.
 pub const ACTIONS: usize = 8;
 
-/// The most envelopes that a core's alarms and tables may add to its outbox at once.
+/// The most letters that a core's alarms and tables may add to its outbox at once.
 pub const POSTED: usize = 56;
 
-/// The most envelopes that a core's calls add to its outbox at once: its own call, and a reply to each other core.
+/// The most letters that a core's calls add to its outbox at once: its own call, and a reply to each other core.
 pub const CALLS_AT_ONCE: usize = CORES;
 
-/// The most envelopes of a core's outbox: at least `POSTED` and `CALLS_AT_ONCE` together.
+/// The most letters of a core's outbox: at least `POSTED` and `CALLS_AT_ONCE` together.
 pub const OUTBOX: usize = 80;

@@ -71,6 +71,8 @@ pub struct Letter {
 #[derive(Clone, Copy, Debug, PartialEq, Eq)]
 pub struct Envelope {
     pub letter: Letter,
+    /// The clock of the sender's item while the envelope is on its way between two threads; 0 elsewhere.
+    pub clock: u64,
 }
 
 /// How envelopes go from one core to another where each core runs on a thread of its own.

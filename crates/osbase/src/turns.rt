@@ -60,6 +60,9 @@ pub type Schedule = List<Turn>;
 pub struct Report {
     pub core: CoreId,
     pub items: List<Item>,
+    /// The logical clock of each item of a threaded run, from which one order of all cores' items is sought. A listed run
+    /// has an order, and no clocks.
+    pub clocks: List<u64>,
     pub marks: List<Mark>,
     pub ended: bool,
 }

@@ -111,9 +111,9 @@ watch_in s = watch_from s.progress.phase s
 abbrev pub watch_of : View → History → Watch
 watch_of v h = watch_in (state_of v h)
 
--- The envelope in which a letter leaves the outbox.
+-- The envelope in which a letter leaves the outbox: it is not on its way yet.
 abbrev pub envelope_of : Letter → Envelope
-envelope_of letter = record { letter = letter }
+envelope_of letter = record { letter = letter; clock = 0 }
 
 -- The front of the outbox in its envelope, with the core that it is for. [own]
 abbrev pub front_of : List Sent → Option (CoreId × Envelope)

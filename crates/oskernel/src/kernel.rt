@@ -167,6 +167,7 @@ impl<'a, const P: usize, const J: usize, const OUT: usize> Kernel<'a, P, J, OUT>
         let sent = self.state.front()?;
         let envelope = Envelope {
             letter: sent.letter,
+            clock: 0,
         };
         Some((sent.to, envelope))
     }

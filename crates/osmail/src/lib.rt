@@ -11,7 +11,6 @@ pub mod list;
 pub mod locked;
 pub mod mailbox;
 pub mod rings;
-mod sameness;
 mod settling;
 
 pub use ends::{Mail, MailStep};

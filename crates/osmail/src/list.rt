@@ -110,7 +110,7 @@ impl<const CAP: usize> ListMail<CAP> {
     {
         let letter = self.boxes[place(from, to)].pop()?;
         self.counts[usize::from(to.number)] -= 1;
-        Some(Envelope { letter })
+        Some(Envelope { letter, clock: 0 })
     }
 }
 

@@ -6,8 +6,8 @@ ghost use Rattle.osbase.specs.declared.messages.Letter.{Letter};
 ghost use Rattle.osmail.specs.Ends.{sent_to, taken_from};
 
 use crate::ends::MailStep;
-use crate::sameness::is_same;
 use osbase::{CoreId, Letter};
+use ossame::is_same_letter;
 
 // The first letter that was sent to this core, and the steps behind it.
 pub(crate) fn next_sent(steps: &[MailStep], to: CoreId) -> Option<(Letter, &[MailStep])>
@@ -36,7 +36,7 @@ pub(crate) fn without<'a>(
     ensures none { IfNone result ((more : List Letter) → letter.now ∷ more ≡ sent_to steps.now to → ⊥) }
 {
     let (next, left) = next_sent(steps, to)?;
-    if !is_same(&next, letter) {
+    if !is_same_letter(&next, letter) {
         return None;
     }
     Some(left)

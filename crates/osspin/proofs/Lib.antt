@@ -1,2 +1,3 @@
 mod Each
 pub mod Locks
+pub mod Held

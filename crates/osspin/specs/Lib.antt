@@ -1,2 +1,4 @@
+pub mod Clocked
 pub mod Spins
 pub mod Words
+pub mod Holding

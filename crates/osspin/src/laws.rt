@@ -1,12 +1,21 @@
 //! What holds of every history of the spinlocks.
 
-ghost use Rattle.std.specs.Prelude.{◌<◌, List};
-ghost use Rattle.osseat.specs.Histories.{IsLegal};
+ghost use Rattle.std.specs.Prelude.{◌≡◌, ◌<◌, List, false};
+ghost use Rattle.osseat.specs.Histories.{IsLegal, calls_by, state_after};
+ghost use Rattle.osbase.specs.declared.references.CoreId.{CoreId};
 ghost use Rattle.osbase.specs.declared.references.SpinlockId.{SpinlockId};
 ghost use Rattle.osbase.specs.declared.limits.TheConstants.{SPINLOCKS};
-ghost use Rattle.osspin.specs.Spins.{SpinEntry, calls_on, one_lock, spinlocks};
+ghost use Rattle.osspin.specs.Holding.{holds_by};
+ghost use Rattle.osspin.specs.Spins.{SpinEntry, calls_on, holder_of, is_held_by, no_holders, one_lock, spinlocks};
 
 /// Where the calls of all spinlocks are one legal history, so are those of each spinlock, as the calls of one lock.
 pub fn each_spinlock_has_its_own_history()
     ensures { (log : List SpinEntry) → IsLegal spinlocks tt log → (lock : SpinlockId) → lock.index < SPINLOCKS → IsLegal one_lock tt (calls_on lock log) }
+{}
+
+/// Whether a core holds a spinlock is known by its own calls alone, whatever the other cores call: it does since it took it, until
+/// it freed it.
+pub fn a_core_holds_what_it_took_and_did_not_free()
+    ensures { (core : CoreId) (lock : SpinlockId) → lock.index < SPINLOCKS → (log : List SpinEntry) → IsLegal spinlocks tt log
+        → is_held_by core (holder_of (state_after spinlocks no_holders log) lock) ≡ holds_by lock (calls_by core log) false }
 {}

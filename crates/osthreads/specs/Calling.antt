@@ -1,11 +1,10 @@
 -- What a worker calls the board and the spinlocks for. [own]
-use Rattle.std.specs.Prelude.{◌≡◌, ◌⊎◌, true, List, [], ◌∷◌}
+use Rattle.std.specs.Prelude.{◌≡◌, ◌⊎◌, true}
 use Rattle.osbase.specs.declared.statuses.Status.TheVariants.{EOk}
 use Rattle.osbase.specs.declared.references.CoreId.{CoreId}
 use Rattle.osbase.specs.declared.items.Item.{Item}
 use Rattle.osboard.specs.declared.calls.BoardCall.{BoardCall}
 use Rattle.osboard.specs.declared.calls.BoardCall.TheVariants.{Start, Enter, MakeReady, Drain, Look, LookDrained, AskHalt, LookHalt}
-use Rattle.osspin.specs.Spins.{SpinEntry, free_call, try_take_call}
 use Rattle.oskernel.specs.declared.wants.SpinWish.{SpinWish}
 use Rattle.oskernel.specs.declared.wants.SpinWish.TheVariants as Wish
 
@@ -35,10 +34,3 @@ abbrev pub item_of_wish : SpinWish → Item
 item_of_wish (Wish.Get l) = Item.Granted l
 item_of_wish (Wish.Try l) = Item.Tried l true
 item_of_wish (Wish.Free l) = Item.Freed l
-
--- The call of a spinlock that resulted in this item, if one did.
-abbrev pub call_of_item : CoreId → Item → List SpinEntry
-call_of_item core (Item.Granted l) = try_take_call core l true ∷ []
-call_of_item core (Item.Tried l taken) = try_take_call core l taken ∷ []
-call_of_item core (Item.Freed l) = free_call core l true ∷ []
-call_of_item core item = []

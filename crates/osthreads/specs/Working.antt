@@ -30,12 +30,11 @@ use Rattle.osturn.specs.declared.seats.Seat.{Seat}
 use Rattle.oskernel.specs.declared.wants.SpinWish.{SpinWish}
 use Rattle.oskernel.specs.declared.wants.SpinWish.TheVariants as Wish
 use Rattle.oskernel.specs.declared.wants.Want.{Want}
-use Rattle.osturn.specs.Asking.{Calls, asked_by, named_by, spin_call_of}
+use Rattle.osturn.specs.Asking.{Calls, asked_by, call_of_item, named_by, spin_call_of}
 use Rattle.osturn.specs.Fits.{AreAnswered, FitsCore, history_by, ids_of, stimuli_in}
 use Rattle.osturn.specs.Seats.{IsSeated}
 use Rattle.osturn.specs.Sound.{IsOwn}
 use Rattle.osthreads.specs.declared.run.Run.{Run}
-use Rattle.osthreads.specs.Calling.{call_of_item}
 use Rattle.osthreads.specs.Seats.{made_from}
 use Rattle.osthreads.specs.declared.turns.Stop.{Stop}
 use Rattle.osthreads.specs.declared.turns.Turned.{Turned}

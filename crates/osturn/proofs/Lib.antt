@@ -8,6 +8,8 @@ pub mod Asked
 pub mod Streams
 pub mod Longer
 pub mod Answered
+pub mod Called
+pub mod Got
 pub mod Ending
 pub mod Seated
 pub mod Relying

@@ -17,7 +17,7 @@ use Rattle.osspin.specs.declared.calls.SpinAction.TheVariants.{Take, Free}
 use Rattle.osspin.specs.declared.calls.SpinCall.{SpinCall}
 use Rattle.osspin.specs.declared.calls.SpinReply.{SpinReply}
 use Rattle.osspin.specs.declared.calls.SpinReply.TheVariants.{Answered}
-use Rattle.osspin.specs.Spins.{SpinEntry, spin_call}
+use Rattle.osspin.specs.Spins.{SpinEntry, free_call, spin_call, try_take_call}
 use Rattle.osboard.specs.declared.calls.BoardCall.{BoardCall}
 use Rattle.osboard.specs.declared.calls.BoardCall.TheVariants.{Start, Enter, MakeReady, Drain, Look, LookDrained, AskHalt, LookHalt}
 use Rattle.osboard.specs.declared.calls.BoardReply.{BoardReply}
@@ -165,3 +165,10 @@ abbrev pub told_by : CoreId → Ask → Answer → Calls
 told_by core (OfBoard call) (Replied reply) = record { board = entry core call reply ∷ []; spins = [] }
 told_by core (OfSpins wish) (Spun reply) = record { board = []; spins = entry core (spin_call_of wish) reply ∷ [] }
 told_by core ask answer = no_calls
+
+-- The call of a spinlock that resulted in this item, if one did.
+abbrev pub call_of_item : CoreId → Item → List SpinEntry
+call_of_item core (Item.Granted l) = try_take_call core l true ∷ []
+call_of_item core (Item.Tried l taken) = try_take_call core l taken ∷ []
+call_of_item core (Item.Freed l) = free_call core l true ∷ []
+call_of_item core item = []

@@ -30,11 +30,12 @@ abbrev pub is_ended_phase : Phase → Bool
 is_ended_phase Phase.Ended = true
 is_ended_phase p = false
 
--- The report of a seat.
+-- The report of a seat, without clocks.
 abbrev pub report_of : Seat → Report
 report_of seat = record {
   core = seat.id;
   items = seat.items.items;
+  clocks = [];
   marks = seat.marks.items;
   ended = is_ended_phase seat.kernel.progress.phase;
 }

@@ -41,13 +41,18 @@ abbrev pub report_by : Plan → CoreId → List Item → Report
 report_by plan id items = record {
   core = id;
   items = items;
+  clocks = [];
   marks = marks_of (history_by plan id items);
   ended = end_by items;
 }
 
--- A report says what its own items say.
+-- A report without the clocks of its items.
+abbrev pub unclocked : Report → Report
+unclocked report = record report { clocks = [] }
+
+-- A report says what its own items say. Of their clocks nothing is said.
 abbrev pub IsOwn : Plan → Report → Type 0
-IsOwn plan report = report ≡ report_by plan report.core report.items
+IsOwn plan report = unclocked report ≡ report_by plan report.core report.items
 
 -- ---- a separate core
 

@@ -136,15 +136,16 @@ impl<'a> Seat<'a> {
         matches!(self.kernel.phase(), Phase::Ended)
     }
 
-    /// What the run came to for this core. The seat gives its items and lines up, and its kernel stays where it is, since moving that
-    /// costs more than all else at the end of a short run.
+    /// What the run came to for this core, without clocks. The seat gives its items and lines up, and its kernel stays where it is,
+    /// since moving that costs more than all else at the end of a short run.
     pub fn report(&mut self) -> Report
-        ensures { result ≡ record { core = self.old.id; items = self.old.items.items; marks = self.old.marks.items; ended = is_ended_phase self.old.kernel.progress.phase } }
+        ensures { result ≡ record { core = self.old.id; items = self.old.items.items; clocks = []; marks = self.old.marks.items; ended = is_ended_phase self.old.kernel.progress.phase } }
     {
         let alloc = *self.items.allocator();
         Report {
             core: self.id,
             items: List::from_vec(mem::replace(&mut self.items, Vec::new(alloc))),
+            clocks: List::new(alloc),
             marks: List::from_vec(mem::replace(&mut self.marks, Vec::new(alloc))),
             ended: self.has_ended(),
         }

@@ -6,7 +6,7 @@ use std::test::Fail;
 
 fn envelope(number: u64, message: Message) -> Envelope {
     let letter = Letter { number, message };
-    Envelope { letter }
+    Envelope { letter, clock: 0 }
 }
 
 fn value(number: u64) -> Envelope {

@@ -1,20 +1,18 @@
-//! Whether two letters are the same. `==` answers so too, but no clause says what its answer means.
+//! Whether two letters, and what stands in them, are the same.
 
 ghost use Rattle.std.specs.Prelude.{◌≡◌, ◌↔◌, IsTrue};
 
-use osbase::{AlarmRef, CoreId, Letter, Message, RemoteCall, Status, TaskRef};
+use osbase::{AlarmRef, Letter, Message, RemoteCall, Status, TaskRef};
 
 /// Whether these letters are the same.
-pub(crate) fn is_same(left: &Letter, right: &Letter) -> bool
+pub fn is_same_letter(left: &Letter, right: &Letter) -> bool
     ensures { IsTrue result ↔ left.now ≡ right.now }
 {
-    if left.number != right.number {
-        return false;
-    }
-    is_same_message(left.message, right.message)
+    left.number == right.number && is_same_message(left.message, right.message)
 }
 
-fn is_same_message(left: Message, right: Message) -> bool
+/// Whether these messages are the same.
+pub fn is_same_message(left: Message, right: Message) -> bool
     ensures { IsTrue result ↔ left ≡ right }
 {
     match (left, right) {
@@ -28,8 +26,9 @@ fn is_same_message(left: Message, right: Message) -> bool
     }
 }
 
+/// Whether these statuses are the same.
 #[tactic(auto, using(osbase::proofs::StatusNumbers::status_same))]
-fn is_same_status(left: Status, right: Status) -> bool
+pub fn is_same_status(left: Status, right: Status) -> bool
     ensures { IsTrue result ↔ left ≡ right }
 {
     left.number() == right.number()

@@ -1,0 +1,8 @@
+//! Whether two items, letters or messages are the same. `==` answers so too, but no clause says what its answer means.
+#![tactic(auto)]
+
+pub mod items;
+pub mod messages;
+
+pub use items::{are_same_items, is_same_item};
+pub use messages::is_same_letter;
