@@ -1,3 +1,4 @@
 pub mod Taken
 pub mod Pieces
 pub mod Gathers
+pub mod Schedules

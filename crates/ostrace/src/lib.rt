@@ -1,12 +1,14 @@
-//! The text of a trace, and where it is written to.
+//! The text of a trace, and where it is written to; and the text of a schedule.
 #![tactic(auto)]
 
 mod gathered;
 mod lines;
 pub mod reports;
+mod schedules;
 pub mod sinks;
 mod words;
 
 pub use reports::write_reports;
+pub use schedules::schedule_text;
 pub use sinks::{MemorySink, Sink, WriteFailed, WriteSink, write_all};
 pub use words::{Word, write_ended_words};

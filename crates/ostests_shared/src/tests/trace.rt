@@ -1,6 +1,7 @@
 //! The text of reports, in memory, in a stream, and in a sink that fails.
 
 mod marks;
+mod schedules;
 mod sinks;
 
 use marks::{ONE, ZERO};
@@ -21,6 +22,7 @@ fn report(alloc: Global, core: CoreId, marks: Vec<Mark>) -> Report {
     Report {
         core,
         items: List::new(alloc),
+        clocks: List::new(alloc),
         marks: List::from_vec(marks),
         ended: true,
     }

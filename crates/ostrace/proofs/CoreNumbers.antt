@@ -1,0 +1,44 @@
+-- A core's number in decimal is read as that number, and ends where its word has no digit more.
+use Rattle.std.proofs.Common.{◌≡◌, ℕ, ◌+◌, ◌-◌, ◌*◌, ◌/◌, ◌%◌, ◌<◌, nat_lt, true, false, not, Some, List, [], ◌∷◌, ◌++◌, inl, inr, length, length-append, refl, ap, ◌∙◌, arith}
+use Rattle.std.specs.Char.{is_ascii_digit}
+use Rattle.std.specs.Fmt.{decimal}
+use Rattle.std.specs.List.{list_all, prefix_len}
+use Rattle.std.proofs.lemmas.Bool.{and_parts, cases_lt, lt-ltb, ne_eqb}
+use Rattle.std.proofs.lemmas.Bool.Decides.{nat_tests}
+use Rattle.std.proofs.lemmas.Fmt.{decimal_digit, decimal_step}
+use Rattle.osgiven.specs.Word.{core_number, digit_of}
+use Rattle.osgiven.specs.Given.{digits_in}
+
+digit-back : (d : ℕ) → d < 10 → digit_of (48 + d) ≡ Some d
+digit-back d low =
+    let digit : is_ascii_digit (48 + d) ≡ true = grind (arith, nat_tests) in
+    let value : 48 + d - 48 ≡ d = omega arith in
+    rw (digit, value) refl
+
+two-back : (t o : ℕ) → 0 < t → t < 10 → o < 10 → core_number ((48 + t) ∷ (48 + o) ∷ []) ≡ Some (10 * t + o)
+two-back t o some tens ones = rw (ne_eqb (48 + t) 48 (λ e. omega arith), digit-back t tens, digit-back o ones) refl
+
+pub number-back : (n : ℕ) → n < 100 → core_number (decimal n) ≡ Some n
+number-back n low = elim (cases_lt n 10) as (λ _. core_number (decimal n) ≡ Some n) [
+  | inl one ↦ rw (decimal_digit n one) (digit-back n one)
+  | inr two ↦
+      let tens : n / 10 < 10 = omega arith in
+      let digits : decimal n ≡ (48 + n / 10) ∷ (48 + n % 10) ∷ []
+      = decimal_step n two (omega arith) ∙ ap (λ (t : List ℕ). t ++ (48 + n % 10) ∷ []) (decimal_digit (n / 10) tens) in
+      let whole : 10 * (n / 10) + n % 10 ≡ n = omega arith in
+      ap core_number digits ∙ two-back (n / 10) (n % 10) (omega arith) tens (omega arith) ∙ ap Some whole
+]
+
+digits-passed : (ds : List ℕ) (c : ℕ) (rest : List ℕ) → list_all is_ascii_digit ds ≡ true → is_ascii_digit c ≡ false
+    → prefix_len (λ b. not (not (is_ascii_digit b))) (ds ++ c ∷ rest) ≡ length ds
+digits-passed [] c rest all other = rw other refl
+digits-passed (d ∷ ds) c rest all other =
+    let parts = and_parts (is_ascii_digit d) (list_all is_ascii_digit ds) all in
+    rw parts.0 (ap (λ n. 1 + n) (digits-passed ds c rest parts.1 other) ∙ omega arith)
+
+pub digits-end : (ds : List ℕ) (c : ℕ) (rest : List ℕ) → list_all is_ascii_digit ds ≡ true → is_ascii_digit c ≡ false
+    → digits_in (ds ++ c ∷ rest) ≡ length ds
+digits-end ds c rest all other =
+    let passed = digits-passed ds c rest all other in
+    let within : nat_lt (length ds) (length (ds ++ c ∷ rest)) ≡ true = lt-ltb _ _ (omega (arith, length-append ds (c ∷ rest))) in
+    rw (passed, within) refl

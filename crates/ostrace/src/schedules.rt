@@ -1,0 +1,71 @@
+//! The text of a schedule: turns as a run is given them.
+
+ghost use Rattle.std.specs.Prelude.{◌≡◌, ◌≤◌, ◌++◌, IfOk, IsTrue, OnOk, Some, length, map, string_bytes};
+ghost use Rattle.osplan.specs.declared.plans.Plan.{Plan};
+ghost use Rattle.osplan.specs.Limits.{is_within_limits};
+ghost use Rattle.ostext.specs.Trace.{led, spaced};
+ghost use Rattle.osgiven.specs.Given.{schedule_meant};
+ghost use Rattle.ostrace.specs.Schedules.{are_turns_of, choice_word, schedule_text, turn_word};
+
+use itoa::Buffer;
+use osbase::{Choice, Turn};
+use std::alloc::{AllocError, Global};
+
+fn push_choice(text: &mut String, choice: Choice) -> Result<(), AllocError>
+    ensures { OnOk result (string_bytes text.new ≡ string_bytes text.old ++ choice_word choice) }
+{
+    match choice {
+        Choice::Own => text.push_str("o"),
+        Choice::Look => text.push_str("l"),
+        Choice::Serve(from) => {
+            text.push_str("s")?;
+            text.push_str(Buffer::new().format(from.number))
+        }
+    }
+}
+
+fn push_turn(text: &mut String, turn: Turn) -> Result<(), AllocError>
+    ensures { OnOk result (string_bytes text.new ≡ string_bytes text.old ++ turn_word turn) }
+{
+    let (core, choice) = turn;
+    text.push_str(Buffer::new().format(core.number))?;
+    push_choice(text, choice)
+}
+
+// Adds turns, each after a space.
+fn push_led_turns(text: &mut String, turns: &[Turn]) -> Result<(), AllocError>
+    ensures { OnOk result (string_bytes text.new ≡ string_bytes text.old ++ led (map turn_word turns.now)) }
+{
+    for turn in turns {
+        text.push_str(" ")?;
+        push_turn(text, *turn)?;
+    }
+    Ok(())
+}
+
+fn push_turns(text: &mut String, turns: &[Turn]) -> Result<(), AllocError>
+    ensures { OnOk result (string_bytes text.new ≡ string_bytes text.old ++ spaced (map turn_word turns.now)) }
+{
+    match turns {
+        [] => Ok(()),
+        [first, later @ ..] => {
+            push_turn(text, *first)?;
+            push_led_turns(text, later)
+        }
+    }
+}
+
+/// The text by which a schedule lists these turns: a JSON string of their words, which are divided by one space.
+/// `AllocError` where memory runs out.
+pub fn schedule_text(alloc: Global, turns: &[Turn]) -> Result<String, AllocError>
+    ensures text { IfOk result (λ text. string_bytes text ≡ schedule_text turns.now) }
+    // Where they are turns of a configuration, and no more than a schedule may have, the text means just these.
+    ensures reads_back { IfOk result (λ text. (plan : Plan) → IsTrue (is_within_limits plan) → IsTrue (are_turns_of plan turns.now)
+        → length turns.now ≤ 1000000 → schedule_meant plan (string_bytes text) ≡ Some turns.now) }
+{
+    let mut text = String::new(alloc);
+    text.push_str("\"")?;
+    push_turns(&mut text, turns)?;
+    text.push_str("\"")?;
+    Ok(text)
+}
