@@ -203,10 +203,10 @@ worked-finished sent taken run worked is finished = record {
     stalled-by Stop.Told finished going = absurd (false≢true finished)
     stalled-by (Stop.Refused from e) finished going = absurd (false≢true finished)
 
--- What a worker that stopped hands back.
-pub handed-back : {M : Type 0} (sent taken : M → Streams) (run : Run) (stop : Stop) (shift : Shift M) (worked : Worked M) → shift.worker.run.now ≡ run → run.cores.now ≡ ids_of run.config.now → IsStopped sent taken run.stimuli.now stop shift
-    → 0 < length (ids_of run.config.now) → worked.report ≡ report_of shift.worker.core → worked.seats ≡ shift.worker.seats → worked.mail ≡ shift.worker.mail → worked.stop ≡ stop → IsWorked sent taken run worked
-handed-back {M} sent taken run stop shift worked same cores stopped some report_is seats_is mail_is stop_is = record {
+-- What a worker that stopped hands back, with these clocks.
+pub handed-back : {M : Type 0} (sent taken : M → Streams) (run : Run) (stop : Stop) (shift : Shift M) (worked : Worked M) (clocks : List ℕ) → shift.worker.run.now ≡ run → run.cores.now ≡ ids_of run.config.now → IsStopped sent taken run.stimuli.now stop shift
+    → 0 < length (ids_of run.config.now) → worked.report ≡ record (report_of shift.worker.core) { clocks = clocks } → worked.seats ≡ shift.worker.seats → worked.mail ≡ shift.worker.mail → worked.stop ≡ stop → IsWorked sent taken run worked
+handed-back {M} sent taken run stop shift worked clocks same cores stopped some report_is seats_is mail_is stop_is = record {
   own = subst (IsOwn run.config.now) (sym report_is) (seated-own run.config.now run.stimuli.now core done.work.seated);
   fits = rw report_is done.work.fits;
   loads = stopped.loads;

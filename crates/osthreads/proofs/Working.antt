@@ -42,16 +42,16 @@ use Rattle.osturn.specs.declared.seats.Seat.{Seat}
 use Rattle.oskernel.specs.declared.wants.SpinWish.{SpinWish}
 use Rattle.oskernel.specs.declared.wants.SpinWish.TheVariants as Wish
 use Rattle.oskernel.specs.declared.wants.Want.{Want}
-use Rattle.osturn.specs.Asking.{Calls, asked_by, joined, look_asked, named_by, no_calls, own_asked, spin_call_of, starting, told_by}
+use Rattle.osturn.specs.Asking.{Calls, asked_by, call_of_item, joined, look_asked, named_by, no_calls, own_asked, spin_call_of, starting, told_by}
 use Rattle.osturn.specs.Fits.{AreAnswered, FitsCore, Leads, history_by, stimuli_in}
 use Rattle.osturn.specs.Seats.{stimulus_count}
 use Rattle.osturn.proofs.Answered.{answered-push}
+use Rattle.osturn.proofs.Called.{called-for}
 use Rattle.osturn.proofs.Asked.{IsOwnAsk, asks-own}
 use Rattle.osturn.proofs.Leading.{closing-item, halted-item, is-item, passing-item, spun-item}
 use Rattle.osturn.proofs.Longer.{IsInTurn, core-on, history_from-push, length-stimuli_in}
 use Rattle.osturn.proofs.Seated.{Keeps, Took, seated-kept, seated-on}
 use Rattle.osturn.proofs.Streams.{received_letter, is_from, is_post_to, posted-after, received-is}
-use Rattle.osthreads.specs.Calling.{call_of_item}
 use Rattle.osthreads.specs.Working.{AreCalls, AreSpinCalls, HasDone, IsAsked, IsAtWork, IsFruitless, IsIdleLook, IsMailed, IsRefusedWish, MayWait}
 
 -- ---- stimuli
@@ -176,32 +176,6 @@ asked-wants : (v : View) (next : Option Stimulus) (want : Want) (watch : Watch) 
 asked-wants v next want watch Choice.Own = own-wants v next want
 asked-wants v next want watch (Choice.Serve from) = tt
 asked-wants v next want watch Choice.Look = look-wants want watch
-
--- The call that an answer tells of is that of the item to which it leads.
-module _ (id : CoreId) where
-  abbrev NoCall : Item → Type 0
-  NoCall i = call_of_item id i ≡ []
-
-  abbrev Called : SpinWish → SpinReply → Item → Type 0
-  Called wish reply i = (told_by id (OfSpins wish) (Spun reply)).spins ≡ call_of_item id i
-
-  called-for : (watch : Watch) (ask : Ask) (answer : Answer) (i : Item) → named_by id watch ask answer ≡ Some i → (told_by id ask answer).spins ≡ call_of_item id i
-  called-for watch (OfBoard Look) (Replied (Shown view)) i e = sym (passing-item NoCall refl (λ agreement. refl) (λ cores. refl) id view watch i e)
-  called-for watch (OfBoard LookDrained) (Replied (Drained drained)) i e = sym (closing-item NoCall refl watch drained i e)
-  called-for watch (OfBoard (Start k)) (Replied (Started status)) i e = sym (is-item NoCall (Item.Began k status) i refl e)
-  called-for watch (OfBoard (Enter mode)) (Replied Acknowledged) i e = sym (is-item NoCall Item.Entered i refl e)
-  called-for watch (OfBoard MakeReady) (Replied Acknowledged) i e = sym (is-item NoCall Item.Readied i refl e)
-  called-for watch (OfBoard Drain) (Replied Acknowledged) i e = sym (is-item NoCall Item.Drained i refl e)
-  called-for watch (OfBoard LookHalt) (Replied (Halting halt)) i e = sym (halted-item NoCall (λ asked. refl) (λ core status. refl) watch halt i e)
-  called-for watch (OfBoard (AskHalt status)) (Replied (Decided asked)) i e = sym (is-item NoCall (Item.Halt asked.0 asked.1) i refl e)
-  called-for watch (OfSpins (Wish.Get l)) (Spun (Answered true)) i e = is-item (Called (Wish.Get l) (Answered true)) (Item.Granted l) i refl e
-  called-for watch (OfSpins (Wish.Try l)) (Spun (Answered taken)) i e = is-item (Called (Wish.Try l) (Answered taken)) (Item.Tried l taken) i refl e
-  called-for watch (OfSpins (Wish.Free l)) (Spun (Answered true)) i e = is-item (Called (Wish.Free l) (Answered true)) (Item.Freed l) i refl e
-  called-for watch (Room to) (HasRoom true) i e = sym (is-item NoCall (Item.Posted to) i refl e)
-  called-for watch (Oldest from) (Found (Some x)) i e = sym (is-item NoCall (Item.Received from x.number x.message) i refl e)
-  called-for watch (StartUnknown k) Unasked i e = sym (is-item NoCall (Item.Began k EOsId) i refl e)
-  called-for watch (TakeStimulus stimulus) Unasked i e = sym (is-item NoCall (Item.Stim stimulus) i refl e)
-  called-for watch ask answer i e = cc
 
 module _ (v : View) where
   wishes-more : (h : History) (xs : List SpinEntry) (e : SpinEntry) → AllByRecursion (IsRefusedWish v h) xs → IsRefusedWish v h e → AllByRecursion (IsRefusedWish v h) (xs ++ e ∷ [])

@@ -11,6 +11,7 @@ pub mod run;
 pub mod runs;
 pub mod seats;
 pub mod shifts;
+mod stamps;
 pub mod threads;
 mod turns;
 pub mod wakers;

@@ -4,11 +4,11 @@ use crate::wakers::Wakers;
 use osbase::{CoreId, CoreStimuli};
 use osboard::Board;
 use osplan::Config;
-use osspin::SpinBank;
+use osspin::{Clocks, SpinBank};
 use std::sync::atomic::AtomicBool;
 
 /// What the workers of a run share: the configuration, the listed stimuli, the configured cores, ascending, the board,
-/// the spinlocks, what wakes them, whether they were told to stop, and how many turns in a row may change nothing.
+/// the spinlocks, the logical clocks of both, what wakes them, whether they were told to stop, and how many turns in a row may change nothing.
 #[derive(Clone, Copy)]
 pub struct Run<'a> {
     pub config: &'a Config,
@@ -16,6 +16,7 @@ pub struct Run<'a> {
     pub cores: &'a [CoreId],
     pub board: &'a Board,
     pub bank: &'a SpinBank,
+    pub clocks: &'a Clocks,
     pub wakers: &'a Wakers,
     pub told: &'a AtomicBool,
     pub turns: u64,

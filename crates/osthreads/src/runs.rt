@@ -26,7 +26,7 @@ use osbase::{CoreId, List, MAILBOX, MailKind, Report, Stimuli};
 use osboard::{Board, BoardSeat};
 use osmail::{LockedMail, RingEnd, RingMail};
 use osplan::Config;
-use osspin::{SpinBank, SpinSeat};
+use osspin::{Clocks, SpinBank, SpinSeat};
 use osturn::ids_of;
 use std::alloc::{AllocError, Global};
 use std::collections::VecDeque;
@@ -68,6 +68,7 @@ struct Prepared {
     cores: Vec<CoreId>,
     board: Board,
     bank: SpinBank,
+    clocks: Clocks,
     mail: RunMail,
     outfits: Vec<Outfit>,
     endings: Vec<Ending>,
@@ -185,6 +186,7 @@ fn prepare(alloc: Global, config: &Config, kind: MailKind) -> Result<Prepared, A
     let (board, at_board) = Board::new(alloc, List::from_vec(ids_of(alloc, plan)?), plan.master)?;
     let (bank, at_spins) = SpinBank::new(alloc, List::from_vec(ids_of(alloc, plan)?))?;
     let seats = pair(alloc, at_board, at_spins)?;
+    let clocks = Clocks::new(alloc)?;
     let (mail, ends) = mail_of(alloc, kind, cores.as_slice(), usize::from(plan.cap))?;
     let outfits = equip(alloc, seats, ends)?;
     let endings = Vec::with_capacity(alloc, outfits.len())?;
@@ -193,6 +195,7 @@ fn prepare(alloc: Global, config: &Config, kind: MailKind) -> Result<Prepared, A
         cores,
         board,
         bank,
+        clocks,
         mail,
         outfits,
         endings,
@@ -232,6 +235,7 @@ pub fn run_threads<R: Threads + Wait + Sync, G: Gate + Sync>(
         cores,
         board,
         bank,
+        clocks,
         mut mail,
         outfits,
         endings,
@@ -243,6 +247,7 @@ pub fn run_threads<R: Threads + Wait + Sync, G: Gate + Sync>(
         cores: cores.as_slice(),
         board: &board,
         bank: &bank,
+        clocks: &clocks,
         wakers: &wakers,
         told: &told,
         turns,

@@ -15,6 +15,7 @@ ghost use Rattle.osthreads.specs.Working.{HasNoWork, IsWorked, Turns, UnlessTook
 use crate::gates::Gate;
 use crate::run::Run;
 use crate::seats::Seats;
+use crate::stamps::Stamps;
 use crate::turns::{Stop, Turned};
 use crate::worker::{Shift, Worked, Worker};
 use osbase::CoreId;
@@ -42,6 +43,7 @@ impl<'a, M: Mail> Shift<'a, M> {
     fn turn(&mut self) -> Turned
         requires items { vec_len self.old.worker.core.items < vec_capacity self.old.worker.core.items }
         requires marks { vec_len self.old.worker.core.marks + STEP_MARKS ≤ vec_capacity self.old.worker.core.marks }
+        requires clocks { vec_len self.old.worker.stamps.clocks < vec_capacity self.old.worker.stamps.clocks }
         requires mail { M.has_room self.old.worker.mail }
         ensures turns { Turns M.sent M.taken (loads_at (length self.old.worker.run.now.cores.now) self.old.at) result self.old.worker self.new.worker }
         ensures core { UnlessTook result (self.new.worker.core ≡ self.old.worker.core) }
@@ -136,7 +138,7 @@ impl<'a, M: Mail> Shift<'a, M> {
 
     // What is handed back.
     fn hand_back(self, stop: Stop) -> Worked<M>
-        ensures report { result.report ≡ report_of self.entry.worker.core }
+        ensures report { result.report ≡ record (report_of self.entry.worker.core) { clocks = self.entry.worker.stamps.clocks.items } }
         ensures seats { result.seats ≡ self.entry.worker.seats }
         ensures mail { result.mail ≡ self.entry.worker.mail }
         ensures stop { result.stop ≡ stop }
@@ -147,9 +149,12 @@ impl<'a, M: Mail> Shift<'a, M> {
             mut core,
             seats,
             mail,
+            stamps,
         } = worker;
+        let mut report = core.report();
+        report.clocks = stamps.into_clocks();
         Worked {
-            report: core.report(),
+            report,
             seats,
             mail,
             stop,
@@ -186,6 +191,7 @@ pub fn core_worker<'a, R: Wait, M: Mail, G: Gate>(
             core,
             seats,
             mail,
+            stamps: Stamps::new(alloc, run.clocks),
         },
         at: 0,
         fruitless: 0,

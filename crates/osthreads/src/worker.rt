@@ -5,17 +5,20 @@ ghost use Rattle.osbase.specs.declared.limits.TheConstants.{CORES};
 
 use crate::run::Run;
 use crate::seats::Seats;
+use crate::stamps::Stamps;
 use crate::turns::Stop;
 use osbase::Report;
 use osturn::Seat;
 
-/// A core at work: what it took and printed, its seats at what the cores share, and its end of the mail.
+/// A core at work: what it took and printed, its seats at what the cores share, its end of the mail, and the clocks of its
+/// items.
 #[derive(Drop)]
 pub struct Worker<'a, M> {
     pub run: &'a Run<'a>,
     pub core: Seat<'a>,
     pub seats: Seats,
     pub mail: M,
+    pub stamps: Stamps<'a>,
     ghost same: { seats.board.core ≡ core.id },
     ghost placed: { seats.board.place ≡ run.now.board.now },
     ghost low: { seats.board.core.number < CORES },

@@ -1,4 +1,5 @@
-//! A worker's turns. Each makes at most one call of the board, of one spinlock or of one mailbox, and none allocates.
+//! A worker's turns. Each makes at most one call of the board, of one spinlock or of one mailbox, and none allocates. What others
+//! can find changed by the call has its clock raised before; what the item stands on has its clock heard after.
 
 ghost use Rattle.std.specs.Prelude.{false, ◌≡◌, ◌+◌, ◌<◌, ◌≤◌, ◌⊎◌, vec_len, vec_capacity, OnOk};
 ghost use Rattle.oskernel.specs.declared.kernel.TheConstants.{STEP_MARKS};
@@ -23,14 +24,16 @@ use osbase::{Choice, CoreId, Item, Status};
 use osboard::BoardCall;
 use oskernel::STEP_MARKS;
 use osmail::Mail;
+use osspin::Clocked;
 use osturn::{Answer, Ask, SpinWish, look_asked, spin_call_of};
 use std::alloc::AllocError;
 
 impl<'a, M: Mail> Worker<'a, M> {
-    /// Makes room for what a turn may add: an item, its lines, and the record of an envelope.
+    /// Makes room for what a turn may add: an item, its lines, its clock, and the record of an envelope.
     pub fn make_room(&mut self) -> Result<(), AllocError>
         ensures items { OnOk result (vec_len self.new.core.items < vec_capacity self.new.core.items) }
         ensures marks { OnOk result (vec_len self.new.core.marks + STEP_MARKS ≤ vec_capacity self.new.core.marks) }
+        ensures clocks { OnOk result (vec_len self.new.stamps.clocks < vec_capacity self.new.stamps.clocks) }
         ensures mail { OnOk result (M.has_room self.new.mail) }
         ensures turns { Turns M.sent M.taken 0 Turned.Nothing self.old self.new }
         ensures kernel { self.new.core.kernel ≡ self.old.core.kernel }
@@ -40,6 +43,7 @@ impl<'a, M: Mail> Worker<'a, M> {
         ensures which { M.which self.new.mail ≡ M.which self.old.mail }
     {
         self.core.make_room()?;
+        self.stamps.make_room()?;
         self.mail.room()
     }
 
@@ -47,6 +51,7 @@ impl<'a, M: Mail> Worker<'a, M> {
     pub fn serve(&mut self, from: CoreId) -> Turned
         requires items { vec_len self.old.core.items < vec_capacity self.old.core.items }
         requires marks { vec_len self.old.core.marks + STEP_MARKS ≤ vec_capacity self.old.core.marks }
+        requires clocks { vec_len self.old.stamps.clocks < vec_capacity self.old.stamps.clocks }
         requires mail { M.has_room self.old.mail }
         ensures turns { Turns M.sent M.taken 0 result self.old self.new }
         ensures core { UnlessTook result (self.new.core ≡ self.old.core) }
@@ -68,6 +73,8 @@ impl<'a, M: Mail> Worker<'a, M> {
         if !self.core.kernel.may_take(&item) {
             return Turned::Refused(from, envelope.letter);
         }
+        self.stamps.hear(envelope.clock);
+        self.stamps.stamp();
         self.core.take(item);
         Turned::Took
     }
@@ -76,6 +83,7 @@ impl<'a, M: Mail> Worker<'a, M> {
     pub fn own(&mut self) -> Turned
         requires items { vec_len self.old.core.items < vec_capacity self.old.core.items }
         requires marks { vec_len self.old.core.marks + STEP_MARKS ≤ vec_capacity self.old.core.marks }
+        requires clocks { vec_len self.old.stamps.clocks < vec_capacity self.old.stamps.clocks }
         requires mail { M.has_room self.old.mail }
         ensures turns { Turns M.sent M.taken 0 result self.old self.new }
         ensures core { UnlessTook result (self.new.core ≡ self.old.core) }
@@ -101,6 +109,7 @@ impl<'a, M: Mail> Worker<'a, M> {
     pub fn look(&mut self) -> Turned
         requires items { vec_len self.old.core.items < vec_capacity self.old.core.items }
         requires marks { vec_len self.old.core.marks + STEP_MARKS ≤ vec_capacity self.old.core.marks }
+        requires clocks { vec_len self.old.stamps.clocks < vec_capacity self.old.stamps.clocks }
         ensures turns { Turns M.sent M.taken 1 result self.old self.new }
         ensures core { UnlessTook result (self.new.core ≡ self.old.core) }
         ensures run { self.new.run ≡ self.old.run }
@@ -117,6 +126,7 @@ impl<'a, M: Mail> Worker<'a, M> {
     fn load_board(&mut self, call: BoardCall) -> Turned
         requires items { vec_len self.old.core.items < vec_capacity self.old.core.items }
         requires marks { vec_len self.old.core.marks + STEP_MARKS ≤ vec_capacity self.old.core.marks }
+        requires clocks { vec_len self.old.stamps.clocks < vec_capacity self.old.stamps.clocks }
         requires loads { LoadsBoard call }
         requires place { HasPlace call }
         requires asked { IsAsked self.old.run.now.config.now self.old.core (OfBoard call) }
@@ -133,6 +143,8 @@ impl<'a, M: Mail> Worker<'a, M> {
         if !self.core.kernel.may_take(&item) {
             return Turned::Nothing;
         }
+        self.stamps.read(Clocked::Board);
+        self.stamps.stamp();
         self.core.take(item);
         Turned::Took
     }
@@ -141,6 +153,7 @@ impl<'a, M: Mail> Worker<'a, M> {
     fn write_board(&mut self, call: BoardCall) -> Turned
         requires items { vec_len self.old.core.items < vec_capacity self.old.core.items }
         requires marks { vec_len self.old.core.marks + STEP_MARKS ≤ vec_capacity self.old.core.marks }
+        requires clocks { vec_len self.old.stamps.clocks < vec_capacity self.old.stamps.clocks }
         requires changes { ChangesBoard call }
         requires place { HasPlace call }
         requires asked { IsAsked self.old.run.now.config.now self.old.core (OfBoard call) }
@@ -154,10 +167,13 @@ impl<'a, M: Mail> Worker<'a, M> {
         if !self.core.kernel.may_take(&item_of_call(self.core.id, call)) {
             return Turned::Nothing;
         }
+        self.stamps.raise(Clocked::Board);
         let answer = Answer::Replied(self.run.board.call(&mut self.seats.board, call));
         let Some(item) = self.core.named(Ask::OfBoard(call), &answer) else {
             unreachable!()
         };
+        self.stamps.after_board(call);
+        self.stamps.stamp();
         self.core.take(item);
         Turned::Took
     }
@@ -166,6 +182,7 @@ impl<'a, M: Mail> Worker<'a, M> {
     fn call_spinlock(&mut self, wish: SpinWish) -> Turned
         requires items { vec_len self.old.core.items < vec_capacity self.old.core.items }
         requires marks { vec_len self.old.core.marks + STEP_MARKS ≤ vec_capacity self.old.core.marks }
+        requires clocks { vec_len self.old.stamps.clocks < vec_capacity self.old.stamps.clocks }
         requires lock { (spin_call_of wish).lock.index < SPINLOCKS }
         requires asked { IsAsked self.old.run.now.config.now self.old.core (OfSpins wish) }
         ensures turns { Turns M.sent M.taken 0 result self.old self.new }
@@ -180,6 +197,7 @@ impl<'a, M: Mail> Worker<'a, M> {
         if !self.core.kernel.may_take(&item_of_wish(wish)) {
             return Turned::Nothing;
         }
+        self.stamps.before_spinlock(wish);
         let answer = Answer::Spun(
             self.run
                 .bank
@@ -188,6 +206,8 @@ impl<'a, M: Mail> Worker<'a, M> {
         let Some(item) = self.core.named(Ask::OfSpins(wish), &answer) else {
             return Turned::Nothing;
         };
+        self.stamps.after_spinlock(wish, &item);
+        self.stamps.stamp();
         self.core.take(item);
         Turned::Took
     }
@@ -196,6 +216,7 @@ impl<'a, M: Mail> Worker<'a, M> {
     fn post(&mut self, to: CoreId) -> Turned
         requires items { vec_len self.old.core.items < vec_capacity self.old.core.items }
         requires marks { vec_len self.old.core.marks + STEP_MARKS ≤ vec_capacity self.old.core.marks }
+        requires clocks { vec_len self.old.stamps.clocks < vec_capacity self.old.stamps.clocks }
         requires mail { M.has_room self.old.mail }
         requires asked { IsAsked self.old.run.now.config.now self.old.core (Room to) }
         ensures turns { Turns M.sent M.taken 0 result self.old self.new }
@@ -208,11 +229,13 @@ impl<'a, M: Mail> Worker<'a, M> {
         if !self.core.kernel.may_take(&posted) {
             return Turned::Nothing;
         }
-        let Some((_, envelope)) = self.core.kernel.front() else {
+        let Some((_, mut envelope)) = self.core.kernel.front() else {
             return Turned::Nothing;
         };
+        envelope.clock = self.stamps.next();
         match self.mail.send(to, envelope) {
             Ok(()) => {
+                self.stamps.stamp();
                 self.core.take(posted);
                 Turned::Took
             }
@@ -224,6 +247,7 @@ impl<'a, M: Mail> Worker<'a, M> {
     fn go_on(&mut self, ask: Ask) -> Turned
         requires items { vec_len self.old.core.items < vec_capacity self.old.core.items }
         requires marks { vec_len self.old.core.marks + STEP_MARKS ≤ vec_capacity self.old.core.marks }
+        requires clocks { vec_len self.old.stamps.clocks < vec_capacity self.old.stamps.clocks }
         requires asked { IsAsked self.old.run.now.config.now self.old.core ask }
         ensures turns { Turns M.sent M.taken 0 result self.old self.new }
         ensures core { UnlessTook result (self.new.core ≡ self.old.core) }
@@ -238,6 +262,7 @@ impl<'a, M: Mail> Worker<'a, M> {
         if !self.core.kernel.may_take(&item) {
             return Turned::Nothing;
         }
+        self.stamps.stamp();
         self.core.take(item);
         Turned::Took
     }

@@ -34,6 +34,17 @@ new-requires-2 c = subst AllApart (sym (c.from_vec-2.ensures ∙ c.in_ok-ids_of-
 pub returns-clause-cores : goal.returns-clause-cores
 returns-clause-cores c = c.in_ok-cores.ensures ∙ ap ids_of c.plan-plan.ensures.value
 
+pub returns-clause-board : goal.returns-clause-board
+returns-clause-board c =
+    let ids = c.in_ok-board.ensures.cores ∙ c.from_vec.ensures ∙ c.in_ok-ids_of.ensures ∙ ap ids_of c.plan-plan.ensures.value in
+    let master = c.in_ok-board.ensures.master ∙ ap (λ (p : Plan). p.master) c.plan-plan.ensures.value in
+    (λ i. record { cores = ids i; about = master i })
+
+pub returns-clause-bank : goal.returns-clause-bank
+returns-clause-bank c =
+    let ids = c.in_ok-bank.ensures.cores ∙ c.from_vec-2.ensures ∙ c.in_ok-ids_of-2.ensures ∙ ap ids_of c.plan-plan.ensures.value in
+    (λ i. record { cores = ids i; about = tt })
+
 pub mail_of-requires-clause-cores : goal.mail_of-requires-clause-cores
 mail_of-requires-clause-cores c =
     subst AreCores (sym (c.as_slice.ensures.value ∙ c.in_ok-cores.ensures)) (chosen_cores (λ id. is_some (core_of c.plan-plan.result.now id)))

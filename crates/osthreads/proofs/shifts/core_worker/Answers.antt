@@ -41,7 +41,7 @@ loop-init g c = (
 
 pub returns-in-Some-go_on-clause-worked : goal.returns-in-Some-go_on-clause-worked
 returns-in-Some-go_on-clause-worked g c =
-    handed-back (g.M.Mail.sent) (g.M.Mail.taken) c.args.run.now c.in-Some-go_on.stop c.go_on.new.self c.hand_back.result
+    handed-back (g.M.Mail.sent) (g.M.Mail.taken) c.args.run.now c.in-Some-go_on.stop c.go_on.new.self c.hand_back.result c.go_on.new.self.worker.stamps.clocks.items
     (ap (λ (r : Bor Run). r.now) c.go_on.ensures.run ∙ c.loop.invariant.0) c.requires.cores
     (c.in-Some-go_on.ensures.some c.args.run.now.stimuli.now c.loop.invariant.2)
     (someone c.args.run.now.config.now c.plan-plan.ensures.limits c.args.seats.board.core c.requires.configured)
