@@ -1,7 +1,7 @@
 -- What the words of a command line give, where no word has a fault.
-use Rattle.std.proofs.Common.{◌≡◌, ◌∙◌, ◌&&◌, ℕ, zero, suc, Bool, cond, not, true, false, true≢false, refl, ap, sym, subst, codes, List, [], ◌∷◌, ◌++◌, drop, length, Option, Some, None, is_some}
+use Rattle.std.proofs.Common.{◌≡◌, ◌∙◌, ◌&&◌, ◌==◌, ℕ, zero, suc, Bool, cond, not, true, false, true≢false, refl, sym, arith, codes, List, [], ◌∷◌, ◌++◌, drop, length, Option, Some, None, is_some}
+use Rattle.std.proofs.lemmas.Bool.{ne_eqb}
 use Rattle.std.specs.Prelude.{⊤, IfSome, IsSomeAnd, encode_utf8, find, fold, option_and_then, option_map, slice_get}
-use Rattle.std.specs.List.{list_all}
 use Rattle.std.specs.Option.{option_map_or}
 use Rattle.std.specs.Str.{bytes_eq, chars}
 use Rattle.clap.specs.Facts.{explicit_source, parser_of_value}
@@ -10,14 +10,13 @@ use Rattle.clap.specs.Kinds.{Kinds, check_kinds, or_else, value_kinds}
 use Rattle.clap.specs.Lexer.{long_of, short_of}
 use Rattle.clap.specs.Simple.{App, Shape, entered, label_of, names_of, rows_at}
 use Rattle.clap.specs.Takes.{is_given, value_passes}
-use Rattle.clap.specs.Walk.{Held, Names, Outcome, Row, Rule, Step, Text, Waiting, Walk, after_flag, after_step, answers_to, arg_by_id, arg_by_index, arg_by_long, arg_by_short, attached_value, bundle, bundle_met, bundle_step, default_rows, done, finished, first_of, flag_met, has_long, has_row, has_short, idle, is_empty, is_pending, long_met, long_or_other, more_values, next, nothing_held, option, option_met, option_word, plain, plain_word, positional, positional_held, reacted, reading_by, refused, rows_after, settled, settled_rows, short_met, short_or_plain, stop_after, subcommand, subcommand_met, subcommand_or_other, takes_several, takes_values, to_positional, trailing, used, used_by_id, value, waits, walk, walk_from, walked, walked_from, with_default, with_values, without, word_met}
-use Rattle.clap.specs.declared.builder.action.ArgAction.TheVariants.{Help, Set}
+use Rattle.clap.specs.Walk.{Held, Names, Outcome, Row, Rule, Step, Text, Waiting, Walk, after_flag, after_step, answers_to, arg_by_id, arg_by_index, arg_by_long, arg_by_short, attached_value, bundle, bundle_met, bundle_step, done, finished, first_of, flag_met, has_long, has_row, has_short, idle, is_pending, long_met, long_or_other, more_values, next, nothing_held, option, option_met, option_word, plain, plain_word, positional, positional_held, reacted, reading_by, refused, rows_after, settled, settled_rows, short_met, short_or_plain, stop_after, subcommand, subcommand_met, subcommand_or_other, takes_several, takes_values, to_positional, trailing, used, used_by_id, value, waits, walk, walk_from, walked, walked_from, with_default, with_values, without, word_met}
+use Rattle.clap.specs.declared.builder.action.ArgAction.TheVariants.{Help, Set, SetTrue}
 use Rattle.clap.specs.declared.builder.value_parser.Reading.{Reading}
 use Rattle.clap.specs.declared.error.kind.ErrorKind.{ErrorKind}
 use Rattle.clap.specs.declared.error.kind.ErrorKind.TheVariants.{DisplayHelp, InvalidSubcommand, TooManyValues}
-use Rattle.clap.specs.declared.parser.matches.ValueSource.TheVariants.{CommandLine}
-use Rattle.clap.proofs.SimpleLemmas.{is_nil}
-use Rattle.clap.proofs.WalkLemmas.{both}
+use Rattle.clap.specs.declared.parser.matches.ValueSource.{ValueSource}
+use Rattle.clap.specs.declared.parser.matches.ValueSource.TheVariants.{CommandLine, DefaultValue}
 
 some_kind : (k : ErrorKind) (ks : Kinds) → k ∷ ks ≡ [] → ⊥
 some_kind k ks e = cc
@@ -53,13 +52,13 @@ module _ (id : Text) (Q : Text → Type 0) where
       go true rest = h.1
       go false rest = (h.0, rest)
 
-  values_fit : (other : Text) (how : Reading) (values : List Text) (rows : List Row) → (bytes_eq other id ≡ true → FirstFits values) → RowsFit rows
-      → RowsFit (with_values other how CommandLine values rows)
-  values_fit other how values [] new h = (new, tt)
-  values_fit other how values (r ∷ rs) new h = go (bytes_eq r.id other) (values_fit other how values rs new h.1)
+  values_fit : (other : Text) (how : Reading) (source : ValueSource) (values : List Text) (rows : List Row) → (bytes_eq other id ≡ true → FirstFits values) → RowsFit rows
+      → RowsFit (with_values other how source values rows)
+  values_fit other how source values [] new h = (new, tt)
+  values_fit other how source values (r ∷ rs) new h = go (bytes_eq r.id other) (values_fit other how source values rs new h.1)
     where
-      go : (b : Bool) → RowsFit (with_values other how CommandLine values rs)
-          → RowsFit (cond b (more_values CommandLine values r ++ rs) (r ∷ with_values other how CommandLine values rs))
+      go : (b : Bool) → RowsFit (with_values other how source values rs)
+          → RowsFit (cond b (more_values source values r ++ rs) (r ∷ with_values other how source values rs))
       go true rest = ((λ is. first_stays r.values values (h.0 is)), h.1)
       go false rest = (h.0, rest)
 
@@ -95,30 +94,83 @@ module _ (id : Text) (Q : Text → Type 0) where
 
   module _ (again : Bool) where
     -- a use with no fault keeps them
+    abbrev UseKeeps : Rule → Type 0
+    UseKeeps a = (values : List Text) (rows : List Row) → use_fault again a values rows ≡ [] → RowsFit rows → RowsFit (used a values rows)
+
+    -- and so do the values that it has where it is not used
+    abbrev DefaultKeeps : Rule → Type 0
+    DefaultKeeps a = (rows : List Row) → RowsFit rows → RowsFit (with_default rows a)
+
     abbrev pub Keeps : Rule → Type 0
-    Keeps a = (values : List Text) (rows : List Row) → use_fault again a values rows ≡ [] → RowsFit rows → RowsFit (used a values rows)
+    Keeps a = UseKeeps a × DefaultKeeps a
+
+    no_default : (a : Rule) → DefaultKeeps (record a { defaults = [] })
+    no_default a rows h = go (has_row a.id rows)
+      where
+        go : (b : Bool) → RowsFit (cond b rows rows)
+        go true = h
+        go false = h
 
     passes : (b : Bool) (k : ErrorKind) → cond b [] (k ∷ []) ≡ [] → b ≡ true
     passes true k e = refl
     passes false k e = cc
 
-    -- an option or a positional with one value
-    pub one_keeps : (a : Rule) → (bytes_eq a.id id ≡ true → (v : Text) → value_passes a v ≡ true → Q v)
-        → Keeps (record a { action = Some Set; range = Some (record { start_inclusive = 1; end_inclusive = 1 }) })
-    one_keeps a fits [] rows e h = absurd (some_kind _ _ e)
-    one_keeps a fits (v ∷ vs) rows e h =
+    one_use : (a : Rule) → (bytes_eq a.id id ≡ true → (v : Text) → value_passes a v ≡ true → Q v)
+        → UseKeeps (record a { action = Some Set; range = Some (record { start_inclusive = 1; end_inclusive = 1 }) })
+    one_use a fits [] rows e h = absurd (some_kind _ _ e)
+    one_use a fits (v ∷ vs) rows e h =
         let acted = (none_of_both _ _ e).1 in
         let values = (none_of_both _ _ acted).1 in
         let first = (none_of_both (value_kinds a.ignore_case (parser_of_value a.parser) v) _ values).0 in
-        values_fit a.id (reading_by a) (v ∷ vs) (without a.id rows) (λ is. fits is v (passes _ _ first)) (without_fit a.id rows h)
+        values_fit a.id (reading_by a) CommandLine (v ∷ vs) (without a.id rows) (λ is. fits is v (passes _ _ first)) (without_fit a.id rows h)
+
+    -- an option or a positional with one value
+    pub one_keeps : (a : Rule) → (bytes_eq a.id id ≡ true → (v : Text) → value_passes a v ≡ true → Q v)
+        → Keeps (record a { action = Some Set; range = Some (record { start_inclusive = 1; end_inclusive = 1 }); defaults = [] })
+    one_keeps a fits = (one_use (record a { defaults = [] }) fits, no_default (record a { action = Some Set; range = Some (record { start_inclusive = 1; end_inclusive = 1 }) }))
+
+    abbrev flag : Rule → Rule
+    flag a = record a {
+      action = Some SetTrue;
+      range = Some (record { start_inclusive = 0; end_inclusive = 0 });
+      defaults = codes "false" ∷ [];
+      missing = codes "true" ∷ [];
+    }
+
+    no_values : (n : ℕ) → (0 == suc n) ≡ false
+    no_values n = ne_eqb 0 (suc n) (λ e. omega arith)
+
+    one_too_many : (same : Bool) (k : ErrorKind) → same ≡ false → cond same [] (k ∷ []) ≡ [] → ⊥
+    one_too_many false k differ e = some_kind _ _ e
+    one_too_many true k differ e = true≢false differ
+
+    flag_use : (a : Rule) → (bytes_eq a.id id ≡ true → Q (codes "true")) → UseKeeps (flag a)
+    flag_use a fits [] rows e h = values_fit a.id (reading_by a) CommandLine (codes "true" ∷ []) (without a.id rows) fits (without_fit a.id rows h)
+    flag_use a fits (v ∷ vs) rows e h = absurd (one_too_many _ _ (no_values (length vs)) (none_of_both _ _ e).0)
+
+    flag_default : (a : Rule) → (bytes_eq a.id id ≡ true → Q (codes "false")) → DefaultKeeps (flag a)
+    flag_default a fits rows h = go (has_row a.id rows)
+      where
+        go : (b : Bool) → RowsFit (cond b rows (with_values a.id (reading_by a) DefaultValue (codes "false" ∷ []) rows))
+        go true = h
+        go false = values_fit a.id (reading_by a) DefaultValue (codes "false" ∷ []) rows fits h
+
+    -- a flag, whose text is `true` or `false`
+    pub flag_keeps : (a : Rule) → (bytes_eq a.id id ≡ true → Q (codes "true") × Q (codes "false")) → Keeps (flag a)
+    flag_keeps a fits = (flag_use a (λ is. (fits is).0), flag_default a (λ is. (fits is).1))
 
     -- a flag that asks for help
-    pub help_keeps : (a : Rule) → Keeps (record a { action = Some Help })
-    help_keeps a values rows e h = h
+    pub help_keeps : (a : Rule) → Keeps (record a { action = Some Help; defaults = [] })
+    help_keeps a = ((λ values rows e h. h), no_default (record a { action = Some Help }))
 
     abbrev pub AllKeep : List Rule → Type 0
     AllKeep [] = ⊤
     AllKeep (a ∷ rest) = Keeps a × AllKeep rest
+
+    -- each argument that was not used gets its default values
+    pub defaults_keep : (c : List Rule) → AllKeep c → (rows : List Row) → RowsFit rows → RowsFit (fold with_default rows c)
+    defaults_keep [] all rows h = h
+    defaults_keep (a ∷ rest) all rows h = defaults_keep rest all.1 (with_default rows a) (all.0.1 rows h)
 
     abbrev MayKeep : Option Rule → Type 0
     MayKeep None = ⊤
@@ -144,7 +196,7 @@ module _ (id : Text) (Q : Text → Type 0) (s : Shape) (all : AllKeep id Q s.arg
   by_id_fit : (o : Option Rule) (values : List Text) (rows : List Row) → MayKeep id Q s.args_override_self o
       → option_map_or (λ a. use_fault s.args_override_self a values rows) o [] ≡ [] → RowsFit id Q rows → RowsFit id Q (used_by_id o values rows)
   by_id_fit None values rows keeps e h = h
-  by_id_fit (Some a) values rows keeps e h = keeps values rows e h
+  by_id_fit (Some a) values rows keeps e h = keeps.0 values rows e h
 
   pending_fit : (p : Option (Text × List Text)) (rows : List Row)
       → option_map_or (λ (p : Text × List Text). option_map_or (λ a. use_fault s.args_override_self a p.1 rows) (arg_by_id s.rules p.0) []) p [] ≡ []
@@ -159,7 +211,7 @@ module _ (id : Text) (Q : Text → Type 0) (s : Shape) (all : AllKeep id Q s.arg
       → Fit (reacted s.rules a values h)
   reacted_fit a keeps values h e fit =
       let parts = none_of_both (settle_fault s.rules s.args_override_self h) _ e in
-      keeps values (settled s.rules h).rows parts.1 (settled_fit h parts.0 fit)
+      keeps.0 values (settled s.rules h).rows parts.1 (settled_fit h parts.0 fit)
 
   option_fit : (a : Rule) → Keeps id Q s.args_override_self a → (v : Option Text) (h : Held) → option_fault s.rules s.args_override_self a v h ≡ [] → Fit h
       → Fit (option_met s.rules a v h).0
@@ -404,41 +456,25 @@ level_parts s names words has_subcommand below e =
     let defaults = none_of_both (defaults_fault (settled s.rules end).rows s.rules) _ settles.1 in
     (walks.0, rest.0, settles.0, defaults.1)
 
-no_default : (a : Rule) (rows : List Row) → is_empty a.defaults ≡ true → with_default rows a ≡ rows
-no_default a rows e = go (has_row a.id rows)
-  where
-    go : (b : Bool) → cond b rows (default_rows a.id (reading_by a) a.defaults rows) ≡ rows
-    go true = refl
-    go false = ap (λ vs. default_rows a.id (reading_by a) vs rows) (is_nil a.defaults e)
-
-abbrev pub have_no_defaults : List Rule → Bool
-have_no_defaults = list_all (λ a. is_empty a.defaults)
-
-no_defaults : (c : List Rule) (rows : List Row) → have_no_defaults c ≡ true → fold with_default rows c ≡ rows
-no_defaults [] rows e = refl
-no_defaults (a ∷ rest) rows e =
-    let parts = both _ _ e in
-    ap (λ r. fold with_default r rest) (no_default a rows parts.0) ∙ no_defaults rest rows parts.1
-
 -- an id that may be left out has its first value where it is given
-pub leaf_any : (id : Text) (Q : Text → Type 0) (s : Shape) → AllKeep id Q s.args_override_self s.rules → have_no_defaults s.rules ≡ true
+pub leaf_any : (id : Text) (Q : Text → Type 0) (s : Shape) → AllKeep id Q s.args_override_self s.rules
     → (words : List Text) → level_fault s [] nothing_held words false [] ≡ [] → IfSome (first_of id (rows_after s.rules [] words)) Q
-leaf_any id Q s all undefaulted words e =
+leaf_any id Q s all words e =
     let parts = level_parts s [] words false [] e in
     let end = (walk s.rules [] nothing_held words).held in
     let fit : RowsFit id Q (settled s.rules end).rows = settled_fit id Q s all end parts.2 (walk_fit id Q s all [] words (walk_from nothing_held) parts.0 tt) in
-    let rows : RowsFit id Q (finished s.rules end) = subst (RowsFit id Q) (sym (no_defaults s.rules (settled s.rules end).rows undefaulted)) fit in
+    let rows : RowsFit id Q (finished s.rules end) = defaults_keep id Q s.args_override_self s.rules all (settled s.rules end).rows fit in
     any_first id Q (finished s.rules end) rows
 
 -- an id that the checks at the end want has its first value
-pub leaf_first : (id : Text) (Q : Text → Type 0) (s : Shape) → AllKeep id Q s.args_override_self s.rules → have_no_defaults s.rules ≡ true
+pub leaf_first : (id : Text) (Q : Text → Type 0) (s : Shape) → AllKeep id Q s.args_override_self s.rules
     → ((rows : List Row) → check_fault s rows false ≡ [] → is_given id rows ≡ true) → (words : List Text) → level_fault s [] nothing_held words false [] ≡ []
     → IsSomeAnd (first_of id (rows_after s.rules [] words)) Q
-leaf_first id Q s all undefaulted wants words e =
+leaf_first id Q s all wants words e =
     let parts = level_parts s [] words false [] e in
     let end = (walk s.rules [] nothing_held words).held in
     let fit : RowsFit id Q (settled s.rules end).rows = settled_fit id Q s all end parts.2 (walk_fit id Q s all [] words (walk_from nothing_held) parts.0 tt) in
-    let rows : RowsFit id Q (finished s.rules end) = subst (RowsFit id Q) (sym (no_defaults s.rules (settled s.rules end).rows undefaulted)) fit in
+    let rows : RowsFit id Q (finished s.rules end) = defaults_keep id Q s.args_override_self s.rules all (settled s.rules end).rows fit in
     given_first id Q (finished s.rules end) rows (wants (finished s.rules end) parts.3)
 
 -- ---- a command with subcommands

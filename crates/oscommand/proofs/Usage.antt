@@ -12,9 +12,9 @@ use Rattle.clap.specs.Words.{IsUnsignedIn, Row, Rule, Text, fault_of, first_of, 
 use Rattle.clap.specs.declared.error.kind.ErrorKind.{ErrorKind}
 use Rattle.clap.specs.declared.builder.ValueParser.TheVariants.{Unsigned}
 use Rattle.clap.proofs.ValueTestLemmas.{accepts-Accepts}
-use Rattle.oscommand.specs.CommandLine.{AreMailKinds, IsMailName, MailKinds, check_command, command_line, config_rule, core_rule, cut_command, items_rule, log_rule, mail_rule, replay_command, run_command, schedule_rule, stimuli_rule, threads_command, turns_rule}
+use Rattle.oscommand.specs.CommandLine.{AreMailKinds, IsMailName, MailKinds, check_command, command_line, config_rule, core_rule, cut_command, items_rule, log_rule, mail_rule, order_rule, replay_command, run_command, schedule_rule, stimuli_rule, threads_command, turns_rule}
 use Rattle.oscommand.specs.declared.jobs.TheConstants.{MOST_TURNS}
-use Rattle.oscommand.proofs.Parsed.{AllGive, AllKeep, help_keeps, leaf_any, leaf_first, one_keeps, subcommand_gives}
+use Rattle.oscommand.proofs.Parsed.{AllGive, AllKeep, flag_keeps, help_keeps, leaf_any, leaf_first, one_keeps, subcommand_gives}
 
 -- the arguments as they are built
 abbrev config : Rule
@@ -121,7 +121,10 @@ threads_keeps kinds id = (
       one_keeps id Anything false (filled turns_rule) (λ is v ok. tt),
       (
         one_keeps id Anything false (filled (mail_rule kinds)) (λ is v ok. tt),
-        (one_keeps id Anything false (filled items_rule) (λ is v ok. tt), (help_keeps id Anything false (filled help_rule), tt)),
+        (
+          one_keeps id Anything false (filled items_rule) (λ is v ok. tt),
+          (flag_keeps id Anything false (filled order_rule) (λ is. (tt, tt)), (help_keeps id Anything false (filled help_rule), tt)),
+        ),
       ),
     ),
   ),
@@ -138,7 +141,10 @@ turns_keeps kinds = (
         one_keeps (codes "turns") (IsUnsignedIn 1 MOST_TURNS) false (filled (mail_rule kinds)) (λ is v ok. absurd (true≢false (sym is))),
         (
           one_keeps (codes "turns") (IsUnsignedIn 1 MOST_TURNS) false (filled items_rule) (λ is v ok. absurd (true≢false (sym is))),
-          (help_keeps (codes "turns") (IsUnsignedIn 1 MOST_TURNS) false (filled help_rule), tt),
+          (
+            flag_keeps (codes "turns") (IsUnsignedIn 1 MOST_TURNS) false (filled order_rule) (λ is. absurd (true≢false (sym is))),
+            (help_keeps (codes "turns") (IsUnsignedIn 1 MOST_TURNS) false (filled help_rule), tt),
+          ),
         ),
       ),
     ),
@@ -156,7 +162,10 @@ threads_items_keeps kinds = (
         one_keeps (codes "items") (IsUnsignedIn 0 255) false (filled (mail_rule kinds)) (λ is v ok. absurd (true≢false (sym is))),
         (
           one_keeps (codes "items") (IsUnsignedIn 0 255) false (filled items_rule) (λ is v ok. accepts-Accepts false (Unsigned 0 255) v ok),
-          (help_keeps (codes "items") (IsUnsignedIn 0 255) false (filled help_rule), tt),
+          (
+            flag_keeps (codes "items") (IsUnsignedIn 0 255) false (filled order_rule) (λ is. absurd (true≢false (sym is))),
+            (help_keeps (codes "items") (IsUnsignedIn 0 255) false (filled help_rule), tt),
+          ),
         ),
       ),
     ),
@@ -194,7 +203,10 @@ mail_keeps kinds are = (
         one_keeps (codes "mail") IsMailName false (filled (mail_rule kinds)) (λ is v ok. names_kind kinds are v ok),
         (
           one_keeps (codes "mail") IsMailName false (filled items_rule) (λ is v ok. absurd (true≢false (sym is))),
-          (help_keeps (codes "mail") IsMailName false (filled help_rule), tt),
+          (
+            flag_keeps (codes "mail") IsMailName false (filled order_rule) (λ is. absurd (true≢false (sym is))),
+            (help_keeps (codes "mail") IsMailName false (filled help_rule), tt),
+          ),
         ),
       ),
     ),
@@ -293,36 +305,36 @@ jobs_give : (kinds : MailKinds) → AreMailKinds kinds → AllGive IsJob (built 
 jobs_give kinds are = (
   (λ name other is words e. inl (record {
     is = refl;
-    config = leaf_first (codes "CFG") Anything run_leaf (run_keeps _) refl (λ rows c. (run_wants rows c).0) words e;
-    stimuli = leaf_first (codes "STIM") Anything run_leaf (run_keeps _) refl (λ rows c. (run_wants rows c).1) words e;
-    items = leaf_any (codes "items") (IsUnsignedIn 0 255) run_leaf items_keeps refl words e;
+    config = leaf_first (codes "CFG") Anything run_leaf (run_keeps _) (λ rows c. (run_wants rows c).0) words e;
+    stimuli = leaf_first (codes "STIM") Anything run_leaf (run_keeps _) (λ rows c. (run_wants rows c).1) words e;
+    items = leaf_any (codes "items") (IsUnsignedIn 0 255) run_leaf items_keeps words e;
   })),
   (
     (λ name other is words e. inr (inl (record {
       is = refl;
-      config = leaf_first (codes "CFG") Anything check_leaf (check_keeps _) refl check_wants words e;
+      config = leaf_first (codes "CFG") Anything check_leaf (check_keeps _) check_wants words e;
     }))),
     (
       (λ name other is words e. inr (inr (inl (record {
         is = refl;
-        config = leaf_first (codes "CFG") Anything cut_leaf (cut_keeps _) refl (λ rows c. (cut_wants rows c).0) words e;
-        core = leaf_first (codes "CORE") (IsUnsignedIn 0 255) cut_leaf core_keeps refl (λ rows c. (cut_wants rows c).1) words e;
+        config = leaf_first (codes "CFG") Anything cut_leaf (cut_keeps _) (λ rows c. (cut_wants rows c).0) words e;
+        core = leaf_first (codes "CORE") (IsUnsignedIn 0 255) cut_leaf core_keeps (λ rows c. (cut_wants rows c).1) words e;
       })))),
       (
         (λ name other is words e. inr (inr (inr (inl (record {
           is = refl;
-          config = leaf_first (codes "CFG") Anything replay_leaf (replay_keeps _) refl (λ rows c. (replay_wants rows c).config) words e;
-          core = leaf_first (codes "CORE") (IsUnsignedIn 0 255) replay_leaf replay_core_keeps refl (λ rows c. (replay_wants rows c).core) words e;
-          log = leaf_first (codes "LOG") Anything replay_leaf (replay_keeps _) refl (λ rows c. (replay_wants rows c).log) words e;
+          config = leaf_first (codes "CFG") Anything replay_leaf (replay_keeps _) (λ rows c. (replay_wants rows c).config) words e;
+          core = leaf_first (codes "CORE") (IsUnsignedIn 0 255) replay_leaf replay_core_keeps (λ rows c. (replay_wants rows c).core) words e;
+          log = leaf_first (codes "LOG") Anything replay_leaf (replay_keeps _) (λ rows c. (replay_wants rows c).log) words e;
         }))))),
         (
           (λ name other is words e. inr (inr (inr (inr (record {
             is = refl;
-            config = leaf_first (codes "CFG") Anything (threads_leaf kinds) (threads_keeps kinds _) refl (λ rows c. (threads_wants kinds rows c).0) words e;
-            stimuli = leaf_first (codes "STIM") Anything (threads_leaf kinds) (threads_keeps kinds _) refl (λ rows c. (threads_wants kinds rows c).1) words e;
-            turns = leaf_any (codes "turns") (IsUnsignedIn 1 MOST_TURNS) (threads_leaf kinds) (turns_keeps kinds) refl words e;
-            mail = leaf_any (codes "mail") IsMailName (threads_leaf kinds) (mail_keeps kinds are) refl words e;
-            items = leaf_any (codes "items") (IsUnsignedIn 0 255) (threads_leaf kinds) (threads_items_keeps kinds) refl words e;
+            config = leaf_first (codes "CFG") Anything (threads_leaf kinds) (threads_keeps kinds _) (λ rows c. (threads_wants kinds rows c).0) words e;
+            stimuli = leaf_first (codes "STIM") Anything (threads_leaf kinds) (threads_keeps kinds _) (λ rows c. (threads_wants kinds rows c).1) words e;
+            turns = leaf_any (codes "turns") (IsUnsignedIn 1 MOST_TURNS) (threads_leaf kinds) (turns_keeps kinds) words e;
+            mail = leaf_any (codes "mail") IsMailName (threads_leaf kinds) (mail_keeps kinds are) words e;
+            items = leaf_any (codes "items") (IsUnsignedIn 0 255) (threads_leaf kinds) (threads_items_keeps kinds) words e;
           }))))),
           ((λ name other is words e. absurd (no_help name other is)), tt),
         ),

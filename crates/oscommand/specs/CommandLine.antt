@@ -1,16 +1,21 @@
 -- The program's command line, in the terms of `clap`. [own]
 use Rattle.std.specs.Borrow.{Bor}
-use Rattle.std.specs.Prelude.{◌≡◌, ◌⊎◌, ℕ, true, Option, Some, None, Result, List, [], ◌∷◌, codes, map}
+use Rattle.std.specs.Prelude.{◌≡◌, ◌⊎◌, ◌&&◌, ℕ, Bool, true, false, Option, Some, None, Result, List, [], ◌∷◌, codes, if◌then◌else◌, is_some, map}
+use Rattle.std.specs.Str.{bytes_eq}
 use Rattle.std.specs.Str.Parse.{digits_value, without_leading_plus}
-use Rattle.clap.specs.Words.{App, FailsBy, Row, Rule, fault_of, first_of, new_app, new_rule, subcommand_of, with_rule, with_subcommand}
+use Rattle.clap.specs.Kinds.{or_else}
+use Rattle.clap.specs.Words.{App, FailsBy, Kinds, Row, Rule, fault_of, first_of, new_app, new_rule, subcommand_of, with_rule, with_subcommand}
 use Rattle.clap.specs.declared.error.Error.{Error}
-use Rattle.clap.specs.declared.builder.ArgAction.TheVariants.{Set}
+use Rattle.clap.specs.declared.error.kind.ErrorKind.TheVariants.{ArgumentConflict}
+use Rattle.clap.specs.declared.builder.ArgAction.TheVariants.{Set, SetTrue}
 use Rattle.clap.specs.declared.builder.ValueParser.TheVariants.{Names, Unsigned}
 use Rattle.osbase.specs.declared.messages.MailKind.{MailKind}
 use Rattle.osbase.specs.declared.messages.MailKind.TheVariants.{Ring, Locked}
 use Rattle.osbase.specs.declared.references.CoreId.{CoreId}
 use Rattle.oscommand.specs.declared.jobs.Job.{Job}
 use Rattle.oscommand.specs.declared.jobs.Job.TheVariants.{Run, Check, Cut, Replay, Threads}
+use Rattle.oscommand.specs.declared.jobs.Print.{Print}
+use Rattle.oscommand.specs.declared.jobs.Print.TheVariants.{Trace, Log, Order}
 use Rattle.oscommand.specs.declared.jobs.TheConstants.{DEFAULT_TURNS, MOST_TURNS}
 use Rattle.oscommand.specs.Jobs.{path_in}
 
@@ -25,6 +30,14 @@ schedule_rule = record (new_rule (codes "schedule")) { long = Some (codes "sched
 
 abbrev pub items_rule : Rule
 items_rule = record (new_rule (codes "items")) { long = Some (codes "items"); value_names = 1; action = Some Set; parser = Some (Unsigned 0 255) }
+
+-- A flag: its text is `true` where it is there, and else `false`.
+abbrev pub order_rule : Rule
+order_rule = record (new_rule (codes "order")) { long = Some (codes "order"); action = Some SetTrue }
+
+abbrev pub is_set : Option (List ℕ) → Bool
+is_set None = false
+is_set (Some text) = bytes_eq text (codes "true")
 
 abbrev pub log_rule : Rule
 log_rule = record (new_rule (codes "LOG")) { required = true }
@@ -71,10 +84,11 @@ cut_command = with_rule (with_rule (new_app (codes "cut")) config_rule) core_rul
 abbrev pub replay_command : App
 replay_command = with_rule (with_rule (with_rule (new_app (codes "replay")) config_rule) core_rule) log_rule
 
--- `threads CFG STIM [--turns N] [--mail KIND] [--items CORE]`
+-- `threads CFG STIM [--turns N] [--mail KIND] [--items CORE] [--order]`
 abbrev pub threads_command : MailKinds → App
 threads_command kinds =
-    with_rule (with_rule (with_rule (with_rule (with_rule (new_app (codes "threads")) config_rule) stimuli_rule) turns_rule) (mail_rule kinds)) items_rule
+    with_rule (with_rule (with_rule (with_rule (with_rule (with_rule (new_app (codes "threads")) config_rule) stimuli_rule) turns_rule)
+    (mail_rule kinds)) items_rule) order_rule
 
 -- `mcos --version`, or one of its subcommands
 abbrev pub requires_subcommand : App → App
@@ -107,6 +121,12 @@ abbrev pub SaysMail : Option (List ℕ) → MailKind → Type 0
 SaysMail None mail = mail ≡ Ring
 SaysMail (Some text) mail = text ≡ mail_name mail
 
+-- The entries of `--items` and `--order` say what is printed, where at most one of them is there.
+abbrev pub SaysPrint : List Row → Print → Type 0
+SaysPrint rows Trace = (first_of (codes "items") rows ≡ None) × (is_set (first_of (codes "order") rows) ≡ false)
+SaysPrint rows (Log core) = SaysNumber (first_of (codes "items") rows) core.number × (is_set (first_of (codes "order") rows) ≡ false)
+SaysPrint rows Order = (first_of (codes "items") rows ≡ None) × (is_set (first_of (codes "order") rows) ≡ true)
+
 -- The entries of a subcommand are the job's.
 abbrev pub HasEntries : List Row → Job → Type 0
 HasEntries rows (Run config stimuli schedule items) =
@@ -120,19 +140,19 @@ HasEntries rows (Cut config core) =
 HasEntries rows (Replay config core log) =
     (first_of (codes "CFG") rows ≡ Some config.now) × SaysNumber (first_of (codes "CORE") rows) core.number
     × (first_of (codes "LOG") rows ≡ Some log.now)
-HasEntries rows (Threads config stimuli turns mail items) =
+HasEntries rows (Threads config stimuli turns mail print) =
     (first_of (codes "CFG") rows ≡ Some config.now)
     × (first_of (codes "STIM") rows ≡ Some stimuli.now)
     × SaysTurns (first_of (codes "turns") rows) turns
     × SaysMail (first_of (codes "mail") rows) mail
-    × SaysCore (first_of (codes "items") rows) items
+    × SaysPrint rows print
 
 abbrev pub subcommand_name : Job → List ℕ
 subcommand_name (Run config stimuli schedule items) = codes "run"
 subcommand_name (Check config) = codes "check"
 subcommand_name (Cut config core) = codes "cut"
 subcommand_name (Replay config core log) = codes "replay"
-subcommand_name (Threads config stimuli turns mail items) = codes "threads"
+subcommand_name (Threads config stimuli turns mail print) = codes "threads"
 
 -- The words, of which the first is the program's name, name the job's subcommand with the job's entries.
 pub record AsksFor (words : List (List ℕ)) (job : Job) : Type 0 where
@@ -142,8 +162,19 @@ pub record AsksFor (words : List (List ℕ)) (job : Job) : Type 0 where
   pub names : subcommand_of (command_line kinds) words ≡ Some (subcommand_name job, rows)
   pub entries : HasEntries rows job
 
+abbrev pub has_items_and_order : List Row → Bool
+has_items_and_order rows = is_some (first_of (codes "items") rows) && is_set (first_of (codes "order") rows)
+
+-- `--order` beside `--items` is wrong usage.
+abbrev pub conflict_in : Option (List ℕ × List Row) → Kinds
+conflict_in None = []
+conflict_in (Some named) = if bytes_eq named.0 (codes "threads") && has_items_and_order named.1 then ArgumentConflict ∷ [] else []
+
+abbrev pub usage_fault : App → List (List ℕ) → Kinds
+usage_fault app words = or_else (fault_of app words) (conflict_in (subcommand_of app words))
+
 -- The words have no fault where there is a job; else the error is of a kind that they have, or memory ran out.
 pub record FailsByWords (words : List (List ℕ)) (job : Result Job Error) : Type 0 where
   pub kinds : MailKinds
   pub kinds_are : AreMailKinds kinds
-  pub fails : FailsBy (fault_of (command_line kinds) words) job
+  pub fails : FailsBy (usage_fault (command_line kinds) words) job

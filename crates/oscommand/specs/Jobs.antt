@@ -9,7 +9,7 @@ config_path (Run config stimuli schedule items) = config.now
 config_path (Check config) = config.now
 config_path (Cut config core) = config.now
 config_path (Replay config core log) = config.now
-config_path (Threads config stimuli turns mail items) = config.now
+config_path (Threads config stimuli turns mail print) = config.now
 
 -- The stimuli of a run, or the log of a replay.
 abbrev pub stimuli_path : Job → Option (List ℕ)
@@ -17,7 +17,7 @@ stimuli_path (Run config stimuli schedule items) = Some stimuli.now
 stimuli_path (Check config) = None
 stimuli_path (Cut config core) = None
 stimuli_path (Replay config core log) = Some log.now
-stimuli_path (Threads config stimuli turns mail items) = Some stimuli.now
+stimuli_path (Threads config stimuli turns mail print) = Some stimuli.now
 
 abbrev pub path_in : Option (Bor (List ℕ)) → Option (List ℕ)
 path_in path = option_map (λ (p : Bor (List ℕ)). p.now) path
@@ -27,7 +27,7 @@ schedule_path (Run config stimuli schedule items) = path_in schedule
 schedule_path (Check config) = None
 schedule_path (Cut config core) = None
 schedule_path (Replay config core log) = None
-schedule_path (Threads config stimuli turns mail items) = None
+schedule_path (Threads config stimuli turns mail print) = None
 
 -- A path that is there.
 abbrev pub listed : Option (List ℕ) → List (List ℕ)

@@ -1,13 +1,15 @@
 //! What the program is asked to do.
 
-ghost use Rattle.std.specs.Prelude.{◌≡◌, IfOk, IfSome, IsSome, IsSomeAnd, codes, false, map};
+ghost use Rattle.std.specs.Prelude.{◌≡◌, IfOk, IfSome, IsSome, IsSomeAnd, codes, false, is_none, map};
 ghost use Rattle.std.specs.Str.Parse.{digits_value, without_leading_plus};
-ghost use Rattle.clap.specs.Words.{IsUnsignedIn, app_of, first_of, first_value, found_of, rows_of, rule_of};
-ghost use Rattle.oscommand.specs.CommandLine.{AsksFor, FailsByWords, HasEntries, IsMailName, SaysCore, SaysMail, SaysTurns, check_command, command_line, config_rule, core_rule, cut_command, items_rule, mail_name, mail_rule, replay_command, run_command, schedule_rule, stimuli_rule, subcommand_name, threads_command, turns_rule};
+ghost use Rattle.clap.specs.Words.{IsUnsignedIn, app_of, first_of, first_value, found_of, kind_of, rows_of, rule_of};
+ghost use Rattle.clap.specs.declared.error.kind.ErrorKind.TheVariants.{ArgumentConflict};
+ghost use Rattle.oscommand.specs.CommandLine.{AsksFor, FailsByWords, HasEntries, IsMailName, SaysCore, SaysMail, SaysPrint, SaysTurns, check_command, command_line, config_rule, core_rule, cut_command, has_items_and_order, is_set, items_rule, mail_name, mail_rule, order_rule, replay_command, run_command, schedule_rule, stimuli_rule, subcommand_name, threads_command, turns_rule};
 ghost use Rattle.oscommand.specs.declared.jobs.TheConstants.{MOST_TURNS};
 ghost use Rattle.oscommand.specs.Jobs.{paths_of};
 
 use clap::builder::ValueParser;
+use clap::error::ErrorKind;
 use clap::{Arg, ArgAction, ArgMatches, Command, Error};
 use osbase::{CoreId, MailKind};
 use std::alloc::{AllocError, Global};
@@ -24,6 +26,9 @@ pub const MOST_TURNS: u64 = 1_000_000_000;
 
 /// The names of the kinds of mail between threads.
 const MAIL_KINDS: &[&str] = &["ring", "locked"];
+
+// As clap's own text.
+const ORDER_AND_ITEMS: &str = "the argument '--order' cannot be used with '--items <CORE>'";
 
 const RUN_HELP: &str = "\
 Reads a configuration, the stimuli of its cores and, with --schedule, the turns in order.
@@ -69,6 +74,9 @@ Envelopes go from core to core through rings without a lock, or with `--mail loc
 
 With --items prints the log of that core in their place: a line for each item that it took.
 
+With --order prints the turns of all cores in one order in their place: a schedule for `run --schedule`, by which each
+core takes the same items. Where none is found, prints `none`.
+
 Exit status: 0 ended, 1 a fault (`fault N Name`), 2 wrong usage, 3 stalled.
 
 Example: mcos threads config.json stimuli.json";
@@ -98,15 +106,26 @@ pub enum Job<'a> {
         core: CoreId,
         log: &'a str,
     },
-    /// Runs each core on a thread of its own, and prints each core's trace, or one core's log. A core whose turns change
-    /// nothing so many times in a row gives up.
+    /// Runs each core on a thread of its own, and prints what is asked for. A core whose turns change nothing so many
+    /// times in a row gives up.
     Threads {
         config: &'a str,
         stimuli: &'a str,
         turns: u64,
         mail: MailKind,
-        items: Option<CoreId>,
+        print: Print,
     },
+}
+
+/// What a run by threads prints.
+#[derive(Clone, Copy, Debug, PartialEq, Eq)]
+pub enum Print {
+    /// Each core's trace.
+    Trace,
+    /// The log of one core alone.
+    Log(CoreId),
+    /// One order of all cores' turns, if one is found.
+    Order,
 }
 
 impl<'a> Job<'a> {
@@ -169,7 +188,10 @@ pub fn job_of<'a, S: AsStr>(alloc: Global, words: &'a [S]) -> Result<Job<'a>, Er
     let Some(threads) = matches.subcommand_matches("threads") else {
         unreachable!();
     };
-    Ok(threads_job(threads))
+    match threads_job(threads) {
+        Some(job) => Ok(job),
+        None => Err(conflict(alloc)?),
+    }
 }
 
 // The core of a number that a byte can hold.
@@ -259,24 +281,61 @@ fn replay_job<'a>(replay: &ArgMatches<'a>) -> Job<'a>
     }
 }
 
-// The entries of `threads`, whose required arguments are there.
-fn threads_job<'a>(threads: &ArgMatches<'a>) -> Job<'a>
+// The error of `--order` beside `--items`.
+fn conflict(alloc: Global) -> Result<Error, AllocError>
+    ensures { IfOk result (λ error. kind_of error ≡ ArgumentConflict) }
+{
+    threads_command(alloc, MAIL_KINDS)?
+        .bin_name("mcos threads")?
+        .error(ErrorKind::ArgumentConflict, ORDER_AND_ITEMS)
+}
+
+// The entries of `threads`, whose required arguments are there; None where two of them exclude each other.
+fn threads_job<'a>(threads: &ArgMatches<'a>) -> Option<Job<'a>>
     requires config { IsSome (first_value (found_of threads.now) (codes "CFG")) }
     requires stimuli { IsSome (first_value (found_of threads.now) (codes "STIM")) }
     requires turns { IfSome (first_value (found_of threads.now) (codes "turns")) (IsUnsignedIn 1 MOST_TURNS) }
     requires mail { IfSome (first_value (found_of threads.now) (codes "mail")) IsMailName }
     requires items { IfSome (first_value (found_of threads.now) (codes "items")) (IsUnsignedIn 0 255) }
-    ensures { HasEntries (rows_of (found_of threads.now)) result × (subcommand_name result ≡ codes "threads") }
+    ensures entries { IfSome result (λ job. HasEntries (rows_of (found_of threads.now)) job × (subcommand_name job ≡ codes "threads")) }
+    ensures none { is_none result ≡ has_items_and_order (rows_of (found_of threads.now)) }
 {
     let (Some(config), Some(stimuli)) = (threads.get_str("CFG"), threads.get_str("STIM")) else {
         unreachable!();
     };
-    Job::Threads {
-        config,
-        stimuli,
-        turns: turns_of(threads),
-        mail: mail_of(threads),
-        items: items_core(threads),
+    match print_of(threads) {
+        Some(print) => Some(Job::Threads {
+            config,
+            stimuli,
+            turns: turns_of(threads),
+            mail: mail_of(threads),
+            print,
+        }),
+        None => None,
+    }
+}
+
+// What `--items` and `--order` ask for; None where both are there.
+fn print_of(threads: &ArgMatches) -> Option<Print>
+    requires { IfSome (first_value (found_of threads.now) (codes "items")) (IsUnsignedIn 0 255) }
+    ensures says { IfSome result (SaysPrint (rows_of (found_of threads.now))) }
+    ensures none { is_none result ≡ has_items_and_order (rows_of (found_of threads.now)) }
+{
+    match (items_core(threads), has_order(threads)) {
+        (None, false) => Some(Print::Trace),
+        (Some(core), false) => Some(Print::Log(core)),
+        (None, true) => Some(Print::Order),
+        (Some(_), true) => None,
+    }
+}
+
+// Whether `--order` is there: its text is `true` then, and else `false`.
+fn has_order(threads: &ArgMatches) -> bool
+    ensures { result ≡ is_set (first_of (codes "order") (rows_of (found_of threads.now))) }
+{
+    match threads.get_str("order") {
+        Some(text) => text == "true",
+        None => false,
     }
 }
 
@@ -425,7 +484,8 @@ fn threads_command<'a>(alloc: Global, kinds: &'a [&'a str]) -> Result<Command<'a
         .arg(stimuli_arg(alloc))?
         .arg(turns_arg(alloc))?
         .arg(mail_arg(alloc, kinds))?
-        .arg(items_arg(alloc))
+        .arg(items_arg(alloc))?
+        .arg(order_arg(alloc))
 }
 
 fn turns_arg<'a>(alloc: Global) -> Arg<'a>
@@ -452,6 +512,16 @@ fn mail_arg<'a>(alloc: Global, kinds: &'a [&'a str]) -> Arg<'a>
         .value_parser(ValueParser::Names(kinds))
         .action(ArgAction::Set)
         .help("how envelopes go from core to core; without it ring")
+}
+
+fn order_arg<'a>(alloc: Global) -> Arg<'a>
+    ensures rule { rule_of result ≡ order_rule }
+    ensures own { result.global ≡ false }
+{
+    Arg::new(alloc, "order")
+        .long("order")
+        .action(ArgAction::SetTrue)
+        .help("prints the turns of all cores in one order, a schedule, or none")
 }
 
 fn core_arg<'a>(alloc: Global) -> Arg<'a>

@@ -3,4 +3,4 @@
 
 pub mod jobs;
 
-pub use jobs::{Job, job_of};
+pub use jobs::{Job, Print, job_of};

@@ -4,3 +4,4 @@ pub mod Standings
 pub mod Unread
 pub mod Logging
 pub mod Replaying
+pub mod Ordering

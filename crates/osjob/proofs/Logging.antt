@@ -1,17 +1,18 @@
 -- A run whose reports are printed.
-use Rattle.std.proofs.Common.{◌≡◌, ◌≢◌, ◌∙◌, ℕ, true, List, Option, Result, Ok, Err, refl, sym}
+use Rattle.std.proofs.Common.{◌≡◌, ◌≢◌, ◌∙◌, ℕ, true, List, Option, None, Result, Ok, Err, refl, sym}
 use Rattle.std.specs.Prelude.{IfErr}
 use Rattle.osbase.specs.declared.references.CoreId.{CoreId}
 use Rattle.osbase.specs.declared.turns.Choice.{Choice}
 use Rattle.osbase.specs.declared.turns.CoreStimuli.{CoreStimuli}
 use Rattle.osbase.specs.declared.turns.Report.{Report}
 use Rattle.osplan.specs.declared.plans.Plan.{Plan}
+use Rattle.oscommand.specs.declared.jobs.Print.TheVariants.{Order}
 use Rattle.ostrace.specs.declared.sinks.WriteFailed.{WriteFailed as SinkFailed}
 use Rattle.osjob.specs.declared.faults.Fault.{Fault}
 use Rattle.osjob.specs.declared.faults.Fault.TheVariants.{NoMemoryToRun, Unreadable}
 use Rattle.osjob.specs.declared.outcomes.Outcome.{Outcome}
-use Rattle.osjob.specs.Performs.{Comes, HasNoReports, IsReportOutput, IsReported, NoFault, PrintsFrom, broken_off, fails, prints, unless_refused}
-use Rattle.osjob.specs.Runs.{IsInput, are_items_known}
+use Rattle.osjob.specs.Performs.{BreaksThreads, Comes, HasNoReports, IsOrderPrinted, IsReportOutput, IsReported, IsThreadsOutput, NoFault, PrintsFrom, broken_off, fails, prints, unless_refused}
+use Rattle.osjob.specs.Runs.{IsInput, IsThreaded, are_items_known}
 use Rattle.osjob.specs.Texts.{File, IsAsked}
 
 -- A text that was printed up to a refused write names no file, and no more does what was to come.
@@ -32,5 +33,19 @@ reports-come taken failed old new Played Breaks schedule items files plan stimul
 }
 reports-come taken failed old new Played Breaks schedule items files plan stimuli turns reports count result played known input breaks (fails fault is none same) = record {
   comes = fails fault is (λ apart. broken_off plan stimuli turns input known (rw none breaks)) same;
+  asked = rw is (λ e. let other = sym none ∙ e in cc);
+}
+
+-- So is what is printed of one order of the turns of a run by threads.
+pub order-comes : {O : Type 0} (taken : O → Option (List ℕ)) (failed : O → ℕ) (old new : O) (patience : ℕ) (files : List File) (plan : Plan) (reports : List Report) (turns : Option (List (CoreId × Choice))) (count : ℕ) (result : Result Outcome Fault)
+    → (threaded : IsThreaded patience files plan reports) → IsInput None files plan threaded.stimuli turns
+    → Comes taken failed old new (IsOrderPrinted plan threaded.stimuli reports) (λ fault. fault ≡ NoMemoryToRun) result
+    → PrintsFrom taken failed old new (NoFault (IsThreadsOutput patience Order files)) (HasNoReports BreaksThreads None None files) files count result
+order-comes taken failed old new patience files plan reports turns count result threaded input (prints text ending output printed) = record {
+  comes = prints text ending (rw output.ending_is (record { plan = plan; reports = reports; threaded = threaded; ordered = output.ordered; outcome_is = refl })) printed;
+  asked = written-asked printed.written ending result count files (rw output.ending_is tt) printed.result_is;
+}
+order-comes taken failed old new patience files plan reports turns count result threaded input (fails fault is none same) = record {
+  comes = fails fault is (λ apart. broken_off plan threaded.stimuli turns input refl (rw none tt)) same;
   asked = rw is (λ e. let other = sym none ∙ e in cc);
 }

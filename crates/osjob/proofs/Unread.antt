@@ -21,7 +21,7 @@ no_memory-output (Run config stimuli schedule items) files = λ apart. absurd (a
 no_memory-output (Check config) files = λ apart. absurd (apart refl)
 no_memory-output (Cut config core) files = λ apart. absurd (apart refl)
 no_memory-output (Replay config core log) files = λ apart. absurd (apart refl)
-no_memory-output (Threads config stimuli turns mail items) files = λ apart. absurd (apart refl)
+no_memory-output (Threads config stimuli turns mail print) files = λ apart. absurd (apart refl)
 
 readable : Text NoMemory ≡ Unreadable → ⊥
 readable e = cc

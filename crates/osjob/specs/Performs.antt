@@ -1,5 +1,5 @@
 -- What a job comes to: what it prints, its status, and the fault that it tells. [own]
-use Rattle.std.specs.Prelude.{◌≡◌, ◌≢◌, ℕ, Bool, true, false, Option, None, Result, Ok, Err, List, IsSome, IfErr}
+use Rattle.std.specs.Prelude.{◌≡◌, ◌≢◌, ℕ, Bool, true, false, Option, Some, None, Result, Ok, Err, List, IsSome, IfErr}
 use Rattle.std.specs.Result.{IsOkAnd}
 use Rattle.osbase.specs.declared.references.CoreId.{CoreId}
 use Rattle.osbase.specs.declared.turns.Choice.{Choice}
@@ -17,6 +17,8 @@ use Rattle.osjob.specs.declared.faults.Fault.{Fault}
 use Rattle.osjob.specs.declared.faults.Fault.TheVariants.{MailBreak, NoMemoryToRun, NoThread, Text, WriteFailed}
 use Rattle.oscommand.specs.declared.jobs.Job.{Job}
 use Rattle.oscommand.specs.declared.jobs.Job.TheVariants.{Run, Check, Cut, Replay, Threads}
+use Rattle.oscommand.specs.declared.jobs.Print.{Print}
+use Rattle.oscommand.specs.declared.jobs.Print.TheVariants.{Trace, Log, Order}
 use Rattle.osjob.specs.declared.outcomes.Outcome.{Outcome}
 use Rattle.osjob.specs.declared.outcomes.Outcome.TheVariants.{Done, Stalled}
 use Rattle.oswrite.specs.Writing.{config_text}
@@ -24,7 +26,7 @@ use Rattle.osjob.specs.Checks.{check_text, cut_text}
 use Rattle.osjob.specs.Faults.{fault_text}
 use Rattle.oscommand.specs.Jobs.{path_in}
 use Rattle.osjob.specs.Replays.{HasNoReplay, IsReplayOutput}
-use Rattle.osjob.specs.Runs.{IsGiven, IsInput, IsPlayed, IsThreaded, are_items_known, printed_text}
+use Rattle.osjob.specs.Runs.{IsGiven, IsInput, IsOrdered, IsPlayed, IsThreaded, are_items_known, logged_core, printed_text}
 use Rattle.osjob.specs.Texts.{File, IsAsked, IsFaultOf, Means, text_at}
 
 -- ---- how a job ends
@@ -62,9 +64,19 @@ pub record IsReportOutput (Played : Plan → List Report → Type 0) (items : Op
 abbrev pub IsRunOutput : Option (List ℕ) → Option CoreId → List File → List ℕ → Outcome → Type 0
 IsRunOutput schedule items files = IsReportOutput (IsPlayed schedule files) items
 
+-- What a run by threads prints of one order of its cores' turns, and how it ends. [own]
+pub record IsOrderOutput (turns : ℕ) (files : List File) (text : List ℕ) (outcome : Outcome) : Type 0 where
+  pub plan : Plan
+  pub reports : List Report
+  pub threaded : IsThreaded turns files plan reports
+  pub ordered : IsOrdered plan threaded.stimuli reports text
+  pub outcome_is : outcome ≡ outcome_of (have_all_ended plan reports)
+
 -- A run by threads has sound reports, of cores that have ended or gave up after so many turns, and nothing says which. [own]
-abbrev pub IsThreadsOutput : ℕ → Option CoreId → List File → List ℕ → Outcome → Type 0
-IsThreadsOutput turns items files = IsReportOutput (IsThreaded turns files) items
+abbrev pub IsThreadsOutput : ℕ → Print → List File → List ℕ → Outcome → Type 0
+IsThreadsOutput turns Trace files = IsReportOutput (IsThreaded turns files) None
+IsThreadsOutput turns (Log core) files = IsReportOutput (IsThreaded turns files) (Some core)
+IsThreadsOutput turns Order files = IsOrderOutput turns files
 
 -- The log of a core that is not configured is asked for, which is the fault.
 abbrev pub HasNoItems : Plan → Option CoreId → Fault → Type 0
@@ -102,6 +114,11 @@ BreaksThreads fault = ⊥
 -- What is printed of reports, or the log of one core, and how the run ends.
 pub record IsReported (plan : Plan) (reports : List Report) (items : Option CoreId) (text : List ℕ) (ending : Result Outcome Fault) : Type 0 where
   pub text_is : text ≡ printed_text plan reports items
+  pub ending_is : ending ≡ Ok (outcome_of (have_all_ended plan reports))
+
+-- What is printed of one order of the turns of a run with these reports, and how the run ends.
+pub record IsOrderPrinted (plan : Plan) (stimuli : List CoreStimuli) (reports : List Report) (text : List ℕ) (ending : Result Outcome Fault) : Type 0 where
+  pub ordered : IsOrdered plan stimuli reports text
   pub ending_is : ending ≡ Ok (outcome_of (have_all_ended plan reports))
 
 -- Why a run prints nothing. Where memory ran out while the files were read, nothing is said of them.
@@ -160,14 +177,14 @@ IsOutput (Run config stimuli schedule items) files = NoFault (IsRunOutput (path_
 IsOutput (Check config) files = NoFault (IsCheckOutput files)
 IsOutput (Cut config core) files = NoFault (IsCutOutput core files)
 IsOutput (Replay config core log) files = IsReplayOutput core files
-IsOutput (Threads config stimuli turns mail items) files = NoFault (IsThreadsOutput turns items files)
+IsOutput (Threads config stimuli turns mail print) files = NoFault (IsThreadsOutput turns print files)
 
 abbrev pub HasNoOutput : Job → List File → Fault → Type 0
 HasNoOutput (Run config stimuli schedule items) files fault = HasNoReports BreaksTurns (path_in schedule) items files fault
 HasNoOutput (Check config) files fault = HasNoConfig files fault
 HasNoOutput (Cut config core) files fault = HasNoCut core files fault
 HasNoOutput (Replay config core log) files fault = HasNoReplay core files fault
-HasNoOutput (Threads config stimuli turns mail items) files fault = HasNoReports BreaksThreads None items files fault
+HasNoOutput (Threads config stimuli turns mail print) files fault = HasNoReports BreaksThreads None (logged_core print) files fault
 
 -- ---- printing
 
@@ -209,10 +226,10 @@ IsRunPrinted taken failed old new schedule items files count result =
     PrintsFrom taken failed old new (NoFault (IsRunOutput schedule items files)) (HasNoReports BreaksTurns schedule items files) files count result
 
 -- The same of a run by threads.
-abbrev pub IsThreadsPrinted : {O : Type 0} → (O → Option (List ℕ)) → (O → ℕ) → O → O → ℕ → Option CoreId → List File → ℕ →
+abbrev pub IsThreadsPrinted : {O : Type 0} → (O → Option (List ℕ)) → (O → ℕ) → O → O → ℕ → Print → List File → ℕ →
     Result Outcome Fault → Type 0
-IsThreadsPrinted taken failed old new turns items files count result =
-    PrintsFrom taken failed old new (NoFault (IsThreadsOutput turns items files)) (HasNoReports BreaksThreads None items files) files count result
+IsThreadsPrinted taken failed old new turns print files count result =
+    PrintsFrom taken failed old new (NoFault (IsThreadsOutput turns print files)) (HasNoReports BreaksThreads None (logged_core print) files) files count result
 
 -- What a job over these files comes to: it prints what it asks for, or has a fault. [own]
 abbrev pub IsPrinted : {O : Type 0} → (O → Option (List ℕ)) → (O → ℕ) → O → O → Job → List File → ℕ → Result Outcome Fault → Type 0

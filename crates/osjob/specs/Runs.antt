@@ -1,5 +1,5 @@
 -- What the files of a run come to: its reports, and what is printed of them. [own]
-use Rattle.std.specs.Prelude.{ℕ, ◌≡◌, ◌≤◌, max, Bool, true, false, Option, Some, None, is_some, List, [], ◌++◌, codes, find, length}
+use Rattle.std.specs.Prelude.{ℕ, ◌≡◌, ◌≤◌, ◌⊎◌, max, Bool, true, false, Option, Some, None, is_some, List, [], ◌++◌, codes, find, length, map}
 use Rattle.std.specs.Option.{option_map_or}
 use Rattle.osbase.specs.History.{same_core}
 use Rattle.osbase.specs.declared.items.Item.{Item}
@@ -10,11 +10,14 @@ use Rattle.osbase.specs.declared.turns.Choice.{Choice}
 use Rattle.osbase.specs.declared.turns.CoreStimuli.{CoreStimuli}
 use Rattle.osbase.specs.declared.turns.Report.{Report}
 use Rattle.osplan.specs.declared.plans.Plan.{Plan}
+use Rattle.oscommand.specs.declared.jobs.Print.{Print}
+use Rattle.oscommand.specs.declared.jobs.Print.TheVariants.{Trace, Log, Order}
 use Rattle.osdraft.specs.Meaning.{config_of}
 use Rattle.osgiven.specs.Given.{schedule_meant, stimuli_meant}
 use Rattle.ostext.specs.Trace.{text_of}
+use Rattle.ostrace.specs.Schedules.{schedule_text}
 use Rattle.osturn.specs.Ends.{have_all_ended}
-use Rattle.osturn.specs.Sound.{AreSound}
+use Rattle.osturn.specs.Sound.{AreSound, unclocked}
 use Rattle.osthreads.specs.Runs.{AreFinished}
 use Rattle.osworld.specs.Runs.{AreReports, IsDefaultRun}
 use Rattle.osjob.specs.Texts.{File, Means, text_at}
@@ -99,3 +102,19 @@ run_text plan reports = text_of plan reports ++ last_line (have_all_ended plan r
 abbrev pub printed_text : Plan → List Report → Option CoreId → List ℕ
 printed_text plan reports None = run_text plan reports
 printed_text plan reports (Some core) = log_text plan (items_in reports core)
+
+-- The core whose log a run by threads prints, if it prints one.
+abbrev pub logged_core : Print → Option CoreId
+logged_core Trace = None
+logged_core (Log core) = Some core
+logged_core Order = None
+
+-- Turns in one order, a schedule by which the cores of a listed run take the items of these reports; or that none was found. [own]
+abbrev pub IsOrdered : Plan → List CoreStimuli → List Report → List ℕ → Type 0
+IsOrdered plan stimuli reports text = (text ≡ codes "none\n")
+    ⊎ ((turns : List (CoreId × Choice)) × AreReports plan stimuli turns (map unclocked reports) × (text ≡ schedule_text turns ++ codes "\n"))
+
+-- Of such turns, their line.
+abbrev pub order_line : Option (List (CoreId × Choice)) → List ℕ
+order_line None = codes "none\n"
+order_line (Some turns) = schedule_text turns ++ codes "\n"

@@ -5,6 +5,7 @@ mod checks;
 mod endings;
 mod faults;
 mod files;
+mod orders;
 mod outcomes;
 mod outputs;
 mod performs;

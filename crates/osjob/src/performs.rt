@@ -65,8 +65,8 @@ pub fn print_from<R: Threads + Wait + Sync, S: Source + Drop, O: Sink>(
         Job::Threads {
             turns,
             mail,
-            items,
+            print,
             ..
-        } => run_by_threads(rt, alloc, *mail, *turns, *items, source, out),
+        } => run_by_threads(rt, alloc, *mail, *turns, *print, source, out),
     }
 }

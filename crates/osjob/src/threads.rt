@@ -1,15 +1,17 @@
 //! A run by threads: its files are read, its cores run, and the reports are printed.
 
-ghost use Rattle.std.specs.Prelude.{◌<◌, ◌^◌};
+ghost use Rattle.std.specs.Prelude.{◌≡◌, ◌<◌, ◌^◌};
 ghost use Rattle.osjob.specs.Performs.{IsThreadsPrinted};
-ghost use Rattle.osjob.specs.Runs.{UsesUp};
+ghost use Rattle.osjob.specs.Runs.{UsesUp, logged_core};
 
 use crate::faults::Fault;
+use crate::orders::print_order;
 use crate::outcomes::Outcome;
 use crate::runs::{input_of, print_reports};
 use crate::sources::Source;
 use crossbeam_utils::CachePadded;
 use osbase::{CORES, CoreId, MailKind};
+use oscommand::Print;
 use osthreads::{AWAKE, Gate, run_threads};
 use ostrace::Sink;
 use std::alloc::Global;
@@ -81,23 +83,22 @@ impl Gate for Yielding {
     }
 }
 
-/// Runs each core of the source's files on a thread of its own and prints the reports, or the log of one core alone. The
-/// cores' mail is of this kind. A core gives up once so many turns in a row changed nothing. The files' bytes are let go
-/// before the run begins.
+/// Runs each core of the source's files on a thread of its own and prints what is asked for. The cores' mail is of this
+/// kind. A core gives up once so many turns in a row changed nothing. The files' bytes are let go before the run begins.
 pub fn run_by_threads<R: Threads + Wait + Sync, S: Source + Drop, O: Sink>(
     rt: &R,
     alloc: Global,
     mail: MailKind,
     turns: u64,
-    items: Option<CoreId>,
+    print: Print,
     source: S,
     out: &mut O,
 ) -> Result<Outcome, Fault>
     requires { O.failed out.old < 2 ^ 48 }
     ensures { UsesUp S.files S.known source 2
-        (λ files. IsThreadsPrinted O.taken O.failed out.old out.new turns items files (S.count source) result) }
+        (λ files. IsThreadsPrinted O.taken O.failed out.old out.new turns print files (S.count source) result) }
 {
-    let (config, stimuli, _) = input_of(alloc, None, items, source)?;
+    let (config, stimuli, _) = input_of(alloc, None, logged_core(print), source)?;
     let reports = run_threads(
         rt,
         alloc,
@@ -107,5 +108,20 @@ pub fn run_by_threads<R: Threads + Wait + Sync, S: Source + Drop, O: Sink>(
         &Yielding::new(config.plan().cores.len()),
         turns,
     )?;
-    print_reports(alloc, &config, items, out, reports.as_slice())
+    let reports = reports.as_slice();
+    match print {
+        Print::Trace => print_reports(alloc, &config, None, out, reports),
+        Print::Log(core) => print_reports(alloc, &config, Some(core), out, reports),
+        Print::Order => print_order(alloc, &config, &stimuli, out, reports),
+    }
+}
+
+// The core whose log is to be printed, if it is a log.
+fn logged_core(print: Print) -> Option<CoreId>
+    ensures { result ≡ logged_core print }
+{
+    match print {
+        Print::Log(core) => Some(core),
+        Print::Trace | Print::Order => None,
+    }
 }

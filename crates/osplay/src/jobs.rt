@@ -1,7 +1,7 @@
 //! The jobs of a table, over files of these names.
 
 use osbase::{CoreId, MailKind};
-use oscommand::Job;
+use oscommand::{Job, Print};
 
 const CONFIG: &str = "config.json";
 
@@ -49,12 +49,19 @@ pub fn replay_of(number: u8) -> Job<'static> {
 }
 
 pub fn threads_of(mail: MailKind, turns: u64, items: Option<u8>) -> Job<'static> {
+    match items {
+        Some(number) => threads_printing(mail, turns, Print::Log(CoreId { number })),
+        None => threads_printing(mail, turns, Print::Trace),
+    }
+}
+
+fn threads_printing(mail: MailKind, turns: u64, print: Print) -> Job<'static> {
     Job::Threads {
         config: CONFIG,
         stimuli: STIMULI,
         turns,
         mail,
-        items: items.map(|number| CoreId { number }),
+        print,
     }
 }
 
@@ -72,17 +79,20 @@ pub fn job_of(words: &str, schedule: Option<&'static str>) -> Option<Job<'static
     }
 }
 
-// A number of turns, and then maybe a core. Before them `locked` is the kind of mail, which else is rings.
+// A number of turns, and then maybe a core whose log is printed, or `order`. Before them `locked` is the kind of mail, which
+// else is rings.
 fn threads_job(words: &str) -> Option<Job<'static>> {
     let (mail, words) = match words.strip_prefix("locked ") {
         Some(rest) => (MailKind::Locked, rest),
         None => (MailKind::Ring, words),
     };
-    match words.split_once(' ') {
+    let (turns, print) = match words.split_once(' ') {
+        Some((turns, "order")) => (turns, Print::Order),
         Some((turns, core)) => {
-            let core = core.parse::<u8>().ok()?;
-            Some(threads_of(mail, turns.parse::<u64>().ok()?, Some(core)))
+            let number = core.parse::<u8>().ok()?;
+            (turns, Print::Log(CoreId { number }))
         }
-        None => Some(threads_of(mail, words.parse::<u64>().ok()?, None)),
-    }
+        None => (words, Print::Trace),
+    };
+    Some(threads_printing(mail, turns.parse::<u64>().ok()?, print))
 }

@@ -12,6 +12,7 @@ pub mod Started
 pub mod Fitting
 pub mod Fitted
 pub mod Reported
+pub mod Ordered
 pub mod Served
 pub mod Short
 pub mod Default

@@ -14,7 +14,7 @@ use Rattle.osplan.specs.declared.plans.Plan.{Plan}
 use Rattle.osplan.specs.Limits.{is_within_limits}
 use Rattle.osturn.specs.declared.seats.Seat.{Seat}
 use Rattle.osturn.specs.Fits.{Fits, ids_of}
-use Rattle.osturn.specs.Sound.{IsOwn, lists_in}
+use Rattle.osturn.specs.Sound.{IsOwn, lists_in, report_by, unclocked}
 use Rattle.osworld.specs.World.{World, first_world, with_item, world}
 use Rattle.osworld.specs.Runs.{AppendsAt, AreReports}
 use Rattle.osturn.specs.Seats.{IsSeated, report_of}
@@ -52,16 +52,26 @@ each-own plan stimuli [] seated = tt
 each-own plan stimuli (s ∷ ss) seated =
     (seated-own plan stimuli s (All-head (IsSeated plan stimuli) s ss seated), each-own plan stimuli ss (All-tail (IsSeated plan stimuli) s ss seated))
 
+-- reports that say what their items say are known by their items
+abbrev pub reports_by : Plan → List (CoreId × List Item) → List Report
+reports_by plan lists = map (λ (p : CoreId × List Item). report_by plan p.0 p.1) lists
+
+pub by-their-items : (plan : Plan) (rs : List Report) → AllByRecursion (IsOwn plan) rs → map unclocked rs ≡ reports_by plan (lists_in rs)
+by-their-items plan [] own = refl
+by-their-items plan (r ∷ rs) own =
+    ap (λ (s : Report). s ∷ map unclocked rs) own.0 ∙ ap (λ (ss : List Report). report_by plan r.core r.items ∷ ss) (by-their-items plan rs own.1)
+
 -- turns from the beginning
 pub reports-played : (plan : Plan) → IsTrue (is_within_limits plan) → (stimuli : List CoreStimuli) → AreKnown plan stimuli → (turns : List (CoreId × Choice)) (seats : List Seat) (between : Between) → Plays plan stimuli (world plan stimuli turns) seats between → AreReports plan stimuli turns (map report_of seats)
 reports-played plan limits stimuli known turns seats between plays =
     let lists : lists_in (map report_of seats) ≡ (world plan stimuli turns).items = map-map (λ (r : Report). (r.core, r.items)) report_of seats ∙ sym plays.lists in
     let fits : Fits plan stimuli (lists_in (map report_of seats)) = subst (Fits plan stimuli) (sym lists) (world_fits plan stimuli turns) in
+    let own : AllByRecursion (IsOwn plan) (map report_of seats) = each-own plan stimuli seats plays.seated in
     record {
-      items = lists;
+      are = sym (map-map unclocked report_of seats) ∙ by-their-items plan (map report_of seats) own ∙ ap (reports_by plan) lists;
       sound = record {
         cores = sym (map-map (λ (p : CoreId × List Item). p.0) (λ (r : Report). let p : CoreId × List Item = (r.core, r.items) in p) (map report_of seats)) ∙ ap ids lists ∙ ids-world plan stimuli turns;
-        own = each-own plan stimuli seats plays.seated;
+        own = own;
         fit = fits;
         separate = fits-alone plan stimuli (lists_in (map report_of seats)) fits limits known;
       };

@@ -15,15 +15,15 @@ use Rattle.osstate.specs.Readings.{phase_at}
 use Rattle.osworld.specs.declared.runs.RunFault.{RunFault}
 use Rattle.osworld.specs.declared.runs.RunFault.TheVariants.{NotBegun, NoMemory}
 use Rattle.osturn.specs.Fits.{history_by, ids_of}
-use Rattle.osturn.specs.Sound.{AreSound, lists_in}
+use Rattle.osturn.specs.Sound.{AreSound, report_by}
 use Rattle.osworld.specs.World.{World, board_in, first_world, is_unchanged, world, world_from}
 use Rattle.osturn.specs.Seats.{is_ended_phase}
 
 -- ---- listed turns
 
--- The reports have the items of the world after these turns, each configured core its whole list; and they are sound.
+-- The reports say what the items of the world after these turns come to, of each configured core its whole list; and they are sound.
 pub record AreReports (plan : Plan) (stimuli : List CoreStimuli) (turns : List (CoreId × Choice)) (reports : List Report) : Type 0 where
-  pub items : lists_in reports ≡ (world plan stimuli turns).items
+  pub are : reports ≡ map (λ (p : CoreId × List Item). report_by plan p.0 p.1) (world plan stimuli turns).items
   pub sound : AreSound plan stimuli reports
 
 -- The turn in this place appends an item.

@@ -17,7 +17,9 @@ ghost use Rattle.osworld.specs.Runs.{round_by, serves_of, turns_in_round};
 
 use crate::answering::Between;
 use osbase::{CORE_NUMBERS, CORES, Choice, CoreId, CoreStimuli, Item, Report, Turn};
+use oskernel::Want;
 use osplan::Config;
+use ossame::is_same_item;
 use osturn::{Answer, Ask, Seat};
 use std::alloc::{AllocError, Global};
 
@@ -201,6 +203,21 @@ impl<'a> World<'a> {
         }
     }
 
+    /// The choice by which a turn of the core would append this item, if one would. Nothing is played, since a turn that comes too early may
+    /// append another item.
+    pub fn choice_for(&self, core: CoreId, item: &Item) -> Option<Choice> {
+        let at = self.place_of(core)?;
+        let seat = &self.seats[at];
+        let choice = choice_of(seat, item);
+        let (ask, answer) = self.between.answered(self.config.plan(), seat, choice)?;
+        let named = seat.named(ask, &answer)?;
+        if is_same_item(named, *item) && seat.kernel.may_take(&named) {
+            Some(choice)
+        } else {
+            None
+        }
+    }
+
     /// Whether every started core has ended.
     pub fn is_over(&self) -> bool
         ensures { result ≡ list_all (λ (s : SeatValue). not (has_core self.now.between.board.view.started s.id) || is_ended_phase s.kernel.progress.phase) self.now.seats.items }
@@ -237,6 +254,20 @@ impl<'a> World<'a> {
         } else {
             None
         }
+    }
+}
+
+// The choice by which a core takes this item, if it does. It takes a halt by its own turn where it asks for one itself, and
+// else by a look.
+fn choice_of(seat: &Seat, item: &Item) -> Choice {
+    match item {
+        Item::On | Item::Pass1(_) | Item::Pass2(_) | Item::PassEnd | Item::Last(_) => Choice::Look,
+        Item::Received { from, .. } => Choice::Serve(*from),
+        Item::Halt { .. } => match seat.kernel.want() {
+            Want::AskHalt(_) => Choice::Own,
+            _ => Choice::Look,
+        },
+        _ => Choice::Own,
     }
 }
 

@@ -78,6 +78,7 @@ fn block_of(alloc: Global, config: &Config, marks: Vec<Mark>) -> Result<String, 
     let report = Report {
         core: CORE_0,
         items: List::new(alloc),
+        clocks: List::new(alloc),
         marks: List::from_vec(marks),
         ended: true,
     };

@@ -12,10 +12,11 @@ mcos run a b --items 255 => Run { config: "a", stimuli: "b", schedule: None, ite
 mcos check a => Check { config: "a" }
 mcos cut a 255 => Cut { config: "a", core: CoreId { number: 255 } }
 mcos replay a 7 b => Replay { config: "a", core: CoreId { number: 7 }, log: "b" }
-mcos threads a b --mail=locked => Threads { config: "a", stimuli: "b", turns: 1000000, mail: Locked, items: None }
-mcos threads a b --mail ring => Threads { config: "a", stimuli: "b", turns: 1000000, mail: Ring, items: None }
-mcos threads a b --turns 1 => Threads { config: "a", stimuli: "b", turns: 1, mail: Ring, items: None }
-mcos threads a b --items=2 --turns=1000000000 => Threads { config: "a", stimuli: "b", turns: 1000000000, mail: Ring, items: Some(CoreId { number: 2 }) }
+mcos threads a b --mail=locked => Threads { config: "a", stimuli: "b", turns: 1000000, mail: Locked, print: Trace }
+mcos threads a b --mail ring => Threads { config: "a", stimuli: "b", turns: 1000000, mail: Ring, print: Trace }
+mcos threads a b --turns 1 => Threads { config: "a", stimuli: "b", turns: 1, mail: Ring, print: Trace }
+mcos threads a b --items=2 --turns=1000000000 => Threads { config: "a", stimuli: "b", turns: 1000000000, mail: Ring, print: Log(CoreId { number: 2 }) }
+mcos threads --order a b => Threads { config: "a", stimuli: "b", turns: 1000000, mail: Ring, print: Order }
 
 mcos => exits with 2
 mcos walk a => exits with 2
@@ -31,6 +32,11 @@ mcos threads a b --turns 0 => exits with 2
 mcos threads a b --turns 1000000001 => exits with 2
 mcos threads a b --mail post => exits with 2
 mcos threads a b --mail=Ring => exits with 2
+mcos threads a b --order --items 0 => exits with 2
+mcos threads a b --items 0 --order => exits with 2
+mcos threads a b --order --order => exits with 2
+mcos threads a b --order=true => exits with 2
+mcos run a b --order => exits with 2
 "#;
 
 // The job that these words make, or how the program exits.
@@ -51,6 +57,6 @@ fn words_make_a_job_or_are_wrong_usage(rt: HostRuntime) -> Result<(), Fail> {
         same(alloc, line, text.as_str(), due)?;
         cases = cases.saturating_add(1);
     }
-    assert_eq!(rt; cases, 23);
+    assert_eq!(rt; cases, 29);
     Ok(())
 }

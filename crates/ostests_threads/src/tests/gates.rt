@@ -15,11 +15,11 @@ use std::thread::Threads;
 use std::{array, thread};
 
 /// Cores 0 and 1 activate a task of each other, core 2 is separate, and nobody starts core 3.
-const FOUR_CORES: &str =
+pub(super) const FOUR_CORES: &str =
     r#"{"cores":[{"id":0,"start":[1,2],"tasks":[{"name":"A","prio":1,"auto":["M"],"script":"ActivateTask D;TerminateTask"},{"name":"C","prio":1,"script":"TerminateTask"}]},{"id":1,"tasks":[{"name":"B","prio":1,"auto":["M"],"script":"ActivateTask C;TerminateTask"},{"name":"D","prio":1,"script":"TerminateTask"}]},{"id":2,"tasks":[{"name":"V","prio":1,"auto":["M"],"script":"add v0 3;TerminateTask"}]},{"id":3,"tasks":[{"name":"W","prio":1,"auto":["M"],"script":"TerminateTask"}]}]}"#;
 
 /// Three operations of each core that is started.
-const STIMULI: &str = r#"{"0":"op op op","1":"op op op","2":"op op op"}"#;
+pub(super) const STIMULI: &str = r#"{"0":"op op op","1":"op op op","2":"op op op"}"#;
 
 /// The separate core's own.
 const STIMULI_OF_CORE_2: &str = r#"{"2":"op op op"}"#;
@@ -52,7 +52,7 @@ const MANY: u64 = 100_000;
 // cores meet, each of the first turns of a core waits until every other began as many, for so many tries. A started core whose
 // turn changed nothing gives way until another one began a turn, so that no core stops while the others have no processor.
 #[derive(Drop)]
-struct Watcher {
+pub(super) struct Watcher {
     cores: usize,
     // The core that nobody starts, if there is one.
     unstarted: Option<CoreId>,
@@ -84,7 +84,7 @@ impl Watcher {
     }
 
     // The gate of the four cores.
-    fn new(refused: Option<CoreId>, meets: bool) -> Self {
+    pub(super) fn new(refused: Option<CoreId>, meets: bool) -> Self {
         Watcher::over(4, Some(CORE_3), refused, meets)
     }
 

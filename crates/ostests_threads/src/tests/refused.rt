@@ -14,7 +14,7 @@ use osbase::{
 use osboard::{Board, BoardSeat};
 use osconf::read_config;
 use osmail::{LockedMail, Mail, MailStep, RingEnd, RingMail};
-use osspin::{SpinBank, SpinSeat};
+use osspin::{Clocks, SpinBank, SpinSeat};
 use osthreads::{Gate, Run, Seats, Stop, Wakers, Worked, core_worker};
 use osturn::ids_of;
 use std::alloc::{AllocError, Global};
@@ -36,6 +36,11 @@ const MODE: ModeId = ModeId { index: 0 };
 const REPLY: Letter = Letter {
     number: 0,
     message: Message::Reply(Status::EOk),
+};
+
+const ENVELOPE: Envelope = Envelope {
+    letter: REPLY,
+    clock: 0,
 };
 
 // Lets the worker go on.
@@ -150,6 +155,9 @@ fn work<R: Wait + Abort, M: Mail>(rt: &R, alloc: Global, mail: M) -> Worked<M>
         panic!(rt; "what the cores share")
     };
     let seats = seats_of(rt, &board, &bank, at_board, at_spinlocks);
+    let Ok(clocks) = Clocks::new(alloc) else {
+        panic!(rt; "clocks")
+    };
     let wakers = Wakers::new();
     let told = AtomicBool::new(false);
     let run = Run {
@@ -158,6 +166,7 @@ fn work<R: Wait + Abort, M: Mail>(rt: &R, alloc: Global, mail: M) -> Worked<M>
         cores: cores.as_slice(),
         board: &board,
         bank: &bank,
+        clocks: &clocks,
         wakers: &wakers,
         told: &told,
         turns: 1000,
@@ -203,7 +212,7 @@ fn a_reply_that_nobody_awaits_stops_a_worker(rt: HostRuntime) -> Result<(), Fail
     let mail: LockedMail<MAILBOX> = LockedMail::new(alloc, &[CORE_0, CORE_1], 1)?;
     let mut other = mail.end(&rt, alloc, CORE_1);
     other.room()?;
-    assert_eq!(rt; other.send(CORE_0, Envelope { letter: REPLY }), Ok(()));
+    assert_eq!(rt; other.send(CORE_0, ENVELOPE), Ok(()));
     let worked = work(&rt, alloc, mail.end(&rt, alloc, CORE_0));
     judge(&rt, &worked.report, worked.stop);
     assert!(rt; has_taken(worked.mail.into_steps().as_slice()));
@@ -218,7 +227,7 @@ fn a_reply_by_a_ring_that_nobody_awaits_stops_a_worker(rt: HostRuntime) -> Resul
     let (Some(mut other), Some(own)) = (ends.pop(), ends.pop()) else {
         panic!(rt; "two ends")
     };
-    assert_eq!(rt; other.send(CORE_0, Envelope { letter: REPLY }), Ok(()));
+    assert_eq!(rt; other.send(CORE_0, ENVELOPE), Ok(()));
     let mut worked = work(&rt, alloc, own);
     judge(&rt, &worked.report, worked.stop);
     assert_eq!(rt; worked.mail.take(CORE_1), None);
@@ -228,7 +237,7 @@ fn a_reply_by_a_ring_that_nobody_awaits_stops_a_worker(rt: HostRuntime) -> Resul
 #[test]
 fn a_worker_stops_whatever_end_of_mail_it_has(rt: HostRuntime) -> Result<(), Fail> {
     let mail = Forged {
-        envelope: Some(Envelope { letter: REPLY }),
+        envelope: Some(ENVELOPE),
         steps: Vec::new(rt.alloc()),
     };
     let worked = work(&rt, rt.alloc(), mail);

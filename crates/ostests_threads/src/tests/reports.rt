@@ -98,6 +98,20 @@ fn replay_all(
     Ok(())
 }
 
+/// The reports of a run by threads with this kind of mail.
+pub(super) fn reports_of(
+    rt: &(impl Threads + Wait + Sync),
+    alloc: Global,
+    mail: MailKind,
+    (config, stimuli): (&str, &str),
+    turns: u64,
+) -> Result<Vec<Report>, Fail> {
+    let config = read_config(alloc, config)?;
+    let stimuli = read_stimuli(alloc, &config, stimuli)?;
+    let gate = Yielding::new(config.plan().cores.len());
+    Ok(reports_under(rt, alloc, mail, &config, &stimuli, &gate, turns)?)
+}
+
 /// Each report's log of a run by threads with this kind of mail replays to its block. Answers how many reports there are.
 pub(super) fn replays(
     rt: &(impl Threads + Wait + Sync),

@@ -13,7 +13,7 @@ use std::test::Fail;
 use std::thread::Threads;
 
 /// More turns than any core of the runs below may find nothing to do in.
-const MANY: u64 = 1_000_000_000;
+pub(super) const MANY: u64 = 1_000_000_000;
 
 /// The kinds of mail. What a test says holds with each.
 pub const KINDS: [MailKind; 2] = [MailKind::Ring, MailKind::Locked];
@@ -153,6 +153,13 @@ hook Startup
 core 5
 ended
 
+// One order of the turns. By each of them the core takes an item.
+threads 1000 order
+"0o 0l 0o 0l 0o 0l 0l"
+
+threads locked 1000 order
+as before
+
 // A core of a number above 7.
 config {"version":2,"cores":[{"id":0,"start":[9],"tasks":[{"name":"A","prio":1,"auto":["M"],"script":"ActivateTask B;TerminateTask"}]},{"id":9,"tasks":[{"name":"B","prio":1,"script":"TerminateTask"}]}]}
 stimuli {"0":"op op"}
@@ -240,7 +247,7 @@ fn runs_by_threads_come_to_their_texts(rt: HostRuntime) -> Result<(), Fail> {
         &rt,
         rt.alloc(),
         &[BOUND_AND_SEPARATE, RUNS, OWED, SHARED],
-        62,
+        64,
     )
 }
 

@@ -1,18 +1,19 @@
-use Rattle.std.proofs.Common.{refl, sym, subst, true, false, true≢false, inl, inr, is_some, ap, codes, ◌≡◌, ◌∙◌, List, [], Option, Some, None, Result, Ok, Err, option_map, map}
+use Rattle.std.proofs.Common.{refl, sym, subst, Bool, cond, true, false, true≢false, inl, inr, is_some, ap, codes, ◌≡◌, ◌∙◌, List, [], ◌∷◌, Option, Some, None, Result, Ok, Err, option_map, map}
 use Rattle.std.specs.Prelude.{IfOk, IfSome, IsSome, IsSomeAnd}
 use Rattle.std.proofs.lemmas.Result.{err_from_is_err_and}
 use Rattle.std.specs.declared.alloc.AllocError.{AllocError}
-use Rattle.clap.specs.Words.{App, HasKind, HasMatchesOf, IsUnsignedIn, Row, Text, app_of, fault_of, first_of, first_value, found_of, is_simple, is_simple_and_free, kind_of, rows_of, subcommand_name_of, subcommand_of, subcommand_rows_of}
+use Rattle.clap.specs.Kinds.{or_else}
+use Rattle.clap.specs.Words.{App, HasKind, HasMatchesOf, IsUnsignedIn, Kinds, Row, Text, app_of, fault_of, first_of, first_value, found_of, is_simple, is_simple_and_free, kind_of, rows_of, subcommand_name_of, subcommand_of, subcommand_rows_of}
 use Rattle.clap.specs.declared.builder.command.Command.{Command}
 use Rattle.clap.specs.declared.error.Error.{Error}
-use Rattle.clap.specs.declared.error.kind.ErrorKind.TheVariants.{OutOfMemory}
+use Rattle.clap.specs.declared.error.kind.ErrorKind.TheVariants.{ArgumentConflict, OutOfMemory}
 use Rattle.clap.specs.declared.parser.matches.ArgMatches.{ArgMatches}
 use Rattle.clap.specs.declared.parser.matches.Found.{Found}
 use Rattle.clap.proofs.OnLiterals.{clap_on_literals}
 use Rattle.clap.proofs.WalkLemmas.{first_value-rows}
 use Rattle.oscommand.specs.declared.jobs.Job.{Job}
 use Rattle.oscommand.specs.declared.jobs.TheConstants.{MOST_TURNS}
-use Rattle.oscommand.specs.CommandLine.{AreMailKinds, AsksFor, FailsByWords, HasEntries, IsMailName, MailKinds, command_line, subcommand_name}
+use Rattle.oscommand.specs.CommandLine.{AreMailKinds, AsksFor, FailsByWords, HasEntries, IsMailName, MailKinds, command_line, conflict_in, has_items_and_order, subcommand_name, usage_fault}
 use Rattle.oscommand.proofs.Usage.{IsJob, check_has, cut_has, names_job, replay_has, run_has, threads_has}
 use Rattle.oscommand.proofs.jobs.job_of.Goals as goal
 
@@ -39,15 +40,21 @@ rows_known kinds app words m parse =
 no_fault : (kinds : MailKinds) (app : App) (words : List Text) (m : ArgMatches) → Succeeds kinds app words m → fault_of (command_line kinds) words ≡ []
 no_fault kinds app words m parse = subst (λ (a : App). is_simple_and_free a ≡ true → fault_of a words ≡ []) parse.is parse.faults (is_free kinds)
 
-has_none : (kinds : MailKinds) → AreMailKinds kinds → (app : App) (words : List Text) (m : ArgMatches) → Succeeds kinds app words m → (job : Job) → FailsByWords words (Ok job)
-has_none kinds are app words m parse job = record { kinds = kinds; kinds_are = are; fails = no_fault kinds app words m parse }
+both_kinds : (a b kinds : Kinds) → a ≡ [] → b ≡ kinds → or_else a b ≡ kinds
+both_kinds [] b kinds e h = h
+both_kinds (k ∷ ks) b kinds e h = cc
+
+first_kind : (a b : Kinds) (error : Error) → HasKind a error → HasKind (or_else a b) error
+first_kind [] b error (inl out) = inl out
+first_kind [] b error (inr none) = absurd none
+first_kind (k ∷ ks) b error has = has
 
 has_fault : (kinds : MailKinds) → AreMailKinds kinds → (app : App) → app ≡ command_line kinds → (words : List Text) (error : Error)
     → (is_simple_and_free app ≡ true → HasKind (fault_of app words) error) → FailsByWords words (Err error)
 has_fault kinds are app is words error fails = record {
   kinds = kinds;
   kinds_are = are;
-  fails = subst (λ (a : App). is_simple_and_free a ≡ true → HasKind (fault_of a words) error) is fails (is_free kinds);
+  fails = first_kind _ _ error (subst (λ (a : App). is_simple_and_free a ≡ true → HasKind (fault_of a words) error) is fails (is_free kinds));
 }
 
 -- out of memory is an error of any words
@@ -77,6 +84,27 @@ entered kinds are app words m name rows parse is has =
       names = sym (rows_known kinds app words m parse) ∙ both;
       job = subst (λ (o : Option (Text × List Row)). IsSomeAnd o IsJob) both (has_job kinds are app words m parse);
     }
+
+threads_conflict : (rows : List Row) (b : Bool) → b ≡ has_items_and_order rows → conflict_in (Some (codes "threads", rows)) ≡ cond b (ArgumentConflict ∷ []) []
+threads_conflict rows b e = ap (λ (both : Bool). cond both (ArgumentConflict ∷ []) []) (sym e)
+
+-- words that name a subcommand have the fault of its entries alone
+usage_of : (kinds : MailKinds) → AreMailKinds kinds → (app : App) (words : List Text) (m : ArgMatches) → Succeeds kinds app words m → (name : Text) (rows : List Row)
+    → IsEntered kinds words name rows → (fault : Kinds) → conflict_in (Some (name, rows)) ≡ fault → usage_fault (command_line kinds) words ≡ fault
+usage_of kinds are app words m parse name rows enters fault e = both_kinds _ _ fault (no_fault kinds app words m parse) (ap conflict_in enters.names ∙ e)
+
+has_none : (kinds : MailKinds) → AreMailKinds kinds → (app : App) (words : List Text) (m : ArgMatches) → Succeeds kinds app words m → (name : Text) (rows : List Row)
+    → IsEntered kinds words name rows → conflict_in (Some (name, rows)) ≡ [] → (job : Job) → FailsByWords words (Ok job)
+has_none kinds are app words m parse name rows enters none job =
+    record { kinds = kinds; kinds_are = are; fails = usage_of kinds are app words m parse name rows enters [] none }
+
+has_conflict : (kinds : MailKinds) → AreMailKinds kinds → (app : App) (words : List Text) (m : ArgMatches) → Succeeds kinds app words m → (rows : List Row)
+    → IsEntered kinds words (codes "threads") rows → true ≡ has_items_and_order rows → (error : Error) → kind_of error ≡ ArgumentConflict → FailsByWords words (Err error)
+has_conflict kinds are app words m parse rows enters both error is = record {
+  kinds = kinds;
+  kinds_are = are;
+  fails = subst (λ (fault : Kinds). HasKind fault error) (sym (usage_of kinds are app words m parse (codes "threads") rows enters _ (threads_conflict rows true both))) (inr (inl is));
+}
 
 -- the subcommand's entries are what the words ask for
 asks_for : (kinds : MailKinds) → AreMailKinds kinds → (words : List Text) (rows : List Row) (name : Text) (job : Job) → IsEntered kinds words name rows
@@ -136,8 +164,11 @@ returns-in-Some-clause-job g c =
 
 pub returns-in-Some-clause-fault : goal.returns-in-Some-clause-fault
 returns-in-Some-clause-fault g c =
-    has_none _ refl (app_of c.in_ok-command.field-0) _ c.in_ok-matches.matches
-    (record { is = c.in_ok-command.ensures; matches = c.in_ok-matches.ensures.matches; faults = c.in_ok-matches.ensures.kinds }) _
+    let words = map g.S.AsStr.text c.args.words.now in
+    let parse : Succeeds _ (app_of c.in_ok-command.field-0) words c.in_ok-matches.matches =
+    record { is = c.in_ok-command.ensures; matches = c.in_ok-matches.ensures.matches; faults = c.in_ok-matches.ensures.kinds } in
+    let rows = rows_of (found_of c.in-Some.run'.now) in
+    has_none _ refl _ words _ parse (codes "run") rows (entered _ refl _ words _ (codes "run") rows parse (c.in-Some.ensures.found.0 refl) c.in-Some.ensures.rows) refl c.run_job.result
 
 pub check_job-requires : goal.check_job-requires
 check_job-requires g c =
@@ -160,8 +191,11 @@ returns-in-Some-subcommand_matches-clause-job g c =
 
 pub returns-in-Some-subcommand_matches-clause-fault : goal.returns-in-Some-subcommand_matches-clause-fault
 returns-in-Some-subcommand_matches-clause-fault g c =
-    has_none _ refl (app_of c.in_ok-command.field-0) _ c.in_ok-matches.matches
-    (record { is = c.in_ok-command.ensures; matches = c.in_ok-matches.ensures.matches; faults = c.in_ok-matches.ensures.kinds }) _
+    let words = map g.S.AsStr.text c.args.words.now in
+    let parse : Succeeds _ (app_of c.in_ok-command.field-0) words c.in_ok-matches.matches =
+    record { is = c.in_ok-command.ensures; matches = c.in_ok-matches.ensures.matches; faults = c.in_ok-matches.ensures.kinds } in
+    let rows = rows_of (found_of c.in-Some-subcommand_matches.check.now) in
+    has_none _ refl _ words _ parse (codes "check") rows (entered _ refl _ words _ (codes "check") rows parse (c.in-Some-subcommand_matches.ensures.found.0 refl) c.in-Some-subcommand_matches.ensures.rows) refl c.check_job.result
 
 pub unreachable-requires : goal.unreachable-requires
 unreachable-requires g c =
@@ -196,8 +230,11 @@ returns-in-Some-subcommand_matches-2-clause-job g c =
 
 pub returns-in-Some-subcommand_matches-2-clause-fault : goal.returns-in-Some-subcommand_matches-2-clause-fault
 returns-in-Some-subcommand_matches-2-clause-fault g c =
-    has_none _ refl (app_of c.in_ok-command.field-0) _ c.in_ok-matches.matches
-    (record { is = c.in_ok-command.ensures; matches = c.in_ok-matches.ensures.matches; faults = c.in_ok-matches.ensures.kinds }) _
+    let words = map g.S.AsStr.text c.args.words.now in
+    let parse : Succeeds _ (app_of c.in_ok-command.field-0) words c.in_ok-matches.matches =
+    record { is = c.in_ok-command.ensures; matches = c.in_ok-matches.ensures.matches; faults = c.in_ok-matches.ensures.kinds } in
+    let rows = rows_of (found_of c.in-Some-subcommand_matches-2.cut.now) in
+    has_none _ refl _ words _ parse (codes "cut") rows (entered _ refl _ words _ (codes "cut") rows parse (c.in-Some-subcommand_matches-2.ensures.found.0 refl) c.in-Some-subcommand_matches-2.ensures.rows) refl c.cut_job.result
 
 pub replay_job-requires : goal.replay_job-requires
 replay_job-requires g c =
@@ -224,8 +261,11 @@ returns-in-Some-subcommand_matches-3-clause-job g c =
 
 pub returns-in-Some-subcommand_matches-3-clause-fault : goal.returns-in-Some-subcommand_matches-3-clause-fault
 returns-in-Some-subcommand_matches-3-clause-fault g c =
-    has_none _ refl (app_of c.in_ok-command.field-0) _ c.in_ok-matches.matches
-    (record { is = c.in_ok-command.ensures; matches = c.in_ok-matches.ensures.matches; faults = c.in_ok-matches.ensures.kinds }) _
+    let words = map g.S.AsStr.text c.args.words.now in
+    let parse : Succeeds _ (app_of c.in_ok-command.field-0) words c.in_ok-matches.matches =
+    record { is = c.in_ok-command.ensures; matches = c.in_ok-matches.ensures.matches; faults = c.in_ok-matches.ensures.kinds } in
+    let rows = rows_of (found_of c.in-Some-subcommand_matches-3.replay.now) in
+    has_none _ refl _ words _ parse (codes "replay") rows (entered _ refl _ words _ (codes "replay") rows parse (c.in-Some-subcommand_matches-3.ensures.found.0 refl) c.in-Some-subcommand_matches-3.ensures.rows) refl c.replay_job.result
 
 pub threads_job-requires : goal.threads_job-requires
 threads_job-requires g c =
@@ -243,16 +283,37 @@ threads_job-requires g c =
       items = subst (λ (o : Option Text). IfSome o (IsUnsignedIn 0 255)) (sym (first_value-rows found (codes "items"))) threads.items;
     }
 
-pub returns-clause-job : goal.returns-clause-job
-returns-clause-job g c =
+pub returns-in-Some-threads_job-clause-job : goal.returns-in-Some-threads_job-clause-job
+returns-in-Some-threads_job-clause-job g c =
     let words = map g.S.AsStr.text c.args.words.now in
     let parse : Succeeds _ (app_of c.in_ok-command.field-0) words c.in_ok-matches.matches =
     record { is = c.in_ok-command.ensures; matches = c.in_ok-matches.ensures.matches; faults = c.in_ok-matches.ensures.kinds } in
     let sub = c.in-Some-subcommand_matches-4 in
     let rows = rows_of (found_of sub.threads.now) in
-    asks_for _ refl words rows (codes "threads") c.threads_job.result (entered _ refl _ words _ (codes "threads") rows parse (sub.ensures.found.0 refl) sub.ensures.rows) c.threads_job.ensures
+    let enters = entered _ refl _ words _ (codes "threads") rows parse (sub.ensures.found.0 refl) sub.ensures.rows in
+    asks_for _ refl words rows (codes "threads") c.in-Some-threads_job.job enters c.in-Some-threads_job.ensures.entries
+
+pub returns-in-Some-threads_job-clause-fault : goal.returns-in-Some-threads_job-clause-fault
+returns-in-Some-threads_job-clause-fault g c =
+    let words = map g.S.AsStr.text c.args.words.now in
+    let parse : Succeeds _ (app_of c.in_ok-command.field-0) words c.in_ok-matches.matches =
+    record { is = c.in_ok-command.ensures; matches = c.in_ok-matches.ensures.matches; faults = c.in_ok-matches.ensures.kinds } in
+    let sub = c.in-Some-subcommand_matches-4 in
+    let rows = rows_of (found_of sub.threads.now) in
+    let enters = entered _ refl _ words _ (codes "threads") rows parse (sub.ensures.found.0 refl) sub.ensures.rows in
+    has_none _ refl _ words _ parse (codes "threads") rows enters (threads_conflict rows false c.in-Some-threads_job.ensures.none) c.in-Some-threads_job.job
+
+pub returns-in_err-conflict-in-None-clause-fault : goal.returns-in_err-conflict-in-None-clause-fault
+returns-in_err-conflict-in-None-clause-fault g c =
+    let p = err_from_is_err_and c.from_residual-in_err-conflict-in-None.result c.from_residual-in_err-conflict-in-None.ensures.1 in
+    rw p.1 (has_no_memory _ refl _ c.command.ensures _ p.0 p.2)
 
 pub returns-clause-fault : goal.returns-clause-fault
 returns-clause-fault g c =
-    has_none _ refl (app_of c.in_ok-command.field-0) _ c.in_ok-matches.matches
-    (record { is = c.in_ok-command.ensures; matches = c.in_ok-matches.ensures.matches; faults = c.in_ok-matches.ensures.kinds }) _
+    let words = map g.S.AsStr.text c.args.words.now in
+    let parse : Succeeds _ (app_of c.in_ok-command.field-0) words c.in_ok-matches.matches =
+    record { is = c.in_ok-command.ensures; matches = c.in_ok-matches.ensures.matches; faults = c.in_ok-matches.ensures.kinds } in
+    let sub = c.in-Some-subcommand_matches-4 in
+    let rows = rows_of (found_of sub.threads.now) in
+    let enters = entered _ refl _ words _ (codes "threads") rows parse (sub.ensures.found.0 refl) sub.ensures.rows in
+    has_conflict _ refl _ words _ parse rows enters c.in-None.ensures.none c.in_ok-conflict-in-None.field-0 c.in_ok-conflict-in-None.ensures

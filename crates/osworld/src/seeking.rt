@@ -1,0 +1,175 @@
+//! How an order is sought, by the clocks of the items. Nothing is promised of the turns that are found: whether they are an
+//! order is seen by playing them.
+
+use crate::worlds::World;
+use osbase::{Item, List, Report, SPINLOCKS, Schedule, SpinlockId, Stimuli, Turn};
+use osplan::Config;
+use std::alloc::{AllocError, Global};
+
+/// The turns that were found until no core could go on: of the cores whose next item the world admits, the one whose item has the
+/// least clock takes it, and of several the one of the least number. None where memory is refused.
+pub(crate) fn turns_sought(
+    alloc: Global,
+    config: &Config,
+    stimuli: &Stimuli,
+    reports: &[Report],
+) -> Option<Schedule> {
+    let mut world = World::new(alloc, config, stimuli.as_slice()).ok()?;
+    let mut tracks = tracks_of(alloc, reports).ok()?;
+    let mut turns = List::new(alloc);
+    for _ in 0..count_of(reports) {
+        let Some((at, turn)) = next_turn(tracks.as_slice(), &world) else {
+            break;
+        };
+        world.turn(turn.0, turn.1).ok()?;
+        turns.push(turn).ok()?;
+        if let Some(track) = tracks.get_mut(at) {
+            track.pass();
+        }
+    }
+    Some(turns)
+}
+
+// How many items the reports have.
+fn count_of(reports: &[Report]) -> usize {
+    let mut count: usize = 0;
+    for report in reports {
+        count = count.saturating_add(report.items.len());
+    }
+    count
+}
+
+// The place of the core that takes its item next, with its turn.
+fn next_turn(tracks: &[Track], world: &World) -> Option<(usize, Turn)> {
+    let mut least: Option<u64> = None;
+    let mut found = None;
+    for (at, track) in tracks.iter().enumerate() {
+        let Some((item, clock)) = track.next() else {
+            continue;
+        };
+        if is_reached(least, clock) || waits(tracks, item, clock) {
+            continue;
+        }
+        if let Some(choice) = world.choice_for(track.report.core, item) {
+            least = Some(clock);
+            found = Some((at, (track.report.core, choice)));
+        }
+    }
+    found
+}
+
+// Whether another core's item with at most this clock was found.
+fn is_reached(least: Option<u64>, clock: u64) -> bool {
+    match least {
+        Some(least) => least <= clock,
+        None => false,
+    }
+}
+
+// Whether the item takes a spinlock that an item with a smaller clock is to take or free before.
+fn waits(tracks: &[Track], item: &Item, clock: u64) -> bool {
+    match spinlock_taken(item) {
+        Some(spinlock) => tracks
+            .iter()
+            .any(|track| track.uses_before(spinlock, clock)),
+        None => false,
+    }
+}
+
+// The items of one core that are still to be played.
+#[derive(Drop)]
+struct Track<'a> {
+    report: &'a Report,
+    // The place of the next item, and for each spinlock that of the next item that takes or frees it.
+    place: usize,
+    uses: [usize; SPINLOCKS],
+}
+
+fn tracks_of(alloc: Global, reports: &[Report]) -> Result<Vec<Track<'_>>, AllocError> {
+    let mut tracks = Vec::with_capacity(alloc, reports.len())?;
+    for report in reports {
+        tracks.push(Track {
+            report,
+            place: 0,
+            uses: first_uses(report.items.as_slice()),
+        })?;
+    }
+    Ok(tracks)
+}
+
+impl<'a> Track<'a> {
+    // The next item, with its clock.
+    fn next(&self) -> Option<(&'a Item, u64)> {
+        let item = self.report.items.as_slice().get(self.place)?;
+        let clock = self.report.clocks.as_slice().get(self.place)?;
+        Some((item, *clock))
+    }
+
+    // Whether the core is to take or free the spinlock by an item with a smaller clock.
+    fn uses_before(&self, spinlock: SpinlockId, clock: u64) -> bool {
+        match self.clock_of_use(spinlock) {
+            Some(own) => own < clock,
+            None => false,
+        }
+    }
+
+    fn clock_of_use(&self, spinlock: SpinlockId) -> Option<u64> {
+        let place = self.uses.get(usize::from(spinlock.index))?;
+        let clock = self.report.clocks.as_slice().get(*place)?;
+        Some(*clock)
+    }
+
+    // The next item is played.
+    fn pass(&mut self) {
+        let items = self.report.items.as_slice();
+        let played = self.place;
+        self.place = played.saturating_add(1);
+        let Some(spinlock) = items.get(played).and_then(spinlock_used) else {
+            return;
+        };
+        if let Some(place) = self.uses.get_mut(usize::from(spinlock.index)) {
+            *place = next_use(items, self.place, spinlock);
+        }
+    }
+}
+
+// The spinlock that the item takes.
+fn spinlock_taken(item: &Item) -> Option<SpinlockId> {
+    match item {
+        Item::Granted(spinlock)
+        | Item::Tried {
+            spinlock,
+            taken: true,
+        } => Some(*spinlock),
+        _ => None,
+    }
+}
+
+// The spinlock that the item takes or frees.
+fn spinlock_used(item: &Item) -> Option<SpinlockId> {
+    match item {
+        Item::Freed(spinlock) => Some(*spinlock),
+        _ => spinlock_taken(item),
+    }
+}
+
+// For each spinlock the place of the first item that takes or frees it.
+fn first_uses(items: &[Item]) -> [usize; SPINLOCKS] {
+    let mut uses = [0; SPINLOCKS];
+    for index in 0..SPINLOCKS as u8 {
+        uses[usize::from(index)] = next_use(items, 0, SpinlockId { index });
+    }
+    uses
+}
+
+// The place of the first item from this place on that takes or frees the spinlock: behind the last where none does.
+fn next_use(items: &[Item], from: usize, spinlock: SpinlockId) -> usize {
+    for place in from..items.len() {
+        if let Some(used) = spinlock_used(&items[place]) {
+            if used.index == spinlock.index {
+                return place;
+            }
+        }
+    }
+    items.len()
+}
