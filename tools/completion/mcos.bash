@@ -50,7 +50,7 @@ _mcos_read_words() {
             wanted=$word
             given+=" $word "
         elif [[ $word == -* ]]; then
-            continue
+            given+=" $word "
         elif [[ $command ]]; then
             arguments+=("$word")
         else
@@ -72,7 +72,7 @@ _mcos_offer_options() {
     case $command in
         '') _mcos_offer "$1" '-h --help -V --version' ;;
         run) _mcos_offer_unused "$1" '--schedule --items' ;;
-        threads) _mcos_offer_unused "$1" '--turns --mail --items' ;;
+        threads) _mcos_offer_unused "$1" '--turns --mail --items --order' ;;
         check | cut | replay) _mcos_offer "$1" '-h --help' ;;
     esac
 }

@@ -67,8 +67,9 @@ class Help:
 
     def usage(self, command: str) -> str:
         """The words of a command, as the manual page has them."""
-        with_value = ["[%s %s]" % (option.long, option.value) for option in self.options if option.value]
-        return " ".join([command, *self.arguments, *with_value])
+        own = [option for option in self.options if not option.short]
+        optional = ["[%s]" % " ".join(filter(None, (option.long, option.value))) for option in own]
+        return " ".join([command, *self.arguments, *optional])
 
 
 def sections(text):
@@ -298,12 +299,13 @@ BASH_CASES = [
     (["replay", "config.json", "0", "notes.txt", ""], []),
     (["threads", "config.json", ""], FILES),
     (["threads", "config.json", "stimuli.json", ""], []),
-    (["threads", "-"], ["--help", "--items", "--mail", "--turns", "-h"]),
+    (["threads", "-"], ["--help", "--items", "--mail", "--order", "--turns", "-h"]),
     (["threads", "--mail", ""], ["locked", "ring"]),
     (["threads", "--mail", "=", "l"], ["locked"]),
     (["threads", "--mail", "=", "r"], ["ring"]),
     (["threads", "--turns", ""], []),
-    (["threads", "--turns", "1000", "--mail", "locked", "-"], ["--help", "--items", "-h"]),
+    (["threads", "--turns", "1000", "--mail", "locked", "-"], ["--help", "--items", "--order", "-h"]),
+    (["threads", "--order", "--o"], []),
     (["threads", "config.json", "--items", ""], ["0", "12", "17"]),
 ]
 
