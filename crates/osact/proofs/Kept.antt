@@ -1,8 +1,8 @@
 -- Once for all acts: what they do to one history they do to every history that reads the same.
-use Rattle.std.proofs.Common.{◌≡◌, ◌||◌, ℤ, Bool, true, false, cond, Option, Some, None, IfSome, option_map, unwrap_or, List, [], ◌∷◌, refl, subst}
+use Rattle.std.proofs.Common.{◌≡◌, ◌&&◌, ◌||◌, ℤ, Bool, true, false, cond, Option, Some, None, IfSome, option_map, unwrap_or, List, [], ◌∷◌, refl, subst}
 use Rattle.std.specs.List.{list_all}
 use Rattle.std.specs.Option.{option_map_or}
-use Rattle.std.proofs.lemmas.Bool.{and_parts}
+use Rattle.std.proofs.lemmas.Bool.{and_from, and_parts}
 use Rattle.osbase.specs.declared.statuses.Status.{Status}
 use Rattle.osbase.specs.declared.statuses.ServiceId.{ServiceId}
 use Rattle.osbase.specs.declared.references.CoreId.{CoreId}
@@ -55,10 +55,11 @@ pub record Leave : Type 0 where
   pub named : (core : CoreId) → is_within view may core ≡ true → names core ≡ true
   pub own_named : names view.own.id ≡ true
 
--- An act names only objects of such cores, asks only those that may be asked, and answers only those that may be answered.
+-- An act names only objects of such cores, the runner of a call too, asks only those that may be asked, and answers only those that may
+-- be answered.
 abbrev pub is_allowed : Leave → Act → Bool
 is_allowed l (Prints m) = names_only l.names m
-is_allowed l (Notes (Opened call)) = may_open l.may call
+is_allowed l (Notes (Opened call)) = may_open l.may call && l.names (core_of_runner call.runner)
 is_allowed l (Notes (Queued core letter)) = false
 is_allowed l (Notes n) = true
 is_allowed l (Sends core (Message.Reply status)) = l.answered core
@@ -83,12 +84,12 @@ pub record IsSeen (l : Leave) (s : Seen) : Type 0 where
   pub awaits : option_map_or (λ (call : OpenCall). l.names (core_of_runner call.runner)) s.awaits true ≡ true
 
 -- Each kind of entry that acts may add keeps it: one of the core itself, a letter to a core that may be asked, a reply to
--- one that may be answered, and a call whose answer may be asked for.
+-- one that may be answered, and a call whose answer may be asked for, of a runner that marks may name.
 pub record KeepsEntries (l : Leave) (R : History → History → Type 0) : Type 0 where
   pub local : (e : Entry) (h k : History) → is_local l.names e ≡ true → R h k → R (e ∷ h) (e ∷ k)
   pub asked : (core : CoreId) (message : Message) (h k : History) → l.may (Partner.Core core) ≡ true → R h k → R (act (Sends core message) h) (act (Sends core message) k)
   pub replied : (core : CoreId) (s : Status) (value : Option ℤ) (h k : History) → l.answered core ≡ true → R h k → R (act (Sends core (reply s value)) h) (act (Sends core (reply s value)) k)
-  pub opened : (call : OpenCall) (h k : History) → may_open l.may call ≡ true → R h k → R (Noted (Opened call) ∷ h) (Noted (Opened call) ∷ k)
+  pub opened : (call : OpenCall) (h k : History) → may_open l.may call ≡ true → l.names (core_of_runner call.runner) ≡ true → R h k → R (Noted (Opened call) ∷ h) (Noted (Opened call) ∷ k)
 
 -- A relation of histories that they keep, and where it holds the core reads the same, of all cores too if it may. The second history
 -- is that of a core with this around it.
@@ -115,7 +116,7 @@ module _ (l : Leave) where
   module _ (around : Around) (R : History → History → Type 0) (kept : IsKept l around R) where
     one-kept : (a : Act) → is_allowed l a ≡ true → (h k : History) → R h k → R (act a h) (act a k)
     one-kept (Prints m) ok h k p = kept.holds.local (Printed m) h k ok p
-    one-kept (Notes (Opened call)) ok h k p = kept.holds.opened call h k ok p
+    one-kept (Notes (Opened call)) ok h k p = let parts = and_parts (may_open l.may call) _ ok in kept.holds.opened call h k parts.0 parts.1 p
     one-kept (Notes (Queued core letter)) ok h k p = cc
     one-kept (Notes n) ok h k p = kept.holds.local (Noted n) h k ok p
     one-kept (Sends core (Message.Reply status)) ok h k p = kept.holds.replied core status None h k ok p
@@ -162,17 +163,17 @@ module _ (l : Leave) where
   pub answers-ok : (r : Runner) (service : ServiceId) (checks : List Check) (effect : Acts) → IsNamed r → (is_ok_status (first_failing checks) ≡ true → AreAllowed effect) → AreAllowed (answers r service checks effect)
   answers-ok r service checks effect n ok = (ok, λ e. returns-ok r service (first_failing checks) None n)
 
-  pub asks-ok : (r : Runner) (service : ServiceId) (core : CoreId) (call : RemoteCall) → names_only l.names (Mark.CallQueued core call) ≡ true → l.may (Partner.Core core) ≡ true → AreAllowed (asks r service core call)
-  asks-ok r service core call n m = (n, (m, (m, tt)))
+  pub asks-ok : (r : Runner) (service : ServiceId) (core : CoreId) (call : RemoteCall) → IsNamed r → names_only l.names (Mark.CallQueued core call) ≡ true → l.may (Partner.Core core) ≡ true → AreAllowed (asks r service core call)
+  asks-ok r service core call n named m = (named, (m, (and_from _ _ m n, tt)))
 
   -- What is not the core's own may be asked.
   pub elsewhere : (s : Seen) → IsSeen l s → (core : CoreId) → is_own s core ≡ false → is_within l.view l.may core ≡ true → l.may (Partner.Core core) ≡ true
   elsewhere s seen core other within = rw (← seen.id, other) at within
 
   -- On an object of the own core this is done, and another core is asked.
-  pub crosses-ok : (r : Runner) (service : ServiceId) (core : CoreId) (call : RemoteCall) (here : Seen → Acts) → names_only l.names (Mark.CallQueued core call) ≡ true → is_within l.view l.may core ≡ true → ((s : Seen) → AreAllowed (here s))
+  pub crosses-ok : (r : Runner) (service : ServiceId) (core : CoreId) (call : RemoteCall) (here : Seen → Acts) → IsNamed r → names_only l.names (Mark.CallQueued core call) ≡ true → is_within l.view l.may core ≡ true → ((s : Seen) → AreAllowed (here s))
       → AreAllowed (look (λ s. when (is_own s core) (here s) (asks r service core call)))
-  crosses-ok r service core call here named within ok s seen = (λ own. ok s, λ other. asks-ok r service core call named (elsewhere s seen core other within))
+  crosses-ok r service core call here n named within ok s seen = (λ own. ok s, λ other. asks-ok r service core call n named (elsewhere s seen core other within))
 
   -- What follows from what is found, if anything is.
   pub found-ok : {A : Type 0} (f : A → Acts) (o : Option A) → ((x : A) → o ≡ Some x → AreAllowed (f x)) → AreAllowed (option_map_or f o nothing)

@@ -1,15 +1,19 @@
--- Whom a core asks beside itself: another core, by a letter; what all cores share, which is who of them is configured and who is
--- started; and all of them, that they shut down.
+-- Whom a core asks beside itself: another core, by a letter; a spinlock; what all cores share, which is who of them is configured, who is
+-- started, and how the spinlocks are nested; and all of them, that they shut down.
 use Rattle.osbase.specs.declared.references.CoreId.{CoreId}
+use Rattle.osbase.specs.declared.references.SpinlockId.{SpinlockId}
 use Rattle.osbase.specs.declared.histories.Awaited.{Awaited}
 
 pub data Partner : Type 0 where
   Core : CoreId → Partner
+  Spinlock : SpinlockId → Partner
   Shared : Partner
   Halt : Partner
 
--- Of whom a call awaits its answer. Spinlocks are shared by all cores.
+-- Of whom a call awaits its answer.
 abbrev pub partner_of : Awaited → Partner
 partner_of (Awaited.Reply service core) = Partner.Core core
 partner_of (Awaited.Halt status) = Partner.Halt
-partner_of awaited = Partner.Shared
+partner_of (Awaited.Get l) = Partner.Spinlock l
+partner_of (Awaited.Try l) = Partner.Spinlock l
+partner_of (Awaited.Release l) = Partner.Spinlock l

@@ -1,6 +1,7 @@
 -- Which acts a service that may cross does: it names only objects of cores that marks may name, and asks only cores that may be
 -- asked. The check makes the cases of a table itself: the first clause is only there to begin them.
 use Rattle.std.proofs.Common.{◌≡◌, ℤ, true, Option, Some, None, IfSome, refl}
+use Rattle.std.proofs.lemmas.Bool.{and_from}
 use Rattle.osbase.specs.declared.statuses.Status.{Status}
 use Rattle.osbase.specs.declared.statuses.ServiceId.{ServiceId}
 use Rattle.osbase.specs.declared.references.CoreId.{CoreId}
@@ -34,14 +35,14 @@ module _ (l : Leave) where
   called-ok r op id (Some call) n is allowed =
       let within = called-passes (λ (o : Object). is_within l.view l.may o.place.core) op id call is allowed.objects in
       let named = l.named (core_of_call call) within in
-      assumption (crosses-ok l r id (core_of_call call) call (λ s. serves r id (service_of call s)) named within (λ s. serves-ok l r id (service_of call s) n (service-ok call named s)))
+      assumption (crosses-ok l r id (core_of_call call) call (λ s. serves r id (service_of call s)) n named within (λ s. serves-ok l r id (service_of call s) n (service-ok call named s)))
 
   -- Whoever starts or counts cores asks for what they share, and whoever shuts all down asks them all.
   pub core_acts-ok : (r : Runner) (op : Op) → IsNamed l r → IsAllowed l.view l.may op → IfSome (core_acts r op) (AreAllowed l)
   core_acts-ok r (Op.StartCore target) n allowed = (allowed.shared refl, λ all. returns-ok l r ServiceId.StartCore (first_failing (starting_checks all target)) None n)
   core_acts-ok r (Op.GetNumberOfActivatedCores x) n allowed = (allowed.shared refl, λ all. (n, (refl, tt)))
   core_acts-ok r (Op.ShutdownOs status) n allowed = (refl, (refl, tt))
-  core_acts-ok r (Op.ShutdownAllCores status) n allowed = (allowed.halt refl, tt)
+  core_acts-ok r (Op.ShutdownAllCores status) n allowed = (and_from _ _ (allowed.halt refl) n, tt)
   core_acts-ok r op n allowed = tt
 
   pub script_acts-ok : (r : Runner) (op : Op) → IsNamed l r → IfSome (script_acts r op) (AreAllowed l)

@@ -16,6 +16,6 @@ module _ (l : Leave) where
   chain_acts-ok r (Op.ChainTask (Some t)) n allowed =
       let within = (and_parts (is_within l.view l.may t.core) true allowed.objects).0 in
       let named = l.named t.core within in
-      let chained : AreAllowed l (chains_to r t) = crosses-ok l r ServiceId.ChainTask t.core (RemoteCall.ActivateTask t) (λ s. chains_here r t) named within (λ s q seen. assumption (ends-ok l r n, named)) in
+      let chained : AreAllowed l (chains_to r t) = crosses-ok l r ServiceId.ChainTask t.core (RemoteCall.ActivateTask t) (λ s. chains_here r t) n named within (λ s q seen. assumption (ends-ok l r n, named)) in
       assumption
   chain_acts-ok r op n allowed = assumption

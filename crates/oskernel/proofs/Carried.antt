@@ -7,6 +7,7 @@ use Rattle.std.proofs.lemmas.Bool.{and_from, and_parts, or_right}
 use Rattle.osbase.specs.declared.statuses.Status.{Status}
 use Rattle.osbase.specs.declared.statuses.Status.TheVariants.{EOk}
 use Rattle.osbase.specs.declared.references.CoreId.{CoreId}
+use Rattle.osbase.specs.declared.references.SpinlockId.{SpinlockId}
 use Rattle.osbase.specs.declared.references.TaskRef.{TaskRef}
 use Rattle.osbase.specs.declared.references.Runner.{Runner}
 use Rattle.osbase.specs.declared.messages.Message.{Message}
@@ -29,6 +30,7 @@ use Rattle.osstate.specs.State.{state_of}
 use Rattle.osact.specs.Acts.{Acts, does}
 use Rattle.osact.specs.Seen.{Seen, seen_of}
 use Rattle.osact.specs.Service.{answer_of}
+use Rattle.osact.proofs.Called.{locks-any}
 use Rattle.osact.proofs.Kept.{AreAllowed, IsKept, IsNamed, IsSeen, Leave, anybody, each-ok, found-ok, is_within, kept-by, replies-ok, reports-ok, returns-ok, seen_as}
 use Rattle.osact.proofs.Partners.{Partner}
 use Rattle.ostaskcall.proofs.Allowed.{ends-ok, ends_unasked-ok}
@@ -48,19 +50,19 @@ is_replied replies names (Item.Received from number (Message.Action call)) = nam
 is_replied replies names (Item.Stim (Stimulus.Irq isr)) = names isr.core
 is_replied replies names item = true
 
--- Each operation of the core's scripts names the own core, or one that may be asked, if it names one, and asks for what all cores share,
--- or for their shutdown, only if it may; and each alarm and each schedule table acts on one of these cores.
+-- Each operation of the core's scripts names the own core, or one that may be asked, if it names one, and asks for a spinlock, for what
+-- all cores share, or for their shutdown, only if it may; and each alarm and each schedule table acts on one of these cores.
 pub record NamesAllow (v : View) (may : Partner → Bool) : Type 0 where
   pub scripts : (r : Runner) (n : ℕ) (op : Op) → slice_get (script_of v.own r) n ≡ Some op → IsAllowed v may op
   pub actions : ActionsAllow v may
 
--- Where every core may be asked, nothing is demanded of the objects that are named.
-pub allow-cores : (v : View) (may : Partner → Bool) → ((core : CoreId) → may (Partner.Core core) ≡ true)
+-- Where every core may be asked, and every spinlock asked for, nothing is demanded of the objects that are named.
+pub allow-cores : (v : View) (may : Partner → Bool) → ((core : CoreId) → may (Partner.Core core) ≡ true) → ((l : SpinlockId) → may (Partner.Spinlock l) ≡ true)
     → ((r : Runner) (n : ℕ) (op : Op) → slice_get (script_of v.own r) n ≡ Some op → asks_shared op ≡ true → may Partner.Shared ≡ true)
     → ((r : Runner) (n : ℕ) (op : Op) → slice_get (script_of v.own r) n ≡ Some op → halts_all op ≡ true → may Partner.Halt ≡ true)
     → NamesAllow v may
-allow-cores v may each_core shared halt = record {
-  scripts = λ r n op e. record { objects = each (objects_of op) _; shared = shared r n op e; halt = halt r n op e };
+allow-cores v may each_core each_lock shared halt = record {
+  scripts = λ r n op e. record { objects = each (objects_of op) _; locks = locks-any may each_lock (objects_of op); shared = shared r n op e; halt = halt r n op e };
   actions = each (core_actions v.own) _;
 }
   where
@@ -70,7 +72,7 @@ allow-cores v may each_core shared halt = record {
 
 -- Where all may be asked and answered, nothing is demanded.
 pub allow-anybody : (v : View) → NamesAllow v anybody
-allow-anybody v = allow-cores v anybody (λ core. refl) (λ r n op e asks. refl) (λ r n op e halts. refl)
+allow-anybody v = allow-cores v anybody (λ core. refl) (λ l. refl) (λ r n op e asks. refl) (λ r n op e halts. refl)
 
 pub replied-anybody : (item : Item) → is_replied anybody anybody item ≡ true
 replied-anybody item = grind arith

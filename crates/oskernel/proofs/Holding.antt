@@ -9,6 +9,7 @@ use Rattle.osbase.specs.declared.marks.Mark.{Mark}
 use Rattle.osbase.specs.declared.histories.OpenCall.{OpenCall}
 use Rattle.osbase.specs.Answers.{reply}
 use Rattle.osbase.specs.History.{Entry, History, Note, current_task, Took, Printed, Noted, Opened}
+use Rattle.osbase.specs.Marks.{core_of_runner}
 use Rattle.osplan.specs.View.{View}
 use Rattle.osstate.specs.Readings.{knows_started}
 use Rattle.osact.specs.Acts.{Sends, act}
@@ -19,12 +20,12 @@ use Rattle.oskernel.specs.Step.{after}
 use Rattle.oskernel.proofs.Carried.{NamesActing, NamesAllow, acting-anybody, after-carried, allow-anybody, is_replied, leave_all, next_of, replied-anybody}
 
 -- Each kind of entry that follows from an item keeps it: one of the core itself, a letter to a core that may be
--- asked, a reply to one that may be answered, and a call whose answer may be asked for.
+-- asked, a reply to one that may be answered, and a call whose answer may be asked for, of a runner that marks may name.
 pub record Holds (may : Partner → Bool) (replies names : CoreId → Bool) (P : History → Type 0) : Type 0 where
   pub local : (e : Entry) (h : History) → is_local names e ≡ true → P h → P (e ∷ h)
   pub asked : (core : CoreId) (message : Message) (h : History) → may (Partner.Core core) ≡ true → P h → P (act (Sends core message) h)
   pub replied : (core : CoreId) (s : Status) (value : Option ℤ) (h : History) → replies core ≡ true → P h → P (act (Sends core (reply s value)) h)
-  pub opened : (call : OpenCall) (h : History) → may_open may call ≡ true → P h → P (Noted (Opened call) ∷ h)
+  pub opened : (call : OpenCall) (h : History) → may_open may call ≡ true → names (core_of_runner call.runner) ≡ true → P h → P (Noted (Opened call) ∷ h)
 
 -- Where nobody is asked or answered, only entries of the core itself follow.
 pub holds-local : (names : CoreId → Bool) (P : History → Type 0) → ((e : Entry) (h : History) → is_local names e ≡ true → P h → P (e ∷ h)) → Holds nobody nobody names P
@@ -32,7 +33,7 @@ holds-local names P local = record {
   local = local;
   asked = λ core message h m p. absurd (false≢true m);
   replied = λ core s value h m p. absurd (false≢true m);
-  opened = λ call h m p. absurd (false≢true m);
+  opened = λ call h m n p. absurd (false≢true m);
 }
 
 -- Where marks may name objects of the own core, of those that may be asked, and who acts, it holds after an item.
@@ -51,7 +52,7 @@ module _ (l : Leave) (P : History → Type 0) (holds : Holds l.may l.answered l.
       local = λ e h k m p. both (λ n. e ∷ n) h k p (holds.local e k m);
       asked = λ core message h k m p. both (act (Sends core message)) h k p (holds.asked core message k m);
       replied = λ core s value h k m p. both (act (Sends core (reply s value))) h k p (holds.replied core s value k m);
-      opened = λ call h k m p. both (λ n. Noted (Opened call) ∷ n) h k p (holds.opened call k m);
+      opened = λ call h k m named p. both (λ n. Noted (Opened call) ∷ n) h k p (holds.opened call k m named);
     };
     started = λ core h k m p. ap (λ (n : History). knows_started n core) p.same;
     shared = λ m h k p. ap (all_cores l.view) p.same;
@@ -74,7 +75,7 @@ kept_after P printed noted v h item =
       local = local;
       asked = λ core message k m p. noted _ k p;
       replied = λ core s value k m p. noted _ k p;
-      opened = λ call k m p. noted _ k p;
+      opened = λ call k m n p. noted _ k p;
     }) (allow-anybody v) h item (replied-anybody item)
   where
     local : (e : Entry) (k : History) → is_local anybody e ≡ true → P k → P (e ∷ k)

@@ -12,5 +12,6 @@ pub mod Calm
 pub mod Own
 pub mod Scripts
 pub mod Opened
+pub mod Locked
 pub mod Among
 pub mod Stepping

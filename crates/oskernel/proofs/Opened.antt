@@ -18,37 +18,42 @@ use Rattle.oskernel.proofs.Carried.{NamesAllow, passes, replied-anybody}
 use Rattle.oskernel.proofs.Holding.{Holds, holds-after}
 use Rattle.oskernel.proofs.Scripts.{but_halt, halt-allow}
 
-module _ (may : Partner → Bool) where
-  abbrev pub Asks : History → Type 0
-  Asks h = passes (open_call h) (may_open may) ≡ true
+-- An open call that passes a test stays so: it is not changed, but closed.
+module _ (test : OpenCall → Bool) where
+  abbrev pub Opens : History → Type 0
+  Opens h = passes (open_call h) test ≡ true
 
-  closed : (r : Runner) (o : Option OpenCall) → passes o (may_open may) ≡ true → passes (closed_by r o) (may_open may) ≡ true
+  closed : (r : Runner) (o : Option OpenCall) → passes o test ≡ true → passes (closed_by r o) test ≡ true
   closed r o p = grind arith
 
-  local : (e : Entry) (h : History) → is_local anybody e ≡ true → Asks h → Asks (e ∷ h)
-  local (Took item) h is p = absurd (false≢true is)
-  local (Noted (Opened call)) h is p = absurd (false≢true is)
-  local (Noted (Queued core letter)) h is p = absurd (false≢true is)
-  local (Noted (Done r status value)) h is p = closed r (open_call h) p
-  local (Printed (Mark.Terminated t)) h is p = closed (Runner.Task t) (open_call h) p
-  local (Printed (Mark.IsrLeft i)) h is p = closed (Runner.Isr i) (open_call h) p
-  local e h is p = p
+  pub opens-local : (names : CoreId → Bool) (e : Entry) (h : History) → is_local names e ≡ true → Opens h → Opens (e ∷ h)
+  opens-local names (Took item) h is p = absurd (false≢true is)
+  opens-local names (Noted (Opened call)) h is p = absurd (false≢true is)
+  opens-local names (Noted (Queued core letter)) h is p = absurd (false≢true is)
+  opens-local names (Noted (Done r status value)) h is p = closed r (open_call h) p
+  opens-local names (Printed (Mark.Terminated t)) h is p = closed (Runner.Task t) (open_call h) p
+  opens-local names (Printed (Mark.IsrLeft i)) h is p = closed (Runner.Isr i) (open_call h) p
+  opens-local names e h is p = p
 
-  took : (i : Item) (h : History) → Asks h → Asks (Took i ∷ h)
-  took (Item.Halt core status) h p = refl
-  took i h p = p
+  pub opens-took : (i : Item) (h : History) → Opens h → Opens (Took i ∷ h)
+  opens-took (Item.Halt core status) h p = refl
+  opens-took i h p = p
+
+module _ (may : Partner → Bool) where
+  abbrev pub Asks : History → Type 0
+  Asks h = Opens (may_open may) h
 
   holds : Holds may anybody anybody Asks
   holds = record {
-    local = local;
+    local = opens-local (may_open may) anybody;
     asked = λ core message h m p. p;
     replied = λ core status value h m p. p;
-    opened = λ call h m p. m;
+    opened = λ call h m n p. m;
   }
 
   module _ (v : View) (allowed : NamesAllow v may) where
     pub asks-after : (h : History) (i : Item) → Asks h → Asks (after v h i)
-    asks-after h i p = holds-after v may anybody Asks holds allowed h i (replied-anybody i) (took i h p)
+    asks-after h i p = holds-after v may anybody Asks holds allowed h i (replied-anybody i) (opens-took (may_open may) i h p)
 
     pub asks-always : (items : List Item) (h : History) → Asks h → Asks (history_from v h items)
     asks-always [] h p = p

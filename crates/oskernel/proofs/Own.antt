@@ -1,35 +1,44 @@
--- A core whose scripts and alarms name no other core's objects, and that takes no mail, prints marks of its own objects alone.
+-- A core prints marks of its own objects, and of those of cores that it may ask; and the runner whose call is open is of one of these.
 use native.Mathlib.Omega.{arith}
-use Rattle.std.proofs.Common.{◌≡◌, Bool, true, false, cond, not, Some, None, is_some, List, [], ◌∷◌, refl, ap, sym, ◌∙◌}
+use Rattle.std.proofs.Common.{◌≡◌, Bool, true, false, cond, Some, None, is_some, List, [], ◌∷◌, refl, ap, ◌∙◌}
 use Rattle.std.specs.List.{list_all, slice_get}
-use Rattle.std.proofs.lemmas.Bool.{and_parts, false≢true, not-true, true≢false}
+use Rattle.std.proofs.lemmas.Bool.{and_parts, false≢true}
 use Rattle.std.proofs.lemmas.List.Folds.{list_all-append}
-use Rattle.std.proofs.Math.Bool.{or-false}
 use Rattle.osbase.specs.declared.references.CoreId.{CoreId}
 use Rattle.osbase.specs.declared.references.IsrRef.{IsrRef}
 use Rattle.osbase.specs.declared.references.Runner.{Runner}
 use Rattle.osbase.specs.declared.items.Item.{Item}
 use Rattle.osbase.specs.declared.items.Stimulus.{Stimulus}
 use Rattle.osbase.specs.declared.histories.Job.{Job}
+use Rattle.osbase.specs.declared.histories.OpenCall.{OpenCall}
+use Rattle.osbase.specs.declared.messages.Message.{Message}
+use Rattle.osbase.specs.declared.messages.RemoteCall.{RemoteCall}
 use Rattle.osbase.specs.History.{Entry, History, current_task, live_jobs, marks_of, same_core}
 use Rattle.osbase.specs.Interrupts.{isr_jobs}
 use Rattle.osbase.specs.Marks.{core_of_runner, names_only}
+use Rattle.osbase.specs.Objects.{object_of_call}
+use Rattle.osbase.specs.Phases.{is_scheduling}
 use Rattle.osbase.proofs.Same.{same_core-true}
+use Rattle.oscript.specs.Calls.{is_action}
+use Rattle.oscall.specs.Border.{core_of_call}
+use Rattle.osplan.specs.Objects.{has_index}
 use Rattle.osplan.specs.Stimuli.{knows_stimulus}
 use Rattle.osplan.specs.View.{View}
-use Rattle.osstate.specs.Readings.{is_own, running}
+use Rattle.osstate.specs.Readings.{is_served, running}
 use Rattle.osstate.specs.State.{state_of}
 use Rattle.ostable.proofs.Asked.{dues-own}
-use Rattle.osact.proofs.Kept.{Leave, is_local, nobody}
+use Rattle.osact.proofs.Kept.{Leave, anybody, is_local, is_within}
+use Rattle.osact.proofs.Partners.{Partner}
 use Rattle.osadmit.specs.Admission.{admits}
 use Rattle.osawait.specs.Free.{may_go_on}
+use Rattle.osawait.specs.Messages.{is_awaited}
 use Rattle.oskernel.specs.Step.{after, history_from, outbox_size, solo_from}
-use Rattle.oskernel.proofs.Calm.{Calm, calm-local, calm-took}
 use Rattle.oskernel.proofs.Carried.{NamesActing, NamesAllow, is_replied, passes}
 use Rattle.oskernel.proofs.Idling.{best-passes, running-passes}
 use Rattle.oskernel.proofs.JobLists.{anew-all, without-all}
-use Rattle.oskernel.proofs.Holding.{holds-local, holds-named}
-use Rattle.oskernel.proofs.Stages.{is_mail, solo-parts}
+use Rattle.oskernel.proofs.Holding.{Holds, holds-named}
+use Rattle.oskernel.proofs.Opened.{Opens, opens-local, opens-took}
+use Rattle.oskernel.proofs.Stages.{solo-parts}
 
 -- ---- who acts: jobs begin by marks, and tasks run by them
 
@@ -65,48 +74,56 @@ module _ (own : CoreId → Bool) where
 
 -- ---- what the core prints
 
--- Its marks name its own objects alone, no call is open, and nothing waits in the outbox.
-pub record Inward (v : View) (h : History) : Type 0 where
-  pub own : list_all (names_only (is_own v)) (marks_of h) ≡ true
-  pub calm : Calm h
+-- Its marks name objects of such cores alone, and the runner whose call is open is of one.
+pub record Inside (names : CoreId → Bool) (h : History) : Type 0 where
+  pub own : list_all (names_only names) (marks_of h) ≡ true
+  pub caller : Opens (λ (call : OpenCall). names (core_of_runner call.runner)) h
 
-module _ (v : View) (allowed : NamesAllow v nobody) (same : is_own v v.own.id ≡ true) where
-  -- Such a core asks and answers nobody.
-  abbrev leave_own : Leave
-  leave_own = record { view = v; may = nobody; answered = nobody; names = is_own v; named = λ core within. sym (or-false (is_own v core)) ∙ within; own_named = same }
+module _ (v : View) (may : Partner → Bool) (names : CoreId → Bool) (allowed : NamesAllow v may) (named : (core : CoreId) → is_within v may core ≡ true → names core ≡ true) (own_named : names v.own.id ≡ true) where
+  abbrev leave_inside : Leave
+  leave_inside = record { view = v; may = may; answered = anybody; names = names; named = named; own_named = own_named }
 
-  acting : (h : History) → Inward v h → NamesActing leave_own h
+  acting : (h : History) → Inside names h → NamesActing leave_inside h
   acting h p =
-      let own = act-own (is_own v) h p.own in
-      let best = best-passes v h (own_job (is_own v)) own.jobs own.isrs in
-      let runs : passes (running v h) (own_job (is_own v)) ≡ true = running-passes v h (own_job (is_own v)) own.jobs own.isrs in
-      record { seen = record { id = refl; core = refl; due_tables = λ c. dues-own v.own c h; running = grind (arith, runs); awaits = rw p.calm.closed refl }; current = own.current; next = grind (arith, best) }
+      let own = act-own names h p.own in
+      let best = best-passes v h (own_job names) own.jobs own.isrs in
+      let runs : passes (running v h) (own_job names) ≡ true = running-passes v h (own_job names) own.jobs own.isrs in
+      record { seen = record { id = refl; core = refl; due_tables = λ c. dues-own v.own c h; running = grind (arith, runs); awaits = p.caller }; current = own.current; next = grind (arith, best) }
 
-  inward-local : (e : Entry) (h : History) → is_local (is_own v) e ≡ true → Inward v h → Inward v (e ∷ h)
-  inward-local e h is p = record { own = grind (arith, list_all-append (names_only (is_own v)) (marks_of h), p.own, is); calm = calm-local (is_own v) e h is p.calm }
+  inside-holds : Holds may anybody names (Inside names)
+  inside-holds = record {
+    local = λ e h is p. record { own = grind (arith, list_all-append (names_only names) (marks_of h), p.own, is); caller = opens-local _ names e h is p.caller };
+    asked = λ core message h m p. record { own = p.own; caller = p.caller };
+    replied = λ core s value h m p. record { own = p.own; caller = p.caller };
+    opened = λ call h m n p. record { own = p.own; caller = n };
+  }
 
-  -- The core takes interrupts of its own ISRs alone.
-  isr-own : (isr : IsrRef) → knows_stimulus v.own (Stimulus.Irq isr) ≡ true → is_own v isr.core ≡ true
+  -- The core takes interrupts of its own ISRs, and calls to its own objects, alone.
+  isr-own : (isr : IsrRef) → knows_stimulus v.own (Stimulus.Irq isr) ≡ true → names isr.core ≡ true
   isr-own isr known = by (same_core isr.core v.own.id) refl known
     where
-      by : (b : Bool) → same_core isr.core v.own.id ≡ b → is_some (cond b (slice_get v.own.isrs isr.index) None) ≡ true → is_own v isr.core ≡ true
-      by true e there = ap (is_own v) (same_core-true isr.core v.own.id e) ∙ same
+      by : (b : Bool) → same_core isr.core v.own.id ≡ b → is_some (cond b (slice_get v.own.isrs isr.index) None) ≡ true → names isr.core ≡ true
+      by true e there = ap names (same_core-true isr.core v.own.id e) ∙ own_named
       by false e there = absurd (false≢true there)
 
-  item-own : (h : History) (i : Item) → is_mail i ≡ false → admits outbox_size (state_of v h) i ≡ true → is_replied nobody (is_own v) i ≡ true
-  item-own h (Item.Received from number message) none may = absurd (true≢false none)
-  item-own h (Item.Stim (Stimulus.Irq isr)) none may = isr-own isr (and_parts _ (knows_stimulus v.own (Stimulus.Irq isr)) (and_parts _ (may_go_on (state_of v h)) may).0).1
-  item-own h i none may = refl
+  call-own : (call : RemoteCall) → is_served v call ≡ true → names (core_of_call call) ≡ true
+  call-own call served =
+      ap names (same_core-true (core_of_call call) v.own.id (and_parts (same_core (core_of_call call) v.own.id) (has_index v.own (object_of_call call)) served).0) ∙ own_named
 
-  inward-after : (h : History) (i : Item) → is_mail i ≡ false → admits outbox_size (state_of v h) i ≡ true → Inward v h → Inward v (after v h i)
-  inward-after h i none may p =
-      holds-named leave_own (Inward v) (holds-local (is_own v) (Inward v) inward-local) allowed acting h i (item-own h i none may)
-      (record { own = p.own; calm = calm-took i h none p.calm })
+  item-named : (h : History) (i : Item) → admits outbox_size (state_of v h) i ≡ true → is_replied anybody names i ≡ true
+  item-named h (Item.Received from number message) may = by message (and_parts _ (is_awaited outbox_size (state_of v h) from message) (and_parts (is_scheduling (state_of v h).progress.phase) _ may).1).1
+    where
+      by : (m : Message) → is_awaited outbox_size (state_of v h) from m ≡ true → is_replied anybody names (Item.Received from number m) ≡ true
+      by (Message.Request call) e = call-own call (and_parts (is_served v call) _ e).0
+      by (Message.Action call) e = call-own call (and_parts (is_action call) (is_served v call) e).1
+      by m e = refl
+  item-named h (Item.Stim (Stimulus.Irq isr)) may = isr-own isr (and_parts _ (knows_stimulus v.own (Stimulus.Irq isr)) (and_parts _ (may_go_on (state_of v h)) may).0).1
+  item-named h i may = refl
 
-  -- So it stays by items that may be taken in turn, of which none is mail.
-  pub inward-items : (items : List Item) (h : History) → solo_from v h items ≡ Some (history_from v h items) → list_all (λ (i : Item). not (is_mail i)) items ≡ true → Inward v h → Inward v (history_from v h items)
-  inward-items [] h each no_mail p = p
-  inward-items (i ∷ is) h each no_mail p =
+  -- So it stays by items that may be taken in turn.
+  pub inside-items : (items : List Item) (h : History) → solo_from v h items ≡ Some (history_from v h items) → Inside names h → Inside names (history_from v h items)
+  inside-items [] h each p = p
+  inside-items (i ∷ is) h each p =
       let turn = solo-parts v h i is each in
-      let parts = and_parts (not (is_mail i)) _ no_mail in
-      inward-items is (after v h i) turn.1 parts.1 (inward-after h i (not-true (is_mail i) parts.0) turn.0 p)
+      inside-items is (after v h i) turn.1
+      (holds-named leave_inside (Inside names) inside-holds allowed acting h i (item-named h i turn.0) (record { own = p.own; caller = opens-took _ i h p.caller }))

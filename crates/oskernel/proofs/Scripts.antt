@@ -24,19 +24,22 @@ use Rattle.osplan.proofs.Scripts.{no-operation}
 use Rattle.osseparate.proofs.Separating.{SeparateParts}
 use Rattle.osplan.proofs.Tests.{all-not, all-weaker, fails-at, find-fails, find-holds}
 use Rattle.osstate.specs.Readings.{script_of}
+use Rattle.osact.proofs.Called.{locks-any, locks-none, may_lock}
 use Rattle.osact.proofs.Kept.{is_within, nobody}
 use Rattle.osact.proofs.Partners.{Partner}
 use Rattle.oskernel.proofs.Carried.{NamesAllow, allow-cores}
 
--- Every core but this one, and what all cores share; but not that all shut down.
+-- Every core but this one, every spinlock, and what all cores share; but not that all shut down.
 abbrev pub all_but : CoreId → Partner → Bool
 all_but id (Partner.Core core) = not (same_core core id)
+all_but id (Partner.Spinlock l) = true
 all_but id Partner.Shared = true
 all_but id Partner.Halt = false
 
 -- Whatever there is, but not that all cores shut down.
 abbrev pub but_halt : Partner → Bool
 but_halt (Partner.Core core) = true
+but_halt (Partner.Spinlock l) = true
 but_halt Partner.Shared = true
 but_halt Partner.Halt = false
 
@@ -70,14 +73,16 @@ none-all : (p q : Object → Bool) → ((object : Object) → p object ≡ false
 none-all p q then objects none = all-weaker (λ object. not (p object)) q (λ object fails. then object (not-true (p object) fails)) objects (all-not p objects none)
 
 -- A core that names no object that passes one test, by a script, an alarm or a schedule table: all that it names pass another, which each does that
--- fails the first. It takes no other core down, and asks for what all share only if it may.
+-- fails the first. It takes no other core down, and asks for spinlocks and for what all share only if it may.
 names-allow : (v : View) (may : Partner → Bool) (test : Object → Bool) → names_object test v.own ≡ false → ((object : Object) → test object ≡ false → is_within v may object.place.core ≡ true)
+    → ((r : Runner) (n : ℕ) (op : Op) → slice_get (script_of v.own r) n ≡ Some op → list_all (may_lock may) (objects_of op) ≡ true)
     → ((r : Runner) (n : ℕ) (op : Op) → slice_get (script_of v.own r) n ≡ Some op → asks_shared op ≡ true → may Partner.Shared ≡ true) → has_operation halts_all v.own ≡ false → NamesAllow v may
-names-allow v may test none then shared unhalted =
+names-allow v may test none then locks shared unhalted =
     let parts = or_parts (has_operation (op_names test) v.own) (acts_on test v.own) none in
     record {
       scripts = λ r n op e. record {
         objects = none-all test (λ (object : Object). is_within v may object.place.core) then (objects_of op) (script-fails v.own (op_names test) parts.0 r n op e);
+        locks = locks r n op e;
         shared = shared r n op e;
         halt = script-none v.own halts_all unhalted r n op e;
       };
@@ -96,7 +101,7 @@ unhalted-own plan id unhalted = by (core_of plan id) refl
 -- Such a core may ask for anything else.
 pub halt-allow : (plan : Plan) (id : CoreId) → halts_somewhere plan ≡ false → NamesAllow (view_of plan id) but_halt
 halt-allow plan id unhalted =
-    allow-cores (view_of plan id) but_halt (λ core. refl) (λ r n op e asks. refl) (script-none (view_of plan id).own halts_all (unhalted-own plan id unhalted))
+    allow-cores (view_of plan id) but_halt (λ core. refl) (λ l. refl) (λ r n op e asks. refl) (script-none (view_of plan id).own halts_all (unhalted-own plan id unhalted))
 
 -- A separate core's scripts and alarms name none but its own objects, and ask for nothing that all cores share.
 pub own-allow : (plan : Plan) (core : Core) (id : CoreId) → core_of plan id ≡ Some core → core.id ≡ id → SeparateParts plan core → NamesAllow (view_of plan id) nobody
@@ -104,6 +109,7 @@ own-allow plan core id found same parts =
     names-allow (view_of plan id) nobody (is_off id)
     (own (names_object (is_off id)) (subst (λ (other : CoreId). names_object (is_off other) core ≡ false) same (or_from _ _ parts.inward parts.acting)))
     (λ object at_home. or_left _ false (not-false (is_on id object) at_home))
+    (λ r n op e. locks-none nobody op (script-fails (view_of plan id).own asks_shared (own (has_operation asks_shared) parts.unshared) r n op e))
     (script-none (view_of plan id).own asks_shared (own (has_operation asks_shared) parts.unshared))
     (unhalted-own plan id parts.unhalted)
   where
@@ -115,6 +121,7 @@ pub other-allow : (plan : Plan) (id other : CoreId) → is_named_elsewhere plan 
 other-allow plan id other unnamed unhalted differs =
     names-allow (view_of plan other) (all_but id) (is_on id) (by (core_of plan other) refl)
     (λ object apart. or_right _ _ (not_from_false (is_on id object) apart))
+    (λ r n op e. locks-any (all_but id) (λ l. refl) (objects_of op))
     (λ r n op e asks. refl)
     (unhalted-own plan other unhalted)
   where

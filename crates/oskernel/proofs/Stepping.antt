@@ -89,7 +89,7 @@ module _ (v : View) (ids : List CoreId) (s : CoreSet) where
       local = local;
       asked = λ core message h k m p. absurd (false≢true m);
       replied = λ core status value h k m p. absurd (false≢true m);
-      opened = λ call h k m p. absurd (false≢true m);
+      opened = λ call h k m n p. absurd (false≢true m);
     };
     started = own_started;
     shared = λ m h k p. absurd (false≢true m);

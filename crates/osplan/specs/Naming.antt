@@ -1,16 +1,18 @@
--- What the scripts, alarms and tables of a core name: objects of one core, or of another.
-use Rattle.std.specs.Prelude.{◌||◌, not, Bool}
+-- What the scripts, alarms and tables of a core name: objects of one core, or of another, or a spinlock.
+use Rattle.std.specs.Prelude.{◌==◌, ◌&&◌, ◌||◌, not, Bool}
 use Rattle.std.specs.List.{list_any}
 use Rattle.osbase.specs.declared.references.CoreId.{CoreId}
+use Rattle.osbase.specs.declared.references.SpinlockId.{SpinlockId}
 use Rattle.osbase.specs.declared.messages.RemoteCall.{RemoteCall}
 use Rattle.osbase.specs.declared.objects.Object.{Object}
+use Rattle.osbase.specs.declared.objects.ObjectKind.TheVariants.{Spinlock as SpinlockKind}
 use Rattle.osbase.specs.History.{same_core}
-use Rattle.osbase.specs.Objects.{object_of_call}
+use Rattle.osbase.specs.Objects.{object_of_call, same_kind}
 use Rattle.oscript.specs.declared.Op.{Op}
 use Rattle.oscript.specs.Rows.{asks_shared, halts_all, objects_of}
 use Rattle.osplan.specs.declared.plans.Core.{Core}
 use Rattle.osplan.specs.declared.sides.Side.{Side}
-use Rattle.osplan.specs.declared.sides.Side.TheVariants.{On, Off}
+use Rattle.osplan.specs.declared.sides.Side.TheVariants.{On, Off, Spinlock}
 use Rattle.osplan.specs.declared.operations.OpTest.{OpTest}
 use Rattle.osplan.specs.declared.operations.OpTest.TheVariants.{Names, AsksShared, HaltsAll}
 use Rattle.osplan.specs.Objects.{core_actions, core_scripts}
@@ -23,10 +25,15 @@ is_on id object = same_core object.place.core id
 abbrev pub is_off : CoreId → Object → Bool
 is_off id object = not (is_on id object)
 
--- It stands on the side that is asked for.
+-- It is this spinlock.
+abbrev pub is_that_spinlock : SpinlockId → Object → Bool
+is_that_spinlock l object = same_kind object.kind SpinlockKind && (object.place.index == l.index)
+
+-- It stands on the side that is asked for, or is that spinlock.
 abbrev pub is_at : Side → Object → Bool
 is_at (On id) object = is_on id object
 is_at (Off id) object = is_off id object
+is_at (Spinlock l) object = is_that_spinlock l object
 
 -- The operation names an object that passes the test. The invalid identifier names nothing.
 abbrev pub op_names : (Object → Bool) → Op → Bool

@@ -1,4 +1,4 @@
-//! What scripts, alarms and tables name: objects of one core, or of another.
+//! What scripts, alarms and tables name: objects of one core, or of another, or a spinlock.
 
 ghost use Rattle.std.specs.Prelude.{◌≡◌, false};
 ghost use Rattle.std.specs.List.{list_any};
@@ -8,11 +8,11 @@ ghost use Rattle.osplan.specs.Limits.{stays_on};
 ghost use Rattle.osplan.specs.declared.plans.Alarm.{Alarm as AlarmValue};
 ghost use Rattle.osplan.specs.declared.plans.ExpiryPoint.{ExpiryPoint as PointValue};
 ghost use Rattle.osplan.specs.declared.plans.Table.{Table as TableValue};
-ghost use Rattle.osplan.specs.Naming.{acts_on, is_at, is_on, names_object, op_names};
+ghost use Rattle.osplan.specs.Naming.{acts_on, is_at, is_on, is_that_spinlock, names_object, op_names};
 
 use crate::operations::{OpTest, has_operation};
 use crate::plans::{Core, Table};
-use osbase::{CoreId, Object, Reference, RemoteCall};
+use osbase::{CoreId, Object, ObjectKind, Reference, RemoteCall, SpinlockId};
 use oscript::Op;
 
 /// Whether the object stands on this core.
@@ -22,11 +22,18 @@ pub fn is_on(id: CoreId, object: Object) -> bool
     object.place.core.number == id.number
 }
 
-/// The objects that stand on a core, or those that do not.
+fn is_that_spinlock(lock: SpinlockId, object: Object) -> bool
+    ensures { result ≡ is_that_spinlock lock object }
+{
+    object.kind.is(ObjectKind::Spinlock) && object.place.index == lock.index
+}
+
+/// The objects that stand on a core, those that do not, or one spinlock, which stands on none.
 #[derive(Clone, Copy)]
 pub enum Side {
     On(CoreId),
     Off(CoreId),
+    Spinlock(SpinlockId),
 }
 
 impl Side {
@@ -36,6 +43,7 @@ impl Side {
         match self {
             Side::On(id) => is_on(id, object),
             Side::Off(id) => !is_on(id, object),
+            Side::Spinlock(lock) => is_that_spinlock(lock, object),
         }
     }
 

@@ -1,5 +1,6 @@
--- The acts of each service are allowed: whoever names a spinlock asks for what all cores share.
+-- The acts of each service are allowed: whoever names a spinlock asks for it, and for what all cores share.
 use Rattle.std.proofs.Common.{◌≡◌, true, Some, None, IfSome, List, refl}
+use Rattle.std.proofs.lemmas.Bool.{and_from, and_parts}
 use Rattle.osbase.specs.declared.statuses.Status.TheVariants.{EOsId}
 use Rattle.osbase.specs.declared.statuses.ServiceId.{ServiceId}
 use Rattle.osbase.specs.declared.statuses.ServiceId.TheVariants as Service
@@ -16,16 +17,16 @@ use Rattle.osact.proofs.Partners.{Partner, partner_of}
 use Rattle.osspincall.specs.Spinlocks.{asks_spinlock, awaits, getting_checks, releasing_checks, spin_acts}
 
 module _ (l : Leave) where
-  asks-ok : (r : Runner) (service : ServiceId) (checks : AllCores → Seen → SpinlockId → List Check) (awaited : SpinlockId → Awaited) (lock : SpinlockId) → IsNamed l r → l.may Partner.Shared ≡ true → partner_of (awaited lock) ≡ Partner.Shared
+  asks-ok : (r : Runner) (service : ServiceId) (checks : AllCores → Seen → SpinlockId → List Check) (awaited : SpinlockId → Awaited) (lock : SpinlockId) → IsNamed l r → l.may Partner.Shared ≡ true → l.may (partner_of (awaited lock)) ≡ true
       → AreAllowed l (asks_spinlock r service checks awaited (Some lock))
-  asks-ok r service checks awaited lock n shared is =
-      (shared, λ all s seen. answers-ok l r service (checks all s lock) (awaits r (awaited lock)) n (λ ok. (rw is shared, tt)))
+  asks-ok r service checks awaited lock n shared may =
+      (shared, λ all s seen. answers-ok l r service (checks all s lock) (awaits r (awaited lock)) n (λ ok. (and_from _ _ may n, tt)))
 
   pub spin_acts-ok : (r : Runner) (op : Op) → IsNamed l r → IsAllowed l.view l.may op → IfSome (spin_acts r op) (AreAllowed l)
-  spin_acts-ok r (Op.GetSpinlock (Some lock)) n allowed = asks-ok r Service.GetSpinlock (getting_checks r) Awaits.Get lock n (allowed.shared refl) refl
+  spin_acts-ok r (Op.GetSpinlock (Some lock)) n allowed = asks-ok r Service.GetSpinlock (getting_checks r) Awaits.Get lock n (allowed.shared refl) (and_parts _ true allowed.locks).0
   spin_acts-ok r (Op.GetSpinlock None) n allowed = returns-ok l r Service.GetSpinlock EOsId None n
-  spin_acts-ok r (Op.TryToGetSpinlock (Some lock) x) n allowed = asks-ok r Service.TryToGetSpinlock (getting_checks r) Awaits.Try lock n (allowed.shared refl) refl
+  spin_acts-ok r (Op.TryToGetSpinlock (Some lock) x) n allowed = asks-ok r Service.TryToGetSpinlock (getting_checks r) Awaits.Try lock n (allowed.shared refl) (and_parts _ true allowed.locks).0
   spin_acts-ok r (Op.TryToGetSpinlock None x) n allowed = returns-ok l r Service.TryToGetSpinlock EOsId None n
-  spin_acts-ok r (Op.ReleaseSpinlock (Some lock)) n allowed = asks-ok r Service.ReleaseSpinlock (releasing_checks r) Awaits.Release lock n (allowed.shared refl) refl
+  spin_acts-ok r (Op.ReleaseSpinlock (Some lock)) n allowed = asks-ok r Service.ReleaseSpinlock (releasing_checks r) Awaits.Release lock n (allowed.shared refl) (and_parts _ true allowed.locks).0
   spin_acts-ok r (Op.ReleaseSpinlock None) n allowed = returns-ok l r Service.ReleaseSpinlock EOsId None n
   spin_acts-ok r op n allowed = tt

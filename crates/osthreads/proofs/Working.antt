@@ -40,7 +40,6 @@ use Rattle.osturn.specs.declared.asks.Answer.{Answer}
 use Rattle.osturn.specs.declared.asks.Answer.TheVariants.{Replied, Spun, HasRoom, Found, Unasked}
 use Rattle.osturn.specs.declared.seats.Seat.{Seat}
 use Rattle.oskernel.specs.declared.wants.SpinWish.{SpinWish}
-use Rattle.oskernel.specs.declared.wants.SpinWish.TheVariants as Wish
 use Rattle.oskernel.specs.declared.wants.Want.{Want}
 use Rattle.osturn.specs.Asking.{Calls, asked_by, call_of_item, joined, look_asked, named_by, no_calls, own_asked, spin_call_of, starting, told_by}
 use Rattle.osturn.specs.Fits.{AreAnswered, FitsCore, Leads, history_by, stimuli_in}

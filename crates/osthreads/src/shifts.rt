@@ -185,13 +185,14 @@ pub fn core_worker<'a, R: Wait, M: Mail, G: Gate>(
 {
     let _plan = run.config.plan();
     let core = Seat::new(alloc, run.config, seats.board.core(), run.stimuli);
+    let stamps = Stamps::new(alloc, run.clocks, core.items.capacity());
     let mut shift = Shift {
         worker: Worker {
             run,
             core,
             seats,
             mail,
-            stamps: Stamps::new(alloc, run.clocks),
+            stamps,
         },
         at: 0,
         fruitless: 0,

@@ -12,6 +12,7 @@ use osbase::{Item, List};
 use osboard::BoardCall;
 use oskernel::SpinWish;
 use osspin::{ClockSeat, Clocked, Clocks};
+use osturn::roomy;
 use std::alloc::{AllocError, Global};
 
 /// The clocks of a core's items so far. The core's number is that of its last item.
@@ -25,13 +26,13 @@ pub struct Stamps<'a> {
 }
 
 impl<'a> Stamps<'a> {
-    /// No item is taken yet.
-    pub fn new(alloc: Global, clocks: &'a Clocks) -> Self {
+    /// No item is taken yet, and there is room for the clocks of so many, as far as memory allows.
+    pub fn new(alloc: Global, clocks: &'a Clocks, capacity: usize) -> Self {
         Stamps {
             seat: clocks.seat(),
             number: 0,
             heard: 0,
-            clocks: Vec::new(alloc),
+            clocks: roomy(alloc, capacity),
         }
     }
 

@@ -142,7 +142,7 @@ boot_items self m own st = gates_of m own ++ live_items (ahead_of self m own st)
 -- What the core names is the same where it stands alone.
 allow-alone : (v : View) (ids : List CoreId) → NamesAllow v nobody → NamesAllow (alone_view v ids) nobody
 allow-alone v ids allowed = record {
-  scripts = λ r n op e. let one = allowed.scripts r n op e in record { objects = one.objects; shared = one.shared; halt = one.halt };
+  scripts = λ r n op e. let one = allowed.scripts r n op e in record { objects = one.objects; locks = one.locks; shared = one.shared; halt = one.halt };
   actions = allowed.actions;
 }
 

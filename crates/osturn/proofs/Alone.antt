@@ -3,6 +3,7 @@ use Rattle.std.proofs.Common.{◌≡◌, ◌<◌, ℕ, Bool, true, false, not, �
 use Rattle.std.specs.List.{list_all}
 use Rattle.std.specs.Option.{option_map_or}
 use Rattle.std.proofs.lemmas.Bool.{and_from, false≢true}
+use Rattle.std.proofs.Math.Bool.{or-false}
 use Rattle.osbase.specs.declared.references.CoreId.{CoreId}
 use Rattle.osbase.specs.declared.references.ModeId.{ModeId}
 use Rattle.osbase.specs.declared.items.CoreSet.{CoreSet}
@@ -31,7 +32,7 @@ use Rattle.osact.proofs.Kept.{nobody}
 use Rattle.osadmit.specs.Admission.{are_started_cores}
 use Rattle.oskernel.specs.Step.{history_from, solo}
 use Rattle.oskernel.proofs.Carried.{NamesAllow}
-use Rattle.oskernel.proofs.Own.{inward-items}
+use Rattle.oskernel.proofs.Own.{inside-items}
 use Rattle.oskernel.proofs.Scripts.{other-allow, own-allow}
 use Rattle.oskernel.proofs.Stages.{is_mail}
 use Rattle.oskernel.proofs.Stepping.{alone_view, around_master}
@@ -189,7 +190,7 @@ module _ (plan : Plan) (stimuli : List CoreStimuli) (lists : List (CoreId × Lis
     lines_alone : lines_of plan marks ≡ lines_of (cut_of plan id) marks
     lines_alone =
         lines-same plan (cut_of plan id) (is_own v) core_alone marks
-        (inward-items v allowed own_self (items_of lists id) [] (fits.cores id).alone no_mail (record { own = refl; calm = record { closed = refl; empty = refl; none_got = refl } })).own
+        (inside-items v nobody (is_own v) allowed (λ c within. sym (or-false (is_own v c)) ∙ within) own_self (items_of lists id) [] (fits.cores id).alone (record { own = refl; caller = refl })).own
 
     begins_alone : IsBeginning marks (alone_report plan stimuli id).marks
     begins_alone = subst (λ (view : View). IsBeginning marks (Trace view (alone_items plan stimuli id))) (sym view_alone)

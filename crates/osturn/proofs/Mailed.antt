@@ -73,7 +73,7 @@ meek-holds c = record {
   local = meek-local c;
   asked = λ core message h m p. list_all-append (is_meek c) (outbox h) _ ∙ and_from _ _ p (and_from _ _ (or_left (not (same_core core c)) _ m) refl);
   replied = λ core s value h m p. list_all-append (is_meek c) (outbox h) _ ∙ and_from _ _ p (and_from _ _ (or_right (not (same_core core c)) _ (replies-pass s value (queued_count core h))) refl);
-  opened = λ call h m p. p;
+  opened = λ call h m n p. p;
 }
 
 module _ (c : CoreId) (v : View) (allowed : NamesAllow v (all_but c)) where

@@ -11,4 +11,4 @@ pub use asks::{Answer, Ask, look_asked, named, own_asked, spin_call_of};
 pub use cores::ids_of;
 pub use ends::have_all_ended;
 pub use oskernel::SpinWish;
-pub use seats::{CoreKernel, Seat};
+pub use seats::{CoreKernel, Seat, roomy};

@@ -152,8 +152,8 @@ impl<'a> Seat<'a> {
     }
 }
 
-// An empty vector with room for so many, or with none where that is refused.
-fn roomy<T>(alloc: Global, capacity: usize) -> Vec<T>
+/// An empty vector with room for so many, or with none where that is refused.
+pub fn roomy<T>(alloc: Global, capacity: usize) -> Vec<T>
     ensures { result.items ≡ [] }
 {
     match Vec::with_capacity(alloc, capacity) {
