@@ -44,7 +44,7 @@ but_halt Partner.Shared = true
 but_halt Partner.Halt = false
 
 -- Where no script of the core has an operation that passes a test, none that a runner comes to does.
-script-fails : (own : Core) (test : Op → Bool) → has_operation test own ≡ false → (r : Runner) (n : ℕ) (op : Op) → slice_get (script_of own r) n ≡ Some op → test op ≡ false
+pub script-fails : (own : Core) (test : Op → Bool) → has_operation test own ≡ false → (r : Runner) (n : ℕ) (op : Op) → slice_get (script_of own r) n ≡ Some op → test op ≡ false
 script-fails own test none r n op e = by r e
   where
     parts : (list_any (λ (x : Task). list_any test x.script) own.tasks ≡ false) × (list_any (λ (x : Isr). list_any test x.script) own.isrs ≡ false)
@@ -65,26 +65,27 @@ script-fails own test none r n op e = by r e
     by (Runner.Isr i) g = of_isr i.index (same_core i.core own.id) (slice_get own.isrs i.index) refl g
 
 -- So none has it that a runner comes to, whatever would follow from it.
-script-none : (own : Core) (test : Op → Bool) → has_operation test own ≡ false → {A : Type 0} (r : Runner) (n : ℕ) (op : Op) → slice_get (script_of own r) n ≡ Some op → test op ≡ true → A
+pub script-none : (own : Core) (test : Op → Bool) → has_operation test own ≡ false → {A : Type 0} (r : Runner) (n : ℕ) (op : Op) → slice_get (script_of own r) n ≡ Some op → test op ≡ true → A
 script-none own test none r n op e passes = absurd (true≢false (sym passes ∙ script-fails own test none r n op e))
 
 -- Objects none of which passes one test all pass another, which each does that fails the first.
-none-all : (p q : Object → Bool) → ((object : Object) → p object ≡ false → q object ≡ true) → (objects : List Object) → list_any p objects ≡ false → list_all q objects ≡ true
+pub none-all : (p q : Object → Bool) → ((object : Object) → p object ≡ false → q object ≡ true) → (objects : List Object) → list_any p objects ≡ false → list_all q objects ≡ true
 none-all p q then objects none = all-weaker (λ object. not (p object)) q (λ object fails. then object (not-true (p object) fails)) objects (all-not p objects none)
 
 -- A core that names no object that passes one test, by a script, an alarm or a schedule table: all that it names pass another, which each does that
--- fails the first. It takes no other core down, and asks for spinlocks and for what all share only if it may.
-names-allow : (v : View) (may : Partner → Bool) (test : Object → Bool) → names_object test v.own ≡ false → ((object : Object) → test object ≡ false → is_within v may object.place.core ≡ true)
+-- fails the first. It asks for spinlocks, for what all share, and that they shut down, only if it may.
+pub names-allow : (v : View) (may : Partner → Bool) (test : Object → Bool) → names_object test v.own ≡ false → ((object : Object) → test object ≡ false → is_within v may object.place.core ≡ true)
     → ((r : Runner) (n : ℕ) (op : Op) → slice_get (script_of v.own r) n ≡ Some op → list_all (may_lock may) (objects_of op) ≡ true)
-    → ((r : Runner) (n : ℕ) (op : Op) → slice_get (script_of v.own r) n ≡ Some op → asks_shared op ≡ true → may Partner.Shared ≡ true) → has_operation halts_all v.own ≡ false → NamesAllow v may
-names-allow v may test none then locks shared unhalted =
+    → ((r : Runner) (n : ℕ) (op : Op) → slice_get (script_of v.own r) n ≡ Some op → asks_shared op ≡ true → may Partner.Shared ≡ true)
+    → ((r : Runner) (n : ℕ) (op : Op) → slice_get (script_of v.own r) n ≡ Some op → halts_all op ≡ true → may Partner.Halt ≡ true) → NamesAllow v may
+names-allow v may test none then locks shared halt =
     let parts = or_parts (has_operation (op_names test) v.own) (acts_on test v.own) none in
     record {
       scripts = λ r n op e. record {
         objects = none-all test (λ (object : Object). is_within v may object.place.core) then (objects_of op) (script-fails v.own (op_names test) parts.0 r n op e);
         locks = locks r n op e;
         shared = shared r n op e;
-        halt = script-none v.own halts_all unhalted r n op e;
+        halt = halt r n op e;
       };
       actions = all-weaker (λ (action : RemoteCall). not (test (object_of_call action))) _ (λ action fails. then (object_of_call action) (not-true (test (object_of_call action)) fails)) (core_actions v.own)
           (all-not (λ (action : RemoteCall). test (object_of_call action)) (core_actions v.own) parts.1);
@@ -111,7 +112,7 @@ own-allow plan core id found same parts =
     (λ object at_home. or_left _ false (not-false (is_on id object) at_home))
     (λ r n op e. locks-none nobody op (script-fails (view_of plan id).own asks_shared (own (has_operation asks_shared) parts.unshared) r n op e))
     (script-none (view_of plan id).own asks_shared (own (has_operation asks_shared) parts.unshared))
-    (unhalted-own plan id parts.unhalted)
+    (script-none (view_of plan id).own halts_all (unhalted-own plan id parts.unhalted))
   where
     own : (test : Core → Bool) → test core ≡ false → test (view_of plan id).own ≡ false
     own test none = ap (λ (o : Option Core). test (unwrap_or o (no_core id))) found ∙ none
@@ -123,7 +124,7 @@ other-allow plan id other unnamed unhalted differs =
     (λ object apart. or_right _ _ (not_from_false (is_on id object) apart))
     (λ r n op e. locks-any (all_but id) (λ l. refl) (objects_of op))
     (λ r n op e asks. refl)
-    (unhalted-own plan other unhalted)
+    (script-none (view_of plan other).own halts_all (unhalted-own plan other unhalted))
   where
     by : (o : Option Core) → core_of plan other ≡ o → names_object (is_on id) (unwrap_or o (no_core other)) ≡ false
     by None found = refl
