@@ -33,7 +33,7 @@ use Rattle.osadmit.specs.Admission.{are_started_cores}
 use Rattle.oskernel.specs.Step.{history_from, solo}
 use Rattle.oskernel.proofs.Carried.{NamesAllow}
 use Rattle.oskernel.proofs.Own.{inside-items}
-use Rattle.oskernel.proofs.Scripts.{other-allow, own-allow}
+use Rattle.oskernel.proofs.Scripts.{all_but, other-allow, own-allow}
 use Rattle.oskernel.proofs.Stages.{is_mail}
 use Rattle.oskernel.proofs.Stepping.{alone_view, around_master}
 use Rattle.ostext.specs.Trace.{line_end, line_of, lines_of, title_of}
@@ -154,7 +154,7 @@ module _ (plan : Plan) (stimuli : List CoreStimuli) (lists : List (CoreId × Lis
     replies : (from : CoreId) → same_core from id ≡ false → list_all is_reply (received from (history_by plan id (items_of lists id))) ≡ true
     replies from other =
         begins-all_pass is_reply _ _ (fits.streams from id)
-        (posts-replies id (view_of plan from) (other-allow plan id from unnamed parts.unhalted other) (items_of lists from) [] (fits.cores from).alone refl refl)
+        (posts-replies id (view_of plan from) (all_but id) (ap not (same_core-refl id)) (other-allow plan id from unnamed parts.unhalted other) (items_of lists from) (fits.cores from).alone)
 
     no_mail : list_all (λ (i : Item). not (is_mail i)) (items_of lists id) ≡ true
     no_mail = takes-no-mail v allowed (items_of lists id) [] (fits.cores id).alone (record { closed = refl; empty = refl; none_got = refl }) replies

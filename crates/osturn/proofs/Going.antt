@@ -58,7 +58,7 @@ pub calm-goes : (v : View) (h : History) → Calm h → is_going (course_of h) �
 calm-goes v h calm going = rw (calm.closed, calm.empty, calm.none_got, going) refl
 
 -- Dispatch takes no core down.
-dispatch-course : (v : View) (h : History) → course_of (dispatches v h) ≡ course_of h
+pub dispatch-course : (v : View) (h : History) → course_of (dispatches v h) ≡ course_of h
 dispatch-course v h = by (may_dispatch (state_of v h))
   where
     left : (current : Option TaskRef) → course_of (leaves current h) ≡ course_of h

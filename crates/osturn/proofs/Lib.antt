@@ -18,6 +18,14 @@ pub mod Mailed
 pub mod Ahead
 pub mod Drained
 pub mod Alone
+pub mod SpinSides
+pub mod Bare
+pub mod BareTurns
+pub mod GroupNames
+pub mod GroupMail
+pub mod GroupSpins
+pub mod GroupParts
+pub mod Grouped
 pub mod Begun
 pub mod Finished
 mod Known

@@ -114,7 +114,7 @@ abbrev pub AreQuiet : List Item → Type 0
 AreQuiet items = list_all (λ (i : Item). not (is_halting i)) items ≡ true
 
 -- A core that may ask for anything else has no open call for a shutdown of all cores.
-never-asked : (v : View) (h : History) → Asks but_halt h → has_asked_halt (state_of v h) ≡ true → ⊥
+pub never-asked : (v : View) (h : History) → Asks but_halt h → has_asked_halt (state_of v h) ≡ true → ⊥
 never-asked v h never asked = by (open_call h) never asked
   where
     awaits : (a : Awaited) → but_halt (partner_of a) ≡ true → asks_halt a ≡ true → ⊥

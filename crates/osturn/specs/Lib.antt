@@ -1,5 +1,7 @@
 pub mod Asking
 pub mod Fits
+pub mod Reports
+pub mod Groups
 pub mod Sound
 pub mod Ends
 pub mod Seats

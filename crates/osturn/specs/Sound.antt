@@ -1,6 +1,6 @@
 -- The promise about a run, said of what was given (configuration and listed stimuli) and of the reports, and of nothing
 -- else: whoever runs the cores, in turns or otherwise, can promise it.
-use Rattle.std.specs.Prelude.{◌≡◌, ℕ, Bool, true, false, if◌then◌else◌, IsTrue, Some, List, ◌∷◌, [], ◌++◌, map}
+use Rattle.std.specs.Prelude.{◌≡◌, ℕ, true, if◌then◌else◌, IsTrue, Some, List, ◌∷◌, [], ◌++◌, map}
 use Rattle.std.specs.List.{AllByRecursion}
 use Rattle.osbase.specs.declared.references.CoreId.{CoreId}
 use Rattle.osbase.specs.declared.items.Agreement.{Agreement}
@@ -8,7 +8,7 @@ use Rattle.osbase.specs.declared.items.Item.{Item}
 use Rattle.osbase.specs.declared.items.Stimulus.{Stimulus}
 use Rattle.osbase.specs.declared.turns.CoreStimuli.{CoreStimuli}
 use Rattle.osbase.specs.declared.turns.Report.{Report}
-use Rattle.osbase.specs.History.{History, course_of, marks_of, no_cores}
+use Rattle.osbase.specs.History.{History, course_of, no_cores}
 use Rattle.osbase.specs.Phases.{is_going}
 use Rattle.osbase.specs.Runs.{stimuli_of}
 use Rattle.osplan.specs.declared.plans.Plan.{Plan}
@@ -20,39 +20,7 @@ use Rattle.oskernel.specs.Step.{after, solo}
 use Rattle.ostext.specs.Trace.{block_of}
 use Rattle.osboard.specs.Boards.{with_core}
 use Rattle.osturn.specs.Fits.{Fits, IsBeginning, has_drained, history_by, ids_of, items_of}
-
--- ---- a report by itself
-
--- The item ends its core: the end of a shutdown, or a first gate that came to a conflict.
--- [AUTOSAR SWS OS 4.x, SWS_Os_00608 to SWS_Os_00610, for the conflict; that a core drains and closes is this project's own]
-abbrev pub is_end : Item → Bool
-is_end (Item.Last shutdown) = true
-is_end (Item.Pass1 Agreement.Conflict) = true
-is_end item = false
-
--- The last of the items does.
-abbrev pub end_by : List Item → Bool
-end_by [] = false
-end_by (item ∷ []) = is_end item
-end_by (item ∷ items) = end_by items
-
--- What items come to: the marks that the core prints by them, by its own view of the configuration, and whether they end.
-abbrev pub report_by : Plan → CoreId → List Item → Report
-report_by plan id items = record {
-  core = id;
-  items = items;
-  clocks = [];
-  marks = marks_of (history_by plan id items);
-  ended = end_by items;
-}
-
--- A report without the clocks of its items.
-abbrev pub unclocked : Report → Report
-unclocked report = record report { clocks = [] }
-
--- A report says what its own items say. Of their clocks nothing is said.
-abbrev pub IsOwn : Plan → Report → Type 0
-IsOwn plan report = unclocked report ≡ report_by plan report.core report.items
+pub use Rattle.osturn.specs.Reports.{IsOwn, end_by, is_end, report_by, unclocked}
 
 -- ---- a separate core
 
