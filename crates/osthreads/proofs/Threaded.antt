@@ -23,6 +23,7 @@ use Rattle.osturn.specs.Asking.{Calls, calls_of, no_calls}
 use Rattle.osturn.specs.Fits.{AreAnswered, Fits, FitsCore, IsBeginning, history_by, ids_of, items_of}
 use Rattle.osturn.specs.Sound.{AreSound, IsOwn, lists_in}
 use Rattle.osturn.proofs.Alone.{fits-alone}
+use Rattle.osturn.proofs.Grouped.{fits-apart}
 use Rattle.osthreads.specs.Runs.{AreDelivered, AreOneSpins, AreRuns, IsDelivered, IsOneBoard}
 use Rattle.osthreads.proofs.Senders.{none-received, unlisted-unseen}
 
@@ -124,4 +125,5 @@ module _ (plan : Plan) (stimuli : List CoreStimuli) where
       own = each-own reports logs runs;
       fit = fits;
       separate = fits-alone plan stimuli (lists_in reports) fits limits known;
+      groups = fits-apart plan stimuli (lists_in reports) fits limits;
     }

@@ -20,6 +20,7 @@ use Rattle.oskernel.specs.Step.{after, solo}
 use Rattle.ostext.specs.Trace.{block_of}
 use Rattle.osboard.specs.Boards.{with_core}
 use Rattle.osturn.specs.Fits.{Fits, IsBeginning, has_drained, history_by, ids_of, items_of}
+use Rattle.osturn.specs.Groups.{AreApart}
 pub use Rattle.osturn.specs.Reports.{IsOwn, end_by, is_end, report_by, unclocked}
 
 -- ---- a separate core
@@ -76,10 +77,12 @@ lists_in reports = map (λ (r : Report). (r.core, r.items)) reports
 
 -- The promise. The reports are those of the configured cores, ascending, one each; each says what its own items say; the
 -- items fit one another, the listed stimuli and what the cores share: stimuli, mailboxes, the spinlocks and the shared board
--- each have one order that all cores' items agree with; and each separate core, one that names no other core's object and no
--- spinlock and that no other core names, prints what its configuration alone prints. [own]
+-- each have one order that all cores' items agree with; each separate core, one that names no other core's object and no
+-- spinlock and that no other core names, prints what its configuration alone prints; and what a group of cores did, in what no core
+-- outside has a say, it could do by its own configuration. [own]
 pub record AreSound (plan : Plan) (stimuli : List CoreStimuli) (reports : List Report) : Type 0 where
   pub cores : map (λ (r : Report). r.core) reports ≡ ids_of plan
   pub own : AllByRecursion (IsOwn plan) reports
   pub fit : Fits plan stimuli (lists_in reports)
   pub separate : ArePrintedAlone plan stimuli (lists_in reports)
+  pub groups : AreApart plan stimuli (lists_in reports)

@@ -20,6 +20,7 @@ use Rattle.osworld.specs.Runs.{AppendsAt, AreReports}
 use Rattle.osturn.specs.Seats.{IsSeated, report_of}
 use Rattle.osworld.specs.Playing.{IsCutShort, IsPlayed, Plays}
 use Rattle.osturn.proofs.Alone.{fits-alone}
+use Rattle.osturn.proofs.Grouped.{fits-apart}
 use Rattle.osturn.proofs.Seated.{seated-own}
 use Rattle.osworld.proofs.Fitted.{world_fits}
 use Rattle.osworld.proofs.Listed.{Lists, is_of}
@@ -74,6 +75,7 @@ reports-played plan limits stimuli known turns seats between plays =
         own = own;
         fit = fits;
         separate = fits-alone plan stimuli (lists_in (map report_of seats)) fits limits known;
+        groups = fits-apart plan stimuli (lists_in (map report_of seats)) fits limits;
       };
     }
 
