@@ -73,15 +73,15 @@ _mcos_offer_options() {
         '') _mcos_offer "$1" '-h --help -V --version' ;;
         run) _mcos_offer_unused "$1" '--schedule --items' ;;
         threads) _mcos_offer_unused "$1" '--turns --mail --items --order' ;;
-        check | cut | replay) _mcos_offer "$1" '-h --help' ;;
+        check | cut | groups | group | replay) _mcos_offer "$1" '-h --help' ;;
     esac
 }
 
 _mcos_offer_arguments() {
     case $command:${#arguments[@]} in
-        :0 | help:0) _mcos_offer "$1" 'run check cut replay threads help' ;;
-        run:[01] | threads:[01] | check:0 | cut:0 | replay:0) _mcos_offer_files "$1" ;;
-        cut:1 | replay:1) _mcos_offer_cores "$1" "${arguments[0]}" ;;
+        :0 | help:0) _mcos_offer "$1" 'run check cut groups group replay threads help' ;;
+        run:[01] | threads:[01] | check:0 | cut:0 | groups:0 | group:0 | replay:0) _mcos_offer_files "$1" ;;
+        cut:1 | group:1 | replay:1) _mcos_offer_cores "$1" "${arguments[0]}" ;;
         replay:2) compopt -o default 2>/dev/null ;;
     esac
 }

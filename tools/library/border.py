@@ -240,6 +240,52 @@ def reach(all_steps: List[Step], core: int) -> Dict[int, Step]:
 
 
 # ---------------------------------------------------------------------------------------------------------------------
+# Groups
+# ---------------------------------------------------------------------------------------------------------------------
+
+
+class Say(NamedTuple):
+    """Why a core has a say in what another one does."""
+
+    target: int
+    why: str
+
+
+def says(whole: Model) -> Dict[Tuple[int, int], str]:
+    """The pairs of a core and one in whose work it has a say, each with the first reason."""
+    found: Dict[Tuple[int, int], str] = {}
+    for (core, other), references in whole.between.items():
+        objects = _objects(references)
+        found.setdefault((core, other), "it refers to core %d: %s" % (other, objects))
+        found.setdefault((other, core), "core %d refers to it: %s" % (core, objects))
+    for name in dict.fromkeys(each.name for each in whole.sharing):
+        cores = sorted({each.core for each in whole.sharing if each.name == name})
+        for core in cores:
+            for other in cores:
+                if other != core:
+                    found.setdefault((core, other), "it refers to the spinlock %s, as core %d does" % (name, other))
+    for binding in whole.halting:
+        for other in whole.ids:
+            if other != binding.core:
+                found.setdefault((binding.core, other), "it has `%s`" % HALTS_ALL)
+    return found
+
+
+def least_group(whole: Model, core: int) -> Dict[int, Say]:
+    """The other cores of a core's least group, each with the one in whose work it has a say, on a shortest way."""
+    all_says = says(whole)
+    found: Dict[int, Say] = {}
+    waiting = deque([core])
+    while waiting:
+        current = waiting.popleft()
+        for other in whole.ids:
+            if (other, current) in all_says and other != core and other not in found:
+                found[other] = Say(current, all_says[other, current])
+                waiting.append(other)
+    return found
+
+
+# ---------------------------------------------------------------------------------------------------------------------
 # The report
 # ---------------------------------------------------------------------------------------------------------------------
 
@@ -247,7 +293,8 @@ def reach(all_steps: List[Step], core: int) -> Dict[int, Step]:
 def report(whole: Model) -> str:
     """The border as text."""
     found = crossings(whole)
-    parts = [("Cores", _cores(whole)), ("Starts", _starts(whole)), ("Crossings", _crossing_lines(found))]
+    parts = [("Cores", _cores(whole)), ("Groups", _groups(whole)), ("Starts", _starts(whole))]
+    parts.append(("Crossings", _crossing_lines(found)))
     parts.append(("What a change of a core's work can reach", _reach_lines(whole, found)))
     return "\n".join("%s\n%s" % (title, "".join("  %s\n" % line for line in lines)) for title, lines in parts)
 
@@ -258,6 +305,23 @@ def _cores(whole: Model) -> List[str]:
     for core in whole.ids:
         lines.append("core %d %s" % (core, whole.standing(core)))
         lines += ["  " + reason for reason in reasons(whole, core)]
+    return lines
+
+
+def group_line(whole: Model, core: int) -> str:
+    """The line of a core that `mcos groups` prints."""
+    members = sorted([core, *least_group(whole, core)])
+    return "core %d group %s" % (core, " ".join(str(number) for number in members))
+
+
+def _groups(whole: Model) -> List[str]:
+    """The least group of each core, and why each other core is in it."""
+    lines = []
+    for core in whole.ids:
+        lines.append(group_line(whole, core))
+        for other, say in sorted(least_group(whole, core).items()):
+            through = "" if say.target == core else " through core %d" % say.target
+            lines.append("  core %d%s: %s" % (other, through, say.why))
     return lines
 
 

@@ -73,11 +73,11 @@ def expand(document: Document, kind: str) -> Expansion:
     return _Expander(document).whole(kind)
 
 
-def cut(document: Document, core: str) -> Expansion:
-    """The stimuli of one core alone. Without any the text is an empty object."""
+def cut(document: Document, cores: Sequence[str]) -> Expansion:
+    """The stimuli of these cores alone. Without any the text is an empty object."""
     root = document.root
     assert isinstance(root, JsonObject)
-    return _Expander(document).of_core(root, core)
+    return _Expander(document).of_cores(root, cores)
 
 
 class _Expander:
@@ -111,14 +111,18 @@ class _Expander:
             self.configuration(root)
         return self.finish(root, self.edited())
 
-    def of_core(self, root: JsonObject, core: str) -> Expansion:
-        """The stimuli of one core alone, which are read and no other ones."""
-        member = root.members.get(core)
-        text = self.words(member.value, _STIMULI) if member is not None else None
-        if member is not None and text is None and not self.refused:
-            self.refused.append(Refused(member.value.start, "the stimuli of core %s are no text" % core))
-        self.dropped += [other.value for name, other in root.members.items() if name != core]
-        return self.finish(root, json.dumps({core: text} if member is not None else {}) + "\n")
+    def of_cores(self, root: JsonObject, cores: Sequence[str]) -> Expansion:
+        """The stimuli of these cores alone, which are read and no other ones."""
+        kept: Dict[str, Optional[str]] = {}
+        for core, member in root.members.items():
+            if core not in cores:
+                self.dropped.append(member.value)
+                continue
+            refused = len(self.refused)
+            kept[core] = self.words(member.value, _STIMULI)
+            if kept[core] is None and len(self.refused) == refused:
+                self.refused.append(Refused(member.value.start, "the stimuli of core %s are no text" % core))
+        return self.finish(root, json.dumps(kept) + "\n")
 
     def finish(self, root: Json, text: str) -> Expansion:
         """The expansion, with the places of what it has."""

@@ -1,4 +1,4 @@
-"""What `tools/border` prints, and that its words for the cores are those of `mcos check`."""
+"""What `tools/border` prints, and that its words for the cores and its groups are those of the program."""
 
 import glob
 import json
@@ -62,6 +62,44 @@ REPORT = """Cores
     no start list leads to it from core 0, the master
   core 5 off
     no start list leads to it from core 0, the master
+
+Groups
+  core 0 group 0 1 2 3 4 5
+    core 1: core 0 refers to it: task Com
+    core 2: core 0 refers to it: task Log
+    core 3 through core 2: it refers to core 2: counter Crank
+    core 4 through core 5: core 5 refers to it: task Never
+    core 5: core 0 refers to it: task Sound
+  core 1 group 0 1 2 3 4 5
+    core 0: it refers to core 1: task Com
+    core 2: core 1 refers to it: task Log
+    core 3 through core 2: it refers to core 2: counter Crank
+    core 4 through core 5: core 5 refers to it: task Never
+    core 5 through core 0: core 0 refers to it: task Sound
+  core 2 group 0 1 2 3 4 5
+    core 0: it refers to core 2: task Log
+    core 1: it refers to core 2: task Log
+    core 3: it refers to core 2: counter Crank
+    core 4 through core 5: core 5 refers to it: task Never
+    core 5 through core 0: core 0 refers to it: task Sound
+  core 3 group 0 1 2 3 4 5
+    core 0 through core 2: it refers to core 2: task Log
+    core 1 through core 2: it refers to core 2: task Log
+    core 2: core 3 refers to it: counter Crank
+    core 4 through core 5: core 5 refers to it: task Never
+    core 5 through core 0: core 0 refers to it: task Sound
+  core 4 group 0 1 2 3 4 5
+    core 0 through core 5: it refers to core 5: task Sound
+    core 1 through core 0: core 0 refers to it: task Com
+    core 2 through core 0: core 0 refers to it: task Log
+    core 3 through core 2: it refers to core 2: counter Crank
+    core 5: it refers to core 4: task Never
+  core 5 group 0 1 2 3 4 5
+    core 0: it refers to core 5: task Sound
+    core 1 through core 0: core 0 refers to it: task Com
+    core 2 through core 0: core 0 refers to it: task Log
+    core 3 through core 2: it refers to core 2: counter Crank
+    core 4: core 5 refers to it: task Never
 
 Starts
   core 0 is the master
@@ -338,7 +376,7 @@ class Reports(unittest.TestCase):
 
     def test_one_core(self):
         expected = (
-            "Cores\n  core 0 separate\n\nStarts\n  core 0 is the master\n\nCrossings\n  none\n\n"
+            "Cores\n  core 0 separate\n\nGroups\n  core 0 group 0\n\nStarts\n  core 0 is the master\n\nCrossings\n  none\n\n"
             "What a change of a core's work can reach\n  core 0: no other core\n"
         )
         self.assertEqual(border.report(model_of_cores([core(0, "work")])), expected)
@@ -381,6 +419,21 @@ class Reports(unittest.TestCase):
         self.assertNotIn("core 0 to core 2", report)
         self.assertIn("    core 0: it shares the spinlock of TryToGetSpinlock L v0 (task X1, operation 1)\n", report)
         self.assertIn("  core 3: no other core, since it is off\n", report)
+
+    def test_groups_by_spinlocks(self):
+        scripts = {0: "GetSpinlock L", 1: "ReleaseSpinlock L", 2: "GetSpinlock K", 3: "GetSpinlock ?"}
+        cores = [core(number, script, start=[1, 2] if number == 0 else []) for number, script in scripts.items()]
+        whole = model_of(json.dumps({"spinlocks": [{"name": "L"}, {"name": "K"}], "cores": cores}))
+        lines = ["core 0 group 0 1", "core 1 group 0 1", "core 2 group 2", "core 3 group 3"]
+        self.assertEqual([border.group_line(whole, number) for number in range(4)], lines)
+        why = "  core 0 group 0 1\n    core 1: it refers to the spinlock L, as core 0 does\n"
+        self.assertIn(why, border.report(whole))
+
+    def test_who_shuts_all_cores_down_is_in_each_group(self):
+        whole = model_of_cores([core(0, "work", start=[1]), core(1, "work"), core(2, "ShutdownAllCores 0")])
+        lines = ["core 0 group 0 2", "core 1 group 1 2", "core 2 group 2"]
+        self.assertEqual([border.group_line(whole, number) for number in range(3)], lines)
+        self.assertIn("  core 1 group 1 2\n    core 2: it has `ShutdownAllCores`\n", border.report(whole))
 
     def test_quoting(self):
         self.assertEqual(border.quoted(['a "b" \\', "c"]), r'"a \"b\" \\\nc"')
@@ -438,12 +491,14 @@ class Commands(unittest.TestCase):
 @needs_program
 class AsTheProgram(unittest.TestCase):
     def hold(self, path):
-        """Holds the words for the cores to those of `mcos check`, and says whether it accepts the configuration."""
+        """Holds the words and the groups to those of the program, and says whether it accepts the configuration."""
         expected = words_of_program(path)
         if expected is not None:
             with open(path, encoding="utf-8") as file:
                 whole = model_of(file.read())
             self.assertEqual({number: whole.standing(number) for number in whole.ids}, expected)
+            groups = subprocess.run([PROGRAM, "groups", path], capture_output=True, encoding="utf-8", timeout=60).stdout
+            self.assertEqual([border.group_line(whole, number) for number in whole.ids], groups.splitlines())
         return expected is not None
 
     def test_examples(self):

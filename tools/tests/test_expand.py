@@ -483,8 +483,15 @@ class Whole(unittest.TestCase):
         message = "c.json:1:1: --cut wants stimuli, and this is a configuration\n"
         self.assertEqual(called(MAIN, "--cut", "0", "c.json"), (1, "", message))
 
+    def test_cut_of_several_cores(self):
+        self.write("s.json", '{"0": "2*op", "1": "3*tik", "12": "tick"}')
+        self.assertEqual(called(MAIN, "--cut", "12,0", "s.json"), (0, '{"0": "op op", "12": "tick"}\n', ""))
+        note = "s.json: note: core 5 has no stimuli\n"
+        self.assertEqual(called(MAIN, "--cut", "0,5", "s.json"), (0, '{"0": "op op"}\n', note))
+
     def test_wrong_usage(self):
-        for words in ((), ("a", "b"), ("--cut", "16", "a"), ("--cut",), ("--frob", "a")):
+        cuts = [("--cut", text, "a") for text in ("16", "0,16", "0,", "0 1", "")]
+        for words in ((), ("a", "b"), ("--cut",), ("--frob", "a"), *cuts):
             with self.subTest(words=words):
                 status, output, _ = called(MAIN, *words)
                 self.assertEqual((status, output), (2, ""))
@@ -531,7 +538,7 @@ class AsTheProgram(unittest.TestCase):
                 self.write(name, file.read())
         whole = self.lines("run", "config.json", "stimuli.json")
         with open(os.path.join(folder, "stimuli.json"), "rb") as file:
-            self.write("cut_stimuli.json", expanding.cut(read_document(file.read()), "2").text)
+            self.write("cut_stimuli.json", expanding.cut(read_document(file.read()), ["2"]).text)
         self.write("cut.json", "\n".join(self.lines("cut", "config.json", "2")))
         block = whole[whole.index("core 2") : whole.index("core 7")]
         self.assertGreater(len(block), 10)

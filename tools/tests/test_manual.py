@@ -256,12 +256,12 @@ ANY_FILE = ["-o default"]
 
 # The words before the key TAB, and the replies in any order. bash divides `--schedule=x` into three words.
 BASH_CASES = [
-    ([""], ["check", "cut", "help", "replay", "run", "threads"]),
+    ([""], ["check", "cut", "group", "groups", "help", "replay", "run", "threads"]),
     (["c"], ["check", "cut"]),
     (["x"], []),
     (["-"], ["--help", "--version", "-V", "-h"]),
     (["--v"], ["--version"]),
-    (["help", ""], ["check", "cut", "help", "replay", "run", "threads"]),
+    (["help", ""], ["check", "cut", "group", "groups", "help", "replay", "run", "threads"]),
     (["help", "run", ""], []),
     (["run", ""], FILES),
     (["run", "st"], ["-o filenames", "stimuli.json"]),
@@ -293,6 +293,13 @@ BASH_CASES = [
     (["cut", "notes.txt", ""], []),
     (["cut", "old", ""], []),
     (["cut", "nothing.json", ""], []),
+    (["g"], ["group", "groups"]),
+    (["groups", ""], FILES),
+    (["groups", "-"], ["--help", "-h"]),
+    (["groups", "config.json", ""], []),
+    (["group", ""], FILES),
+    (["group", "config.json", ""], ["0", "12", "17"]),
+    (["group", "config.json", "0", ""], []),
     (["replay", ""], FILES),
     (["replay", "config.json", ""], ["0", "12", "17"]),
     (["replay", "config.json", "0", ""], ANY_FILE),

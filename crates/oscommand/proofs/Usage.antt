@@ -2,18 +2,20 @@
 use Rattle.std.proofs.Common.{◌≡◌, ◌∙◌, ◌⊎◌, ◌||◌, Bool, cond, not, true, false, true≢false, refl, ap, sym, inl, inr, codes, List, [], ◌∷◌, map}
 use Rattle.std.specs.Borrow.{Bor}
 use Rattle.std.specs.List.{list_any}
-use Rattle.std.specs.Prelude.{⊤, IfSome, IsSomeAnd}
+use Rattle.std.specs.Prelude.{⊤, IsSome, IsSomeAnd, Option, None, Some}
 use Rattle.std.specs.Str.{bytes_eq}
 use Rattle.std.proofs.lemmas.Slice.Eq.{bytes_eq-Decides}
-use Rattle.clap.specs.Faults.{check_fault}
-use Rattle.clap.specs.Simple.{Shape, built, built_leaf, filled, help_rule, with_index}
+use Rattle.clap.specs.Faults.{check_fault, level_fault}
+use Rattle.clap.specs.Simple.{Shape, built, built_leaf, filled, help_rule, rows_at, with_index}
 use Rattle.clap.specs.Takes.{is_given}
+use Rattle.clap.specs.Walk.{nothing_held}
 use Rattle.clap.specs.Words.{IsUnsignedIn, Row, Rule, Text, fault_of, first_of, same_text, subcommand_of}
 use Rattle.clap.specs.declared.error.kind.ErrorKind.{ErrorKind}
 use Rattle.clap.specs.declared.builder.ValueParser.TheVariants.{Unsigned}
 use Rattle.clap.proofs.ValueTestLemmas.{accepts-Accepts}
-use Rattle.oscommand.specs.CommandLine.{AreMailKinds, IsMailName, MailKinds, check_command, command_line, config_rule, core_rule, cut_command, items_rule, log_rule, mail_rule, order_rule, replay_command, run_command, schedule_rule, stimuli_rule, threads_command, turns_rule}
+use Rattle.oscommand.specs.CommandLine.{AreMailKinds, IsMailName, MailKinds, check_command, command_line, config_rule, core_rule, cut_command, group_command, groups_command, items_rule, log_rule, mail_rule, order_rule, replay_command, run_command, schedule_rule, stimuli_rule, threads_command, turns_rule}
 use Rattle.oscommand.specs.declared.jobs.TheConstants.{MOST_TURNS}
+use Rattle.oscommand.specs.Entries.{AreChecked, HasConfig, HasConfigAndCore, HasReplay, HasRun, HasThreads}
 use Rattle.oscommand.proofs.Parsed.{AllGive, AllKeep, flag_keeps, help_keeps, leaf_any, leaf_first, one_keeps, subcommand_gives}
 
 -- the arguments as they are built
@@ -38,6 +40,12 @@ check_leaf = built_leaf check_command.top
 abbrev cut_leaf : Shape
 cut_leaf = built_leaf cut_command.top
 
+abbrev groups_leaf : Shape
+groups_leaf = built_leaf groups_command.top
+
+abbrev group_leaf : Shape
+group_leaf = built_leaf group_command.top
+
 abbrev replay_leaf : Shape
 replay_leaf = built_leaf replay_command.top
 
@@ -47,7 +55,7 @@ threads_leaf kinds = built_leaf (threads_command kinds).top
 abbrev Anything : Text → Type 0
 Anything text = ⊤
 
--- ---- what each use keeps
+-- ---- what each use keeps. `groups` has the arguments of `check`, and `group` those of `cut`.
 
 run_keeps : (id : Text) → AllKeep id Anything false run_leaf.rules
 run_keeps id = (
@@ -76,11 +84,11 @@ items_keeps = (
   ),
 )
 
-check_keeps : (id : Text) → AllKeep id Anything false check_leaf.rules
-check_keeps id = (one_keeps id Anything false config (λ is v ok. tt), (help_keeps id Anything false (filled help_rule), tt))
+config_keeps : (id : Text) → AllKeep id Anything false check_leaf.rules
+config_keeps id = (one_keeps id Anything false config (λ is v ok. tt), (help_keeps id Anything false (filled help_rule), tt))
 
-cut_keeps : (id : Text) → AllKeep id Anything false cut_leaf.rules
-cut_keeps id = (
+config_core_keeps : (id : Text) → AllKeep id Anything false cut_leaf.rules
+config_core_keeps id = (
   one_keeps id Anything false config (λ is v ok. tt),
   (one_keeps id Anything false core (λ is v ok. tt), (help_keeps id Anything false (filled help_rule), tt)),
 )
@@ -239,6 +247,12 @@ check_wants rows e = first_wanted (is_given (codes "CFG") rows) _ _ e
 cut_wants : (rows : List Row) → check_fault cut_leaf rows false ≡ [] → (is_given (codes "CFG") rows ≡ true) × (is_given (codes "CORE") rows ≡ true)
 cut_wants rows e = (first_wanted (is_given (codes "CFG") rows) _ _ e, second_wanted (is_given (codes "CFG") rows) (is_given (codes "CORE") rows) _ _ e)
 
+groups_wants : (rows : List Row) → check_fault groups_leaf rows false ≡ [] → is_given (codes "CFG") rows ≡ true
+groups_wants rows e = first_wanted (is_given (codes "CFG") rows) _ _ e
+
+group_wants : (rows : List Row) → check_fault group_leaf rows false ≡ [] → (is_given (codes "CFG") rows ≡ true) × (is_given (codes "CORE") rows ≡ true)
+group_wants rows e = (first_wanted (is_given (codes "CFG") rows) _ _ e, second_wanted (is_given (codes "CFG") rows) (is_given (codes "CORE") rows) _ _ e)
+
 record ReplayWants (rows : List Row) : Type 0 where
   config : is_given (codes "CFG") rows ≡ true
   core : is_given (codes "CORE") rows ≡ true
@@ -254,42 +268,55 @@ replay_wants rows e = record {
 threads_wants : (kinds : MailKinds) (rows : List Row) → check_fault (threads_leaf kinds) rows false ≡ [] → (is_given (codes "CFG") rows ≡ true) × (is_given (codes "STIM") rows ≡ true)
 threads_wants kinds rows e = (first_wanted (is_given (codes "CFG") rows) _ _ e, second_wanted (is_given (codes "CFG") rows) (is_given (codes "STIM") rows) _ _ e)
 
--- ---- what the subcommand has
+-- ---- what each subcommand has
 
-abbrev Has : Text → List Row → Type 0
-Has id rows = IsSomeAnd (first_of id rows) Anything
+there : (o : Option Text) → IsSomeAnd o Anything → IsSome o
+there None has = absurd has
+there (Some text) has = refl
 
-pub record IsRun (name : Text) (rows : List Row) : Type 0 where
-  pub is : name ≡ codes "run"
-  pub config : Has (codes "CFG") rows
-  pub stimuli : Has (codes "STIM") rows
-  pub items : IfSome (first_of (codes "items") rows) (IsUnsignedIn 0 255)
+abbrev IsAccepted : Shape → List Text → Type 0
+IsAccepted leaf words = level_fault leaf [] nothing_held words false [] ≡ []
 
-pub record IsCheck (name : Text) (rows : List Row) : Type 0 where
-  pub is : name ≡ codes "check"
-  pub config : Has (codes "CFG") rows
+run_has : (words : List Text) → IsAccepted run_leaf words → HasRun (rows_at run_leaf words).1
+run_has words e = record {
+  config = there _ (leaf_first (codes "CFG") Anything run_leaf (run_keeps _) (λ rows c. (run_wants rows c).0) words e);
+  stimuli = there _ (leaf_first (codes "STIM") Anything run_leaf (run_keeps _) (λ rows c. (run_wants rows c).1) words e);
+  items = leaf_any (codes "items") (IsUnsignedIn 0 255) run_leaf items_keeps words e;
+}
 
-pub record IsCut (name : Text) (rows : List Row) : Type 0 where
-  pub is : name ≡ codes "cut"
-  pub config : Has (codes "CFG") rows
-  pub core : IsSomeAnd (first_of (codes "CORE") rows) (IsUnsignedIn 0 255)
+check_has : (words : List Text) → IsAccepted check_leaf words → HasConfig (rows_at check_leaf words).1
+check_has words e = there _ (leaf_first (codes "CFG") Anything check_leaf (config_keeps _) check_wants words e)
 
-pub record IsReplay (name : Text) (rows : List Row) : Type 0 where
-  pub is : name ≡ codes "replay"
-  pub config : Has (codes "CFG") rows
-  pub core : IsSomeAnd (first_of (codes "CORE") rows) (IsUnsignedIn 0 255)
-  pub log : Has (codes "LOG") rows
+cut_has : (words : List Text) → IsAccepted cut_leaf words → HasConfigAndCore (rows_at cut_leaf words).1
+cut_has words e = record {
+  config = there _ (leaf_first (codes "CFG") Anything cut_leaf (config_core_keeps _) (λ rows c. (cut_wants rows c).0) words e);
+  core = leaf_first (codes "CORE") (IsUnsignedIn 0 255) cut_leaf core_keeps (λ rows c. (cut_wants rows c).1) words e;
+}
 
-pub record IsThreads (name : Text) (rows : List Row) : Type 0 where
-  pub is : name ≡ codes "threads"
-  pub config : Has (codes "CFG") rows
-  pub stimuli : Has (codes "STIM") rows
-  pub turns : IfSome (first_of (codes "turns") rows) (IsUnsignedIn 1 MOST_TURNS)
-  pub mail : IfSome (first_of (codes "mail") rows) IsMailName
-  pub items : IfSome (first_of (codes "items") rows) (IsUnsignedIn 0 255)
+groups_has : (words : List Text) → IsAccepted groups_leaf words → HasConfig (rows_at groups_leaf words).1
+groups_has words e = there _ (leaf_first (codes "CFG") Anything groups_leaf (config_keeps _) groups_wants words e)
 
-abbrev pub IsJob : Text × List Row → Type 0
-IsJob p = IsRun p.0 p.1 ⊎ (IsCheck p.0 p.1 ⊎ (IsCut p.0 p.1 ⊎ (IsReplay p.0 p.1 ⊎ IsThreads p.0 p.1)))
+group_has : (words : List Text) → IsAccepted group_leaf words → HasConfigAndCore (rows_at group_leaf words).1
+group_has words e = record {
+  config = there _ (leaf_first (codes "CFG") Anything group_leaf (config_core_keeps _) (λ rows c. (group_wants rows c).0) words e);
+  core = leaf_first (codes "CORE") (IsUnsignedIn 0 255) group_leaf core_keeps (λ rows c. (group_wants rows c).1) words e;
+}
+
+replay_has : (words : List Text) → IsAccepted replay_leaf words → HasReplay (rows_at replay_leaf words).1
+replay_has words e = record {
+  config = there _ (leaf_first (codes "CFG") Anything replay_leaf (replay_keeps _) (λ rows c. (replay_wants rows c).config) words e);
+  core = leaf_first (codes "CORE") (IsUnsignedIn 0 255) replay_leaf replay_core_keeps (λ rows c. (replay_wants rows c).core) words e;
+  log = there _ (leaf_first (codes "LOG") Anything replay_leaf (replay_keeps _) (λ rows c. (replay_wants rows c).log) words e);
+}
+
+threads_has : (kinds : MailKinds) → AreMailKinds kinds → (words : List Text) → IsAccepted (threads_leaf kinds) words → HasThreads (rows_at (threads_leaf kinds) words).1
+threads_has kinds are words e = record {
+  config = there _ (leaf_first (codes "CFG") Anything (threads_leaf kinds) (threads_keeps kinds _) (λ rows c. (threads_wants kinds rows c).0) words e);
+  stimuli = there _ (leaf_first (codes "STIM") Anything (threads_leaf kinds) (threads_keeps kinds _) (λ rows c. (threads_wants kinds rows c).1) words e);
+  turns = leaf_any (codes "turns") (IsUnsignedIn 1 MOST_TURNS) (threads_leaf kinds) (turns_keeps kinds) words e;
+  mail = leaf_any (codes "mail") IsMailName (threads_leaf kinds) (mail_keeps kinds are) words e;
+  items = leaf_any (codes "items") (IsUnsignedIn 0 255) (threads_leaf kinds) (threads_items_keeps kinds) words e;
+}
 
 no_help : (name : Text) → bytes_eq name (codes "help") ≡ false → (bytes_eq (codes "help") name || false) ≡ true → ⊥
 no_help name other is =
@@ -301,42 +328,21 @@ no_help name other is =
     either_one true e = refl
     either_one false e = e
 
-jobs_give : (kinds : MailKinds) → AreMailKinds kinds → AllGive IsJob (built (command_line kinds)).subs
+jobs_give : (kinds : MailKinds) → AreMailKinds kinds → AllGive AreChecked (built (command_line kinds)).subs
 jobs_give kinds are = (
-  (λ name other is words e. inl (record {
-    is = refl;
-    config = leaf_first (codes "CFG") Anything run_leaf (run_keeps _) (λ rows c. (run_wants rows c).0) words e;
-    stimuli = leaf_first (codes "STIM") Anything run_leaf (run_keeps _) (λ rows c. (run_wants rows c).1) words e;
-    items = leaf_any (codes "items") (IsUnsignedIn 0 255) run_leaf items_keeps words e;
-  })),
+  (λ name other is words e. run_has words e),
   (
-    (λ name other is words e. inr (inl (record {
-      is = refl;
-      config = leaf_first (codes "CFG") Anything check_leaf (check_keeps _) check_wants words e;
-    }))),
+    (λ name other is words e. check_has words e),
     (
-      (λ name other is words e. inr (inr (inl (record {
-        is = refl;
-        config = leaf_first (codes "CFG") Anything cut_leaf (cut_keeps _) (λ rows c. (cut_wants rows c).0) words e;
-        core = leaf_first (codes "CORE") (IsUnsignedIn 0 255) cut_leaf core_keeps (λ rows c. (cut_wants rows c).1) words e;
-      })))),
+      (λ name other is words e. cut_has words e),
       (
-        (λ name other is words e. inr (inr (inr (inl (record {
-          is = refl;
-          config = leaf_first (codes "CFG") Anything replay_leaf (replay_keeps _) (λ rows c. (replay_wants rows c).config) words e;
-          core = leaf_first (codes "CORE") (IsUnsignedIn 0 255) replay_leaf replay_core_keeps (λ rows c. (replay_wants rows c).core) words e;
-          log = leaf_first (codes "LOG") Anything replay_leaf (replay_keeps _) (λ rows c. (replay_wants rows c).log) words e;
-        }))))),
+        (λ name other is words e. groups_has words e),
         (
-          (λ name other is words e. inr (inr (inr (inr (record {
-            is = refl;
-            config = leaf_first (codes "CFG") Anything (threads_leaf kinds) (threads_keeps kinds _) (λ rows c. (threads_wants kinds rows c).0) words e;
-            stimuli = leaf_first (codes "STIM") Anything (threads_leaf kinds) (threads_keeps kinds _) (λ rows c. (threads_wants kinds rows c).1) words e;
-            turns = leaf_any (codes "turns") (IsUnsignedIn 1 MOST_TURNS) (threads_leaf kinds) (turns_keeps kinds) words e;
-            mail = leaf_any (codes "mail") IsMailName (threads_leaf kinds) (mail_keeps kinds are) words e;
-            items = leaf_any (codes "items") (IsUnsignedIn 0 255) (threads_leaf kinds) (threads_items_keeps kinds) words e;
-          }))))),
-          ((λ name other is words e. absurd (no_help name other is)), tt),
+          (λ name other is words e. group_has words e),
+          (
+            (λ name other is words e. replay_has words e),
+            ((λ name other is words e. threads_has kinds are words e), ((λ name other is words e. absurd (no_help name other is)), tt)),
+          ),
         ),
       ),
     ),
@@ -344,44 +350,5 @@ jobs_give kinds are = (
 )
 
 -- the words name one of the subcommands, and give its required arguments
-pub names_job : (kinds : MailKinds) → AreMailKinds kinds → (words : List Text) → fault_of (command_line kinds) words ≡ [] → IsSomeAnd (subcommand_of (command_line kinds) words) IsJob
-names_job kinds are words e = subcommand_gives IsJob (built (command_line kinds)) _ refl refl (jobs_give kinds are) e
-
--- and so what the subcommand of a name has
-apart : (a b : Text) → bytes_eq a b ≡ false → a ≡ b → ⊥
-apart a b differ same = true≢false (sym ((bytes_eq-Decides a b).1 same) ∙ differ)
-
-pub run_has : (rows : List Row) → IsJob (codes "run", rows) → IsRun (codes "run") rows
-run_has rows (inl run) = run
-run_has rows (inr (inl check)) = absurd (apart (codes "run") (codes "check") refl check.is)
-run_has rows (inr (inr (inl cut))) = absurd (apart (codes "run") (codes "cut") refl cut.is)
-run_has rows (inr (inr (inr (inl replay)))) = absurd (apart (codes "run") (codes "replay") refl replay.is)
-run_has rows (inr (inr (inr (inr threads)))) = absurd (apart (codes "run") (codes "threads") refl threads.is)
-
-pub check_has : (rows : List Row) → IsJob (codes "check", rows) → IsCheck (codes "check") rows
-check_has rows (inl run) = absurd (apart (codes "check") (codes "run") refl run.is)
-check_has rows (inr (inl check)) = check
-check_has rows (inr (inr (inl cut))) = absurd (apart (codes "check") (codes "cut") refl cut.is)
-check_has rows (inr (inr (inr (inl replay)))) = absurd (apart (codes "check") (codes "replay") refl replay.is)
-check_has rows (inr (inr (inr (inr threads)))) = absurd (apart (codes "check") (codes "threads") refl threads.is)
-
-pub cut_has : (rows : List Row) → IsJob (codes "cut", rows) → IsCut (codes "cut") rows
-cut_has rows (inl run) = absurd (apart (codes "cut") (codes "run") refl run.is)
-cut_has rows (inr (inl check)) = absurd (apart (codes "cut") (codes "check") refl check.is)
-cut_has rows (inr (inr (inl cut))) = cut
-cut_has rows (inr (inr (inr (inl replay)))) = absurd (apart (codes "cut") (codes "replay") refl replay.is)
-cut_has rows (inr (inr (inr (inr threads)))) = absurd (apart (codes "cut") (codes "threads") refl threads.is)
-
-pub replay_has : (rows : List Row) → IsJob (codes "replay", rows) → IsReplay (codes "replay") rows
-replay_has rows (inl run) = absurd (apart (codes "replay") (codes "run") refl run.is)
-replay_has rows (inr (inl check)) = absurd (apart (codes "replay") (codes "check") refl check.is)
-replay_has rows (inr (inr (inl cut))) = absurd (apart (codes "replay") (codes "cut") refl cut.is)
-replay_has rows (inr (inr (inr (inl replay)))) = replay
-replay_has rows (inr (inr (inr (inr threads)))) = absurd (apart (codes "replay") (codes "threads") refl threads.is)
-
-pub threads_has : (rows : List Row) → IsJob (codes "threads", rows) → IsThreads (codes "threads") rows
-threads_has rows (inl run) = absurd (apart (codes "threads") (codes "run") refl run.is)
-threads_has rows (inr (inl check)) = absurd (apart (codes "threads") (codes "check") refl check.is)
-threads_has rows (inr (inr (inl cut))) = absurd (apart (codes "threads") (codes "cut") refl cut.is)
-threads_has rows (inr (inr (inr (inl replay)))) = absurd (apart (codes "threads") (codes "replay") refl replay.is)
-threads_has rows (inr (inr (inr (inr threads)))) = threads
+pub names_job : (kinds : MailKinds) → AreMailKinds kinds → (words : List Text) → fault_of (command_line kinds) words ≡ [] → IsSomeAnd (subcommand_of (command_line kinds) words) AreChecked
+names_job kinds are words e = subcommand_gives AreChecked (built (command_line kinds)) _ refl refl (jobs_give kinds are) e

@@ -13,7 +13,7 @@ use Rattle.osbase.specs.declared.messages.MailKind.{MailKind}
 use Rattle.osbase.specs.declared.messages.MailKind.TheVariants.{Ring, Locked}
 use Rattle.osbase.specs.declared.references.CoreId.{CoreId}
 use Rattle.oscommand.specs.declared.jobs.Job.{Job}
-use Rattle.oscommand.specs.declared.jobs.Job.TheVariants.{Run, Check, Cut, Replay, Threads}
+use Rattle.oscommand.specs.declared.jobs.Job.TheVariants.{Run, Check, Cut, Groups, Group, Replay, Threads}
 use Rattle.oscommand.specs.declared.jobs.Print.{Print}
 use Rattle.oscommand.specs.declared.jobs.Print.TheVariants.{Trace, Log, Order}
 use Rattle.oscommand.specs.declared.jobs.TheConstants.{DEFAULT_TURNS, MOST_TURNS}
@@ -80,6 +80,14 @@ check_command = with_rule (new_app (codes "check")) config_rule
 abbrev pub cut_command : App
 cut_command = with_rule (with_rule (new_app (codes "cut")) config_rule) core_rule
 
+-- `groups CFG`
+abbrev pub groups_command : App
+groups_command = with_rule (new_app (codes "groups")) config_rule
+
+-- `group CFG CORE`
+abbrev pub group_command : App
+group_command = with_rule (with_rule (new_app (codes "group")) config_rule) core_rule
+
 -- `replay CFG CORE LOG`
 abbrev pub replay_command : App
 replay_command = with_rule (with_rule (with_rule (new_app (codes "replay")) config_rule) core_rule) log_rule
@@ -98,7 +106,10 @@ abbrev pub tells_version : App → App
 tells_version app = record app { top = record app.top { has_version = true } }
 
 abbrev pub command_line : MailKinds → App
-command_line kinds = with_subcommand (with_subcommand (with_subcommand (with_subcommand (with_subcommand (requires_subcommand (tells_version (new_app (codes "mcos")))) run_command.top) check_command.top) cut_command.top) replay_command.top) (threads_command kinds).top
+command_line kinds =
+    with_subcommand (with_subcommand (with_subcommand (with_subcommand (with_subcommand (with_subcommand (with_subcommand
+    (requires_subcommand (tells_version (new_app (codes "mcos")))) run_command.top) check_command.top) cut_command.top)
+    groups_command.top) group_command.top) replay_command.top) (threads_command kinds).top
 
 -- A text that is there says this number.
 pub record SaysNumber (entry : Option (List ℕ)) (number : ℕ) : Type 0 where
@@ -137,6 +148,9 @@ HasEntries rows (Run config stimuli schedule items) =
 HasEntries rows (Check config) = first_of (codes "CFG") rows ≡ Some config.now
 HasEntries rows (Cut config core) =
     (first_of (codes "CFG") rows ≡ Some config.now) × SaysNumber (first_of (codes "CORE") rows) core.number
+HasEntries rows (Groups config) = first_of (codes "CFG") rows ≡ Some config.now
+HasEntries rows (Group config core) =
+    (first_of (codes "CFG") rows ≡ Some config.now) × SaysNumber (first_of (codes "CORE") rows) core.number
 HasEntries rows (Replay config core log) =
     (first_of (codes "CFG") rows ≡ Some config.now) × SaysNumber (first_of (codes "CORE") rows) core.number
     × (first_of (codes "LOG") rows ≡ Some log.now)
@@ -151,6 +165,8 @@ abbrev pub subcommand_name : Job → List ℕ
 subcommand_name (Run config stimuli schedule items) = codes "run"
 subcommand_name (Check config) = codes "check"
 subcommand_name (Cut config core) = codes "cut"
+subcommand_name (Groups config) = codes "groups"
+subcommand_name (Group config core) = codes "group"
 subcommand_name (Replay config core log) = codes "replay"
 subcommand_name (Threads config stimuli turns mail print) = codes "threads"
 
@@ -165,10 +181,14 @@ pub record AsksFor (words : List (List ℕ)) (job : Job) : Type 0 where
 abbrev pub has_items_and_order : List Row → Bool
 has_items_and_order rows = is_some (first_of (codes "items") rows) && is_set (first_of (codes "order") rows)
 
--- `--order` beside `--items` is wrong usage.
+-- `--order` stands beside `--items`.
+abbrev pub excludes : Option (List ℕ × List Row) → Bool
+excludes None = false
+excludes (Some named) = bytes_eq named.0 (codes "threads") && has_items_and_order named.1
+
+-- That is wrong usage.
 abbrev pub conflict_in : Option (List ℕ × List Row) → Kinds
-conflict_in None = []
-conflict_in (Some named) = if bytes_eq named.0 (codes "threads") && has_items_and_order named.1 then ArgumentConflict ∷ [] else []
+conflict_in named = if excludes named then ArgumentConflict ∷ [] else []
 
 abbrev pub usage_fault : App → List (List ℕ) → Kinds
 usage_fault app words = or_else (fault_of app words) (conflict_in (subcommand_of app words))

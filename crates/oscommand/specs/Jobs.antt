@@ -2,12 +2,14 @@
 use Rattle.std.specs.Prelude.{ℕ, List, [], ◌∷◌, ◌++◌, Option, Some, None, option_map}
 use Rattle.std.specs.Borrow.{Bor}
 use Rattle.oscommand.specs.declared.jobs.Job.{Job}
-use Rattle.oscommand.specs.declared.jobs.Job.TheVariants.{Run, Check, Cut, Replay, Threads}
+use Rattle.oscommand.specs.declared.jobs.Job.TheVariants.{Run, Check, Cut, Groups, Group, Replay, Threads}
 
 abbrev pub config_path : Job → List ℕ
 config_path (Run config stimuli schedule items) = config.now
 config_path (Check config) = config.now
 config_path (Cut config core) = config.now
+config_path (Groups config) = config.now
+config_path (Group config core) = config.now
 config_path (Replay config core log) = config.now
 config_path (Threads config stimuli turns mail print) = config.now
 
@@ -16,6 +18,8 @@ abbrev pub stimuli_path : Job → Option (List ℕ)
 stimuli_path (Run config stimuli schedule items) = Some stimuli.now
 stimuli_path (Check config) = None
 stimuli_path (Cut config core) = None
+stimuli_path (Groups config) = None
+stimuli_path (Group config core) = None
 stimuli_path (Replay config core log) = Some log.now
 stimuli_path (Threads config stimuli turns mail print) = Some stimuli.now
 
@@ -26,6 +30,8 @@ abbrev pub schedule_path : Job → Option (List ℕ)
 schedule_path (Run config stimuli schedule items) = path_in schedule
 schedule_path (Check config) = None
 schedule_path (Cut config core) = None
+schedule_path (Groups config) = None
+schedule_path (Group config core) = None
 schedule_path (Replay config core log) = None
 schedule_path (Threads config stimuli turns mail print) = None
 

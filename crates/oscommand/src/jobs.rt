@@ -1,10 +1,11 @@
 //! What the program is asked to do.
 
-ghost use Rattle.std.specs.Prelude.{◌≡◌, IfOk, IfSome, IsSome, IsSomeAnd, codes, false, is_none, map};
+ghost use Rattle.std.specs.Prelude.{◌≡◌, IfOk, IfSome, IsSome, IsSomeAnd, Some, codes, false, is_none, map};
 ghost use Rattle.std.specs.Str.Parse.{digits_value, without_leading_plus};
-ghost use Rattle.clap.specs.Words.{IsUnsignedIn, app_of, first_of, first_value, found_of, kind_of, rows_of, rule_of};
+ghost use Rattle.clap.specs.Words.{IsUnsignedIn, app_of, first_of, found_of, kind_of, rows_of, rule_of, subcommand_rows_of};
 ghost use Rattle.clap.specs.declared.error.kind.ErrorKind.TheVariants.{ArgumentConflict};
-ghost use Rattle.oscommand.specs.CommandLine.{AsksFor, FailsByWords, HasEntries, IsMailName, SaysCore, SaysMail, SaysPrint, SaysTurns, check_command, command_line, config_rule, core_rule, cut_command, has_items_and_order, is_set, items_rule, mail_name, mail_rule, order_rule, replay_command, run_command, schedule_rule, stimuli_rule, subcommand_name, threads_command, turns_rule};
+ghost use Rattle.oscommand.specs.CommandLine.{AsksFor, FailsByWords, HasEntries, IsMailName, SaysCore, SaysMail, SaysNumber, SaysPrint, SaysTurns, check_command, command_line, config_rule, core_rule, cut_command, group_command, groups_command, has_items_and_order, is_set, items_rule, mail_name, mail_rule, order_rule, replay_command, run_command, schedule_rule, stimuli_rule, subcommand_name, threads_command, turns_rule};
+ghost use Rattle.oscommand.specs.Entries.{AreChecked, HasConfig, HasConfigAndCore, HasReplay, HasRun, HasThreads, SaysJob};
 ghost use Rattle.oscommand.specs.declared.jobs.TheConstants.{MOST_TURNS};
 ghost use Rattle.oscommand.specs.Jobs.{paths_of};
 
@@ -54,6 +55,21 @@ Exit status: 0 done, 1 a fault (`fault N Name`; 20 where the core is not separat
 
 Example: mcos cut config.json 2";
 
+const GROUPS_HELP: &str = "\
+Reads a configuration. Prints a line for each core: the cores of its least group. No core outside a group acts on one
+inside.
+
+Exit status: 0 done, 1 a fault (`fault N Name`), 2 wrong usage.
+
+Example: mcos groups config.json";
+
+const GROUP_HELP: &str = "\
+Reads a configuration. Prints one on a single line, in which no core outside this core's least group has objects.
+
+Exit status: 0 done, 1 a fault (`fault N Name`; 5 where the core is not configured), 2 wrong usage.
+
+Example: mcos group config.json 2";
+
 const REPLAY_HELP: &str = "\
 Reads a configuration and the log of one of its cores, as `run --items` prints it.
 Plays that core by itself, and prints its block of lines. An item that the core may not take is
@@ -97,6 +113,15 @@ pub enum Job<'a> {
     },
     /// Prints the configuration of a separate core alone.
     Cut {
+        config: &'a str,
+        core: CoreId,
+    },
+    /// Prints the least group of each core.
+    Groups {
+        config: &'a str,
+    },
+    /// Prints the configuration of a core's least group by itself.
+    Group {
         config: &'a str,
         core: CoreId,
     },
@@ -149,6 +174,8 @@ impl<'a> Job<'a> {
             }
             Job::Check { config } => paths.push(*config)?,
             Job::Cut { config, .. } => paths.push(*config)?,
+            Job::Groups { config } => paths.push(*config)?,
+            Job::Group { config, .. } => paths.push(*config)?,
             Job::Replay { config, log, .. } => {
                 paths.push(*config)?;
                 paths.push(*log)?;
@@ -173,25 +200,39 @@ pub fn job_of<'a, S: AsStr>(alloc: Global, words: &'a [S]) -> Result<Job<'a>, Er
     ensures fault { FailsByWords (map S.text words.entry.now) result }
 {
     let matches = command(alloc, MAIL_KINDS)?.try_get_matches_from(words)?;
+    match job_in(&matches) {
+        Some(job) => Ok(job),
+        None => Err(conflict(alloc)?),
+    }
+}
+
+// The job of the subcommand that is entered; None where two of its entries exclude each other.
+fn job_in<'a>(matches: &ArgMatches<'a>) -> Option<Job<'a>>
+    requires { IsSomeAnd (subcommand_rows_of matches.now) AreChecked }
+    ensures { SaysJob (subcommand_rows_of matches.now) result }
+{
     if let Some(run) = matches.subcommand_matches("run") {
-        return Ok(run_job(run));
+        return Some(run_job(run));
     }
     if let Some(check) = matches.subcommand_matches("check") {
-        return Ok(check_job(check));
+        return Some(check_job(check));
     }
     if let Some(cut) = matches.subcommand_matches("cut") {
-        return Ok(cut_job(cut));
+        return Some(cut_job(cut));
+    }
+    if let Some(groups) = matches.subcommand_matches("groups") {
+        return Some(groups_job(groups));
+    }
+    if let Some(group) = matches.subcommand_matches("group") {
+        return Some(group_job(group));
     }
     if let Some(replay) = matches.subcommand_matches("replay") {
-        return Ok(replay_job(replay));
+        return Some(replay_job(replay));
     }
     let Some(threads) = matches.subcommand_matches("threads") else {
         unreachable!();
     };
-    match threads_job(threads) {
-        Some(job) => Ok(job),
-        None => Err(conflict(alloc)?),
-    }
+    threads_job(threads)
 }
 
 // The core of a number that a byte can hold.
@@ -205,19 +246,51 @@ fn core_in(word: &str) -> CoreId
     CoreId { number }
 }
 
-// The entries of `run`, whose required arguments are there.
-fn run_job<'a>(run: &ArgMatches<'a>) -> Job<'a>
-    requires config { IsSome (first_value (found_of run.now) (codes "CFG")) }
-    requires stimuli { IsSome (first_value (found_of run.now) (codes "STIM")) }
-    requires items { IfSome (first_value (found_of run.now) (codes "items")) (IsUnsignedIn 0 255) }
-    ensures { HasEntries (rows_of (found_of run.now)) result × (subcommand_name result ≡ codes "run") }
+// The text of a required argument.
+fn text_in<'a>(entries: &ArgMatches<'a>, id: &'static str) -> &'a str
+    requires { IsSome (first_of id.now (rows_of (found_of entries.now))) }
+    ensures { first_of id.now (rows_of (found_of entries.now)) ≡ Some result.now }
 {
-    let (Some(config), Some(stimuli)) = (run.get_str("CFG"), run.get_str("STIM")) else {
+    let Some(text) = entries.get_str(id) else {
         unreachable!();
     };
+    text
+}
+
+// The path of the configuration.
+fn config_of<'a>(entries: &ArgMatches<'a>) -> &'a str
+    requires { IsSome (first_of (codes "CFG") (rows_of (found_of entries.now))) }
+    ensures { first_of (codes "CFG") (rows_of (found_of entries.now)) ≡ Some result.now }
+{
+    text_in(entries, "CFG")
+}
+
+// The path of the stimuli.
+fn stimuli_of<'a>(entries: &ArgMatches<'a>) -> &'a str
+    requires { IsSome (first_of (codes "STIM") (rows_of (found_of entries.now))) }
+    ensures { first_of (codes "STIM") (rows_of (found_of entries.now)) ≡ Some result.now }
+{
+    text_in(entries, "STIM")
+}
+
+// The core of a required argument.
+fn core_of(entries: &ArgMatches) -> CoreId
+    requires { IsSomeAnd (first_of (codes "CORE") (rows_of (found_of entries.now))) (IsUnsignedIn 0 255) }
+    ensures { SaysNumber (first_of (codes "CORE") (rows_of (found_of entries.now))) result.number }
+{
+    let Some(core) = entries.get_str("CORE") else {
+        unreachable!();
+    };
+    core_in(core)
+}
+
+fn run_job<'a>(run: &ArgMatches<'a>) -> Job<'a>
+    requires { HasRun (rows_of (found_of run.now)) }
+    ensures { HasEntries (rows_of (found_of run.now)) result × (subcommand_name result ≡ codes "run") }
+{
     Job::Run {
-        config,
-        stimuli,
+        config: config_of(run),
+        stimuli: stimuli_of(run),
         schedule: run.get_str("schedule"),
         items: items_core(run),
     }
@@ -225,7 +298,7 @@ fn run_job<'a>(run: &ArgMatches<'a>) -> Job<'a>
 
 // The core of `--items`, if that is there.
 fn items_core(run: &ArgMatches) -> Option<CoreId>
-    requires { IfSome (first_value (found_of run.now) (codes "items")) (IsUnsignedIn 0 255) }
+    requires { IfSome (first_of (codes "items") (rows_of (found_of run.now))) (IsUnsignedIn 0 255) }
     ensures { SaysCore (first_of (codes "items") (rows_of (found_of run.now))) result }
 {
     match run.get_str("items") {
@@ -234,50 +307,52 @@ fn items_core(run: &ArgMatches) -> Option<CoreId>
     }
 }
 
-// The entry of `check`, whose required argument is there.
 fn check_job<'a>(check: &ArgMatches<'a>) -> Job<'a>
-    requires config { IsSome (first_value (found_of check.now) (codes "CFG")) }
+    requires { HasConfig (rows_of (found_of check.now)) }
     ensures { HasEntries (rows_of (found_of check.now)) result × (subcommand_name result ≡ codes "check") }
 {
-    let Some(config) = check.get_str("CFG") else {
-        unreachable!();
-    };
-    Job::Check { config }
-}
-
-// The entries of `cut`, whose required arguments are there; the core is a number that a byte can hold.
-fn cut_job<'a>(cut: &ArgMatches<'a>) -> Job<'a>
-    requires config { IsSome (first_value (found_of cut.now) (codes "CFG")) }
-    requires core { IsSomeAnd (first_value (found_of cut.now) (codes "CORE")) (IsUnsignedIn 0 255) }
-    ensures { HasEntries (rows_of (found_of cut.now)) result × (subcommand_name result ≡ codes "cut") }
-{
-    let (Some(config), Some(core)) = (cut.get_str("CFG"), cut.get_str("CORE")) else {
-        unreachable!();
-    };
-    Job::Cut {
-        config,
-        core: core_in(core),
+    Job::Check {
+        config: config_of(check),
     }
 }
 
-// The entries of `replay`, whose required arguments are there; the core is a number that a byte can hold.
+fn cut_job<'a>(cut: &ArgMatches<'a>) -> Job<'a>
+    requires { HasConfigAndCore (rows_of (found_of cut.now)) }
+    ensures { HasEntries (rows_of (found_of cut.now)) result × (subcommand_name result ≡ codes "cut") }
+{
+    Job::Cut {
+        config: config_of(cut),
+        core: core_of(cut),
+    }
+}
+
+fn groups_job<'a>(groups: &ArgMatches<'a>) -> Job<'a>
+    requires { HasConfig (rows_of (found_of groups.now)) }
+    ensures { HasEntries (rows_of (found_of groups.now)) result × (subcommand_name result ≡ codes "groups") }
+{
+    Job::Groups {
+        config: config_of(groups),
+    }
+}
+
+fn group_job<'a>(group: &ArgMatches<'a>) -> Job<'a>
+    requires { HasConfigAndCore (rows_of (found_of group.now)) }
+    ensures { HasEntries (rows_of (found_of group.now)) result × (subcommand_name result ≡ codes "group") }
+{
+    Job::Group {
+        config: config_of(group),
+        core: core_of(group),
+    }
+}
+
 fn replay_job<'a>(replay: &ArgMatches<'a>) -> Job<'a>
-    requires config { IsSome (first_value (found_of replay.now) (codes "CFG")) }
-    requires core { IsSomeAnd (first_value (found_of replay.now) (codes "CORE")) (IsUnsignedIn 0 255) }
-    requires log { IsSome (first_value (found_of replay.now) (codes "LOG")) }
+    requires { HasReplay (rows_of (found_of replay.now)) }
     ensures { HasEntries (rows_of (found_of replay.now)) result × (subcommand_name result ≡ codes "replay") }
 {
-    let (Some(config), Some(core), Some(log)) = (
-        replay.get_str("CFG"),
-        replay.get_str("CORE"),
-        replay.get_str("LOG"),
-    ) else {
-        unreachable!();
-    };
     Job::Replay {
-        config,
-        core: core_in(core),
-        log,
+        config: config_of(replay),
+        core: core_of(replay),
+        log: text_in(replay, "LOG"),
     }
 }
 
@@ -290,23 +365,16 @@ fn conflict(alloc: Global) -> Result<Error, AllocError>
         .error(ErrorKind::ArgumentConflict, ORDER_AND_ITEMS)
 }
 
-// The entries of `threads`, whose required arguments are there; None where two of them exclude each other.
+// The job of `threads`; None where two of its entries exclude each other.
 fn threads_job<'a>(threads: &ArgMatches<'a>) -> Option<Job<'a>>
-    requires config { IsSome (first_value (found_of threads.now) (codes "CFG")) }
-    requires stimuli { IsSome (first_value (found_of threads.now) (codes "STIM")) }
-    requires turns { IfSome (first_value (found_of threads.now) (codes "turns")) (IsUnsignedIn 1 MOST_TURNS) }
-    requires mail { IfSome (first_value (found_of threads.now) (codes "mail")) IsMailName }
-    requires items { IfSome (first_value (found_of threads.now) (codes "items")) (IsUnsignedIn 0 255) }
+    requires { HasThreads (rows_of (found_of threads.now)) }
     ensures entries { IfSome result (λ job. HasEntries (rows_of (found_of threads.now)) job × (subcommand_name job ≡ codes "threads")) }
     ensures none { is_none result ≡ has_items_and_order (rows_of (found_of threads.now)) }
 {
-    let (Some(config), Some(stimuli)) = (threads.get_str("CFG"), threads.get_str("STIM")) else {
-        unreachable!();
-    };
     match print_of(threads) {
         Some(print) => Some(Job::Threads {
-            config,
-            stimuli,
+            config: config_of(threads),
+            stimuli: stimuli_of(threads),
             turns: turns_of(threads),
             mail: mail_of(threads),
             print,
@@ -317,7 +385,7 @@ fn threads_job<'a>(threads: &ArgMatches<'a>) -> Option<Job<'a>>
 
 // What `--items` and `--order` ask for; None where both are there.
 fn print_of(threads: &ArgMatches) -> Option<Print>
-    requires { IfSome (first_value (found_of threads.now) (codes "items")) (IsUnsignedIn 0 255) }
+    requires { IfSome (first_of (codes "items") (rows_of (found_of threads.now))) (IsUnsignedIn 0 255) }
     ensures says { IfSome result (SaysPrint (rows_of (found_of threads.now))) }
     ensures none { is_none result ≡ has_items_and_order (rows_of (found_of threads.now)) }
 {
@@ -341,7 +409,7 @@ fn has_order(threads: &ArgMatches) -> bool
 
 // The number of `--turns`, or else the default.
 fn turns_of(threads: &ArgMatches) -> u64
-    requires { IfSome (first_value (found_of threads.now) (codes "turns")) (IsUnsignedIn 1 MOST_TURNS) }
+    requires { IfSome (first_of (codes "turns") (rows_of (found_of threads.now))) (IsUnsignedIn 1 MOST_TURNS) }
     ensures { SaysTurns (first_of (codes "turns") (rows_of (found_of threads.now))) result }
 {
     match threads.get_str("turns") {
@@ -362,7 +430,7 @@ fn turns_in(word: &str) -> u64
 
 // The kind of `--mail`, or else rings.
 fn mail_of(threads: &ArgMatches) -> MailKind
-    requires { IfSome (first_value (found_of threads.now) (codes "mail")) IsMailName }
+    requires { IfSome (first_of (codes "mail") (rows_of (found_of threads.now))) IsMailName }
     ensures { SaysMail (first_of (codes "mail") (rows_of (found_of threads.now))) result }
 {
     match threads.get_str("mail") {
@@ -393,6 +461,8 @@ fn command<'a>(alloc: Global, kinds: &'a [&'a str]) -> Result<Command<'a>, Alloc
         .subcommand(run_command(alloc)?)?
         .subcommand(check_command(alloc)?)?
         .subcommand(cut_command(alloc)?)?
+        .subcommand(groups_command(alloc)?)?
+        .subcommand(group_command(alloc)?)?
         .subcommand(replay_command(alloc)?)?
         .subcommand(threads_command(alloc, kinds)?)
 }
@@ -456,6 +526,25 @@ fn cut_command<'a>(alloc: Global) -> Result<Command<'a>, AllocError>
     Command::new(alloc, "cut")
         .about("Prints the configuration of a separate core alone")
         .after_help(CUT_HELP)
+        .arg(config_arg(alloc))?
+        .arg(core_arg(alloc))
+}
+
+fn groups_command<'a>(alloc: Global) -> Result<Command<'a>, AllocError>
+    ensures { IfOk result (λ command. app_of command ≡ groups_command) }
+{
+    Command::new(alloc, "groups")
+        .about("Prints the cores of each core's least group")
+        .after_help(GROUPS_HELP)
+        .arg(config_arg(alloc))
+}
+
+fn group_command<'a>(alloc: Global) -> Result<Command<'a>, AllocError>
+    ensures { IfOk result (λ command. app_of command ≡ group_command) }
+{
+    Command::new(alloc, "group")
+        .about("Prints the configuration of a core's least group by itself")
+        .after_help(GROUP_HELP)
         .arg(config_arg(alloc))?
         .arg(core_arg(alloc))
 }

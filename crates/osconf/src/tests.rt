@@ -405,7 +405,7 @@ fn texts_with_tables(rt: HostRuntime) -> Result<(), Fail> {
         (Reader::Configuration, tables::TIMES, tables::TABLE_TIMES),
         (Reader::Configuration, tables::SCRIPT, tables::OPERATIONS),
     ];
-    play_all(&rt, rt.alloc(), tables, 64)
+    play_all(&rt, rt.alloc(), tables, 65)
 }
 
 #[test]

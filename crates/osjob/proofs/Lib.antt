@@ -1,6 +1,7 @@
 pub mod Printing
 pub mod Reading
-pub mod Standings
+pub mod Lines
+pub mod Grouping
 pub mod Unread
 pub mod Logging
 pub mod Replaying

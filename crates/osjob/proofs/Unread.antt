@@ -5,7 +5,7 @@ use Rattle.std.specs.Borrow.{Bor}
 use Rattle.osplan.specs.declared.faults.ConfFault.TheVariants.{NoMemory}
 use Rattle.osjob.specs.declared.faults.Fault.TheVariants.{Text, Unreadable}
 use Rattle.oscommand.specs.declared.jobs.Job.{Job}
-use Rattle.oscommand.specs.declared.jobs.Job.TheVariants.{Run, Check, Cut, Replay, Threads}
+use Rattle.oscommand.specs.declared.jobs.Job.TheVariants.{Run, Check, Cut, Groups, Group, Replay, Threads}
 use Rattle.oscommand.specs.Jobs.{paths_of}
 use Rattle.osjob.specs.Performs.{HasNoOutput, fails}
 use Rattle.osjob.specs.Program.{PrintsJob}
@@ -20,6 +20,8 @@ no_memory-output : (job : Job) (files : List File) → HasNoOutput job files (Te
 no_memory-output (Run config stimuli schedule items) files = λ apart. absurd (apart refl)
 no_memory-output (Check config) files = λ apart. absurd (apart refl)
 no_memory-output (Cut config core) files = λ apart. absurd (apart refl)
+no_memory-output (Groups config) files = λ apart. absurd (apart refl)
+no_memory-output (Group config core) files = λ apart. absurd (apart refl)
 no_memory-output (Replay config core log) files = λ apart. absurd (apart refl)
 no_memory-output (Threads config stimuli turns mail print) files = λ apart. absurd (apart refl)
 

@@ -1,6 +1,7 @@
 pub mod Checks
 pub mod Faults
 pub mod Files
+pub mod Groups
 pub mod Outputs
 pub mod Performs
 pub mod Program

@@ -1,13 +1,17 @@
 -- What a job comes to: what it prints, its status, and the fault that it tells. [own]
 use Rattle.std.specs.Prelude.{◌≡◌, ◌≢◌, ℕ, Bool, true, false, Option, Some, None, Result, Ok, Err, List, IsSome, IfErr}
 use Rattle.std.specs.Result.{IsOkAnd}
+use Rattle.osbase.specs.declared.items.CoreSet.{CoreSet}
 use Rattle.osbase.specs.declared.references.CoreId.{CoreId}
+use Rattle.osbase.specs.Sets.{has_core}
 use Rattle.osbase.specs.declared.turns.Choice.{Choice}
 use Rattle.osbase.specs.declared.turns.CoreStimuli.{CoreStimuli}
 use Rattle.osbase.specs.declared.turns.Report.{Report}
 use Rattle.osplan.specs.declared.plans.Plan.{Plan}
+use Rattle.osplan.specs.View.{core_of}
 use Rattle.osplan.specs.declared.faults.ConfFault.TheVariants.{NoMemory, NotSeparate, UnknownName}
 use Rattle.osseparate.specs.Separate.{cut_of, is_separate}
+use Rattle.osgroup.specs.Groups.{group_of, is_in_least_group}
 use Rattle.osdraft.specs.Meaning.{config_of, faults_of}
 use Rattle.osgiven.specs.Given.{schedule_faults, stimuli_faults}
 use Rattle.ostrace.specs.declared.sinks.WriteFailed.{WriteFailed as SinkFailed}
@@ -16,7 +20,7 @@ use Rattle.osturn.specs.Ends.{have_all_ended}
 use Rattle.osjob.specs.declared.faults.Fault.{Fault}
 use Rattle.osjob.specs.declared.faults.Fault.TheVariants.{MailBreak, NoMemoryToRun, NoThread, Text, WriteFailed}
 use Rattle.oscommand.specs.declared.jobs.Job.{Job}
-use Rattle.oscommand.specs.declared.jobs.Job.TheVariants.{Run, Check, Cut, Replay, Threads}
+use Rattle.oscommand.specs.declared.jobs.Job.TheVariants.{Run, Check, Cut, Groups, Group, Replay, Threads}
 use Rattle.oscommand.specs.declared.jobs.Print.{Print}
 use Rattle.oscommand.specs.declared.jobs.Print.TheVariants.{Trace, Log, Order}
 use Rattle.osjob.specs.declared.outcomes.Outcome.{Outcome}
@@ -24,6 +28,8 @@ use Rattle.osjob.specs.declared.outcomes.Outcome.TheVariants.{Done, Stalled}
 use Rattle.oswrite.specs.Writing.{config_text}
 use Rattle.osjob.specs.Checks.{check_text, cut_text}
 use Rattle.osjob.specs.Faults.{fault_text}
+use Rattle.osjob.specs.Groups.{group_text, groups_text}
+use Rattle.osjob.specs.LogTexts.{IsUnknownCore}
 use Rattle.oscommand.specs.Jobs.{path_in}
 use Rattle.osjob.specs.Replays.{HasNoReplay, IsReplayOutput}
 use Rattle.osjob.specs.Runs.{IsGiven, IsInput, IsOrdered, IsPlayed, IsThreaded, are_items_known, logged_core, printed_text}
@@ -169,6 +175,45 @@ IsCutOf plan core text = (is_separate plan core ≡ true) × (text ≡ config_te
 abbrev pub IsNotCut : Plan → CoreId → Fault → Type 0
 IsNotCut plan core fault = fault ≢ Text NoMemory → (is_separate plan core ≡ false) × (fault ≡ Text NotSeparate)
 
+-- ---- groups
+
+-- The least group of each core of the file's configuration. [own]
+pub record IsGroupsOutput (files : List File) (text : List ℕ) (outcome : Outcome) : Type 0 where
+  pub plan : Plan
+  pub config : Means config_of (text_at files 0) plan
+  pub text_is : text ≡ groups_text plan
+  pub outcome_is : outcome ≡ Done
+
+-- ---- group
+
+-- The set is the least group of the core.
+abbrev pub IsLeastGroup : Plan → CoreId → CoreSet → Type 0
+IsLeastGroup plan core group = (id : CoreId) → has_core group id ≡ is_in_least_group plan core id
+
+-- The configuration of the core's least group by itself. [own]
+pub record IsGroupOutput (core : CoreId) (files : List File) (text : List ℕ) (outcome : Outcome) : Type 0 where
+  pub plan : Plan
+  pub config : Means config_of (text_at files 0) plan
+  pub configured : IsSome (core_of plan core)
+  pub group : CoreSet
+  pub least : IsLeastGroup plan core group
+  pub text_is : text ≡ group_text plan group
+  pub outcome_is : outcome ≡ Done
+
+-- The fault of the configuration, or that the core is not configured. [own]
+pub data IsGroupFault (core : CoreId) (files : List File) (fault : Fault) : Type 0 where
+  in_config : IsFaultOf faults_of (text_at files 0) fault → IsGroupFault core files fault
+  in_core : (plan : Plan) → Means config_of (text_at files 0) plan → IsUnknownCore plan core fault → IsGroupFault core files fault
+
+abbrev pub HasNoGroup : CoreId → List File → Fault → Type 0
+HasNoGroup core files fault = fault ≢ Text NoMemory → IsGroupFault core files fault
+
+-- The text of the least group's own configuration.
+pub record IsGroupOf (plan : Plan) (core : CoreId) (text : List ℕ) : Type 0 where
+  pub group : CoreSet
+  pub least : IsLeastGroup plan core group
+  pub text_is : text ≡ config_text (group_of plan group)
+
 -- ---- any job
 
 -- What a job prints, and how it ends then: with an outcome, or by a fault that is told behind the text.
@@ -176,6 +221,8 @@ abbrev pub IsOutput : Job → List File → List ℕ → Result Outcome Fault �
 IsOutput (Run config stimuli schedule items) files = NoFault (IsRunOutput (path_in schedule) items files)
 IsOutput (Check config) files = NoFault (IsCheckOutput files)
 IsOutput (Cut config core) files = NoFault (IsCutOutput core files)
+IsOutput (Groups config) files = NoFault (IsGroupsOutput files)
+IsOutput (Group config core) files = NoFault (IsGroupOutput core files)
 IsOutput (Replay config core log) files = IsReplayOutput core files
 IsOutput (Threads config stimuli turns mail print) files = NoFault (IsThreadsOutput turns print files)
 
@@ -183,6 +230,8 @@ abbrev pub HasNoOutput : Job → List File → Fault → Type 0
 HasNoOutput (Run config stimuli schedule items) files fault = HasNoReports BreaksTurns (path_in schedule) items files fault
 HasNoOutput (Check config) files fault = HasNoConfig files fault
 HasNoOutput (Cut config core) files fault = HasNoCut core files fault
+HasNoOutput (Groups config) files fault = HasNoConfig files fault
+HasNoOutput (Group config core) files fault = HasNoGroup core files fault
 HasNoOutput (Replay config core log) files fault = HasNoReplay core files fault
 HasNoOutput (Threads config stimuli turns mail print) files fault = HasNoReports BreaksThreads None (logged_core print) files fault
 

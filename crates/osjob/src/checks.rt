@@ -114,7 +114,8 @@ fn text_of_cut(alloc: Global, config: &Config, core: CoreId) -> Result<String, F
     Ok(config_text(alloc, &cut)?)
 }
 
-fn write_line<O: Sink>(out: &mut O, text: &str) -> Result<(), WriteFailed>
+/// Writes a text and a line end.
+pub fn write_line<O: Sink>(out: &mut O, text: &str) -> Result<(), WriteFailed>
     requires { O.failed out.old < 2 ^ 48 }
     ensures { Writes O.taken O.failed out.old out.new (text.now ++ codes "\n") result }
 {

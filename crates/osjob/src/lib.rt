@@ -5,6 +5,7 @@ mod checks;
 mod endings;
 mod faults;
 mod files;
+mod groups;
 mod orders;
 mod outcomes;
 mod outputs;

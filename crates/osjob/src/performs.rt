@@ -8,6 +8,7 @@ ghost use Rattle.osjob.specs.Runs.{UsesUp};
 use crate::checks::{check, cut_out};
 use crate::endings::tell;
 use crate::faults::Fault;
+use crate::groups::{group_out, groups_out};
 use crate::outcomes::Outcome;
 use crate::replays::replay_out;
 use crate::runs::run;
@@ -61,6 +62,8 @@ pub fn print_from<R: Threads + Wait + Sync, S: Source + Drop, O: Sink>(
         } => run(alloc, *schedule, *items, source, out),
         Job::Check { .. } => check(alloc, &mut source, out),
         Job::Cut { core, .. } => cut_out(alloc, *core, &mut source, out),
+        Job::Groups { .. } => groups_out(alloc, &mut source, out),
+        Job::Group { core, .. } => group_out(alloc, *core, &mut source, out),
         Job::Replay { core, .. } => replay_out(alloc, *core, &mut source, out),
         Job::Threads {
             turns,

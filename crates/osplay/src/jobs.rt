@@ -40,6 +40,17 @@ pub fn cut_of(number: u8) -> Job<'static> {
     }
 }
 
+pub fn groups_of() -> Job<'static> {
+    Job::Groups { config: CONFIG }
+}
+
+pub fn group_of(number: u8) -> Job<'static> {
+    Job::Group {
+        config: CONFIG,
+        core: CoreId { number },
+    }
+}
+
 pub fn replay_of(number: u8) -> Job<'static> {
     Job::Replay {
         config: CONFIG,
@@ -74,6 +85,8 @@ pub fn job_of(words: &str, schedule: Option<&'static str>) -> Option<Job<'static
         ("replay", core) => Some(replay_of(core.parse::<u8>().ok()?)),
         ("check", "") => Some(check_of()),
         ("cut", core) => Some(cut_of(core.parse::<u8>().ok()?)),
+        ("groups", "") => Some(groups_of()),
+        ("group", core) => Some(group_of(core.parse::<u8>().ok()?)),
         ("threads", rest) => threads_job(rest),
         _ => None,
     }

@@ -49,8 +49,8 @@ pub fn play_all(
 // Any other line heads a block, which goes up to an empty line:
 // `log`: the log of the jobs behind it. `log open`: one without its last line end. `first`: what each log begins with, up to
 // the next configuration.
-// `run`, `items CORE`, `replay CORE`, `check`, `cut CORE`, `threads TURNS`, `threads TURNS CORE` or `threads TURNS order`: a job, and
-// what it prints. `threads locked ..`: with locked mailboxes in place of rings.
+// `run`, `items CORE`, `replay CORE`, `check`, `cut CORE`, `groups`, `group CORE`, `threads TURNS`, `threads TURNS CORE` or
+// `threads TURNS order`: a job, and what it prints. `threads locked ..`: with locked mailboxes in place of rings.
 // A last line `fault ..` is reported, and the job exits with 1; else it exits with 0, or with the N of `JOB -> N`. The one line
 // `as before` stands for the block of the job before. What `items` prints is the log of the jobs behind it.
 fn play(

@@ -2,6 +2,7 @@ pub mod Example
 pub mod Parts
 pub mod Border
 pub mod Clocks
+pub mod Groups
 pub mod Interrupts
 pub mod Laws
 pub mod Resources

@@ -3,6 +3,7 @@
 
 pub mod border;
 pub mod clocks;
+pub mod groups;
 pub mod interrupts;
 pub mod laws;
 pub mod logs;

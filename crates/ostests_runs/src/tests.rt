@@ -5,6 +5,8 @@ mod cores;
 mod counters;
 mod events;
 mod files;
+mod groups;
+mod hostile;
 mod interrupts;
 mod kernel;
 mod limits;

@@ -31,7 +31,11 @@ use Rattle.osturn.proofs.Ending.{phase-after}
 use Rattle.osturn.proofs.Going.{dispatch-course, going-before}
 use Rattle.osturn.proofs.Sane.{never-asked}
 
-abbrev is_halt : Item → Bool
+-- Of these items, what a core without objects takes.
+abbrev pub bare_items : List Item → List Item
+bare_items items = filter is_bare_item items
+
+abbrev pub is_halt : Item → Bool
 is_halt (Item.Halt core status) = true
 is_halt item = false
 
@@ -208,22 +212,19 @@ module _ (v : View) where
       by true e rest = ltb-true (item_count h) (2 ^ 48) (and_parts (nat_lt (item_count h) (2 ^ 48)) (admits outbox_size (state_of v h) i) e).0
       by false e rest = cc
 
-  abbrev pub Bares : List Item → List Item
-  Bares items = filter is_bare_item items
-
   -- Of items that the core takes in turn it takes these in turn, where no script of the core shuts all cores down.
   module _ (unhalted : NamesAllow v but_halt) where
-    pub solo-bare : (items : List Item) (h k : History) → Alike h k → Asks but_halt h → solo_from v h items ≡ Some (history_from v h items) → solo_from bare k (Bares items) ≡ Some (history_from bare k (Bares items))
+    pub solo-bare : (items : List Item) (h k : History) → Alike h k → Asks but_halt h → solo_from v h items ≡ Some (history_from v h items) → solo_from bare k (bare_items items) ≡ Some (history_from bare k (bare_items items))
     solo-bare [] h k a never each = refl
     solo-bare (i ∷ is) h k a never each =
         let turn = solo-parts v h i is each in
         by (is_bare_item i) refl (λ l x. solo-bare is (after v h i) l x (asks-after but_halt v unhalted h i never) turn.1) turn.0
       where
-        by : (b : Bool) → is_bare_item i ≡ b → ((l : History) → Alike (after v h i) l → solo_from bare l (Bares is) ≡ Some (history_from bare l (Bares is))) → admits outbox_size (state_of v h) i ≡ true
-            → solo_from bare k (cond b (i ∷ Bares is) (Bares is)) ≡ Some (history_from bare k (cond b (i ∷ Bares is) (Bares is)))
+        by : (b : Bool) → is_bare_item i ≡ b → ((l : History) → Alike (after v h i) l → solo_from bare l (bare_items is) ≡ Some (history_from bare l (bare_items is))) → admits outbox_size (state_of v h) i ≡ true
+            → solo_from bare k (cond b (i ∷ bare_items is) (bare_items is)) ≡ Some (history_from bare k (cond b (i ∷ bare_items is) (bare_items is)))
         by true e rest taken =
             let few = a.count in
             let room = first-takes h i is each in
             let takes_it : takes outbox_size bare k i ≡ true = and_from _ _ (lt-ltb (item_count k) (2 ^ 48) (omega (arith, few, room))) (admitted h k i e a (unasked v h never) taken) in
-            ap (λ (t : Bool). cond t (solo_from bare (after bare k i) (Bares is)) None) takes_it ∙ rest (after bare k i) (keeps h k i e a)
+            ap (λ (t : Bool). cond t (solo_from bare (after bare k i) (bare_items is)) None) takes_it ∙ rest (after bare k i) (keeps h k i e a)
         by false e rest taken = rest k (skips h k i e a)

@@ -38,7 +38,7 @@ use Rattle.osturn.specs.Asking.{Calls, asked, halted, look_asked, named, named_b
 use Rattle.osturn.specs.Fits.{AreAnswered, Leads, is_drain}
 use Rattle.osturn.specs.Groups.{is_bare_item}
 use Rattle.osturn.proofs.Asked.{IsOwnAsk, asks-own}
-use Rattle.osturn.proofs.Bare.{Alike, Bares, bare, bare-mail, keeps, looks-halt, skips, unasked}
+use Rattle.osturn.proofs.Bare.{Alike, bare, bare-mail, bare_items, is_halt, keeps, looks-halt, skips, unasked}
 use Rattle.osturn.proofs.Leading.{closing-item, halted-item, passing-item, spun-item}
 
 -- An item of another kind.
@@ -93,33 +93,29 @@ drains id w (StartUnknown k) Unasked i e d = unlike is_drain false _ i e refl d
 drains id w (TakeStimulus s) Unasked i e d = unlike is_drain false _ i e refl d
 drains id w ask answer i e d = cc
 
-abbrev is_halt_item : Item → Bool
-is_halt_item (Item.Halt core status) = true
-is_halt_item i = false
-
 -- A core that did not ask for the shutdown itself is halted by a look for it.
 abbrev Heard : Watch → Item → Ask → Answer → Type 0
 Heard w i ask answer = (halt : Option (CoreId × Status)) × (ask ≡ OfBoard LookHalt) × (answer ≡ Replied (Halting halt)) × (halted w halt ≡ Some i)
 
-heard : (v : View) (s : KernelState) → has_asked_halt s ≡ false → (id : CoreId) (next : Option Stimulus) (w : Watch) (ask : Ask) (answer : Answer) (i : Item) → IsOwnAsk v s next (Some ask) → named_by id w ask answer ≡ Some i → is_halt_item i ≡ true → Heard w i ask answer
+heard : (v : View) (s : KernelState) → has_asked_halt s ≡ false → (id : CoreId) (next : Option Stimulus) (w : Watch) (ask : Ask) (answer : Answer) (i : Item) → IsOwnAsk v s next (Some ask) → named_by id w ask answer ≡ Some i → is_halt i ≡ true → Heard w i ask answer
 heard v s u id next w (OfBoard LookHalt) (Replied (Halting halt)) i own e d = (halt, refl, refl, e)
-heard v s u id next w (OfBoard Drain) (Replied Acknowledged) i own e d = unlike is_halt_item false _ i e refl d
-heard v s u id next w (OfBoard (Start k)) (Replied (Started status)) i own e d = unlike is_halt_item false _ i e refl d
-heard v s u id next w (OfBoard (Enter mode)) (Replied Acknowledged) i own e d = unlike is_halt_item false _ i e refl d
-heard v s u id next w (OfBoard MakeReady) (Replied Acknowledged) i own e d = unlike is_halt_item false _ i e refl d
+heard v s u id next w (OfBoard Drain) (Replied Acknowledged) i own e d = unlike is_halt false _ i e refl d
+heard v s u id next w (OfBoard (Start k)) (Replied (Started status)) i own e d = unlike is_halt false _ i e refl d
+heard v s u id next w (OfBoard (Enter mode)) (Replied Acknowledged) i own e d = unlike is_halt false _ i e refl d
+heard v s u id next w (OfBoard MakeReady) (Replied Acknowledged) i own e d = unlike is_halt false _ i e refl d
 heard v s u id next w (OfBoard (AskHalt status)) answer i own e d = absurd (false≢true (sym u ∙ own))
-heard v s u id next w (OfBoard Look) (Replied (Shown b)) i own e d = absurd (both_ways (is_halt_item i) (passing-item (λ j. is_halt_item j ≡ false) refl (λ agreement. refl) (λ cores. refl) id b w i e) d)
-heard v s u id next w (OfBoard LookDrained) (Replied (Drained cores)) i own e d = absurd (both_ways (is_halt_item i) (closing-item (λ j. is_halt_item j ≡ false) refl w cores i e) d)
-heard v s u id next w (OfSpins wish) (Spun reply) i own e d = absurd (both_ways (is_halt_item i) (spun-item (λ j. is_halt_item j ≡ false) (λ l. refl) (λ l taken. refl) (λ l. refl) wish reply i e) d)
-heard v s u id next w (Room to) (HasRoom true) i own e d = unlike is_halt_item false _ i e refl d
-heard v s u id next w (Oldest from) (Found (Some x)) i own e d = unlike is_halt_item false _ i e refl d
-heard v s u id next w (StartUnknown k) Unasked i own e d = unlike is_halt_item false _ i e refl d
-heard v s u id next w (TakeStimulus x) Unasked i own e d = unlike is_halt_item false _ i e refl d
+heard v s u id next w (OfBoard Look) (Replied (Shown b)) i own e d = absurd (both_ways (is_halt i) (passing-item (λ j. is_halt j ≡ false) refl (λ agreement. refl) (λ cores. refl) id b w i e) d)
+heard v s u id next w (OfBoard LookDrained) (Replied (Drained cores)) i own e d = absurd (both_ways (is_halt i) (closing-item (λ j. is_halt j ≡ false) refl w cores i e) d)
+heard v s u id next w (OfSpins wish) (Spun reply) i own e d = absurd (both_ways (is_halt i) (spun-item (λ j. is_halt j ≡ false) (λ l. refl) (λ l taken. refl) (λ l. refl) wish reply i e) d)
+heard v s u id next w (Room to) (HasRoom true) i own e d = unlike is_halt false _ i e refl d
+heard v s u id next w (Oldest from) (Found (Some x)) i own e d = unlike is_halt false _ i e refl d
+heard v s u id next w (StartUnknown k) Unasked i own e d = unlike is_halt false _ i e refl d
+heard v s u id next w (TakeStimulus x) Unasked i own e d = unlike is_halt false _ i e refl d
 heard v s u id next w ask answer i own e d = cc
 
-halted-at : (w : Watch) (halt : Option (CoreId × Status)) (i : Item) → is_halt_item i ≡ true → halted w halt ≡ Some i → halted Watch.Halt halt ≡ Some i
+halted-at : (w : Watch) (halt : Option (CoreId × Status)) (i : Item) → is_halt i ≡ true → halted w halt ≡ Some i → halted Watch.Halt halt ≡ Some i
 halted-at Watch.Halt halt i d e = e
-halted-at Watch.Last halt i d e = unlike is_halt_item false (Item.Last halt) i e refl d
+halted-at Watch.Last halt i d e = unlike is_halt false (Item.Last halt) i e refl d
 halted-at w None i d e = cc
 halted-at w (Some asked) i d e = cc
 
@@ -133,7 +129,7 @@ watch-at Phase.Drained n s t e = ap Watch.PassEnd e
 watch-at p n s t e = refl
 
 -- A live core takes only these of such items.
-live-items : (i : Item) → is_bare_item i ≡ true → (p : Phase) → Some p ≡ stage_of i → is_live_phase p ≡ true → is_drain i ≡ false → is_halt_item i ≡ true
+live-items : (i : Item) → is_bare_item i ≡ true → (p : Phase) → Some p ≡ stage_of i → is_live_phase p ≡ true → is_drain i ≡ false → is_halt i ≡ true
 live-items (Item.Halt core status) b p at l d = refl
 live-items Item.Drained b p at l d = absurd (true≢false d)
 live-items i b Phase.Live at l d = cc
@@ -151,7 +147,7 @@ module _ (v : View) (h k : History) (i : Item) (b : is_bare_item i ≡ true) (a 
   live-drain Item.Drained d e = same_Some _ _ e
   live-drain j d e = absurd (false≢true d)
 
-  live-halt : (j : Item) → is_halt_item j ≡ true → Some (phase_at v h) ≡ stage_of j → phase_at v h ≡ Phase.Live
+  live-halt : (j : Item) → is_halt j ≡ true → Some (phase_at v h) ≡ stage_of j → phase_at v h ≡ Phase.Live
   live-halt (Item.Halt core status) d e = same_Some _ _ e
   live-halt j d e = absurd (false≢true d)
 
@@ -176,11 +172,11 @@ module _ (v : View) (h k : History) (i : Item) (b : is_bare_item i ≡ true) (a 
         names = (λ j. named_by v.core (watch_of (bare v) k) (told.0 j) (told.1 j)) ∙ sym (λ j. named_by v.core (watch_of v h) (told.0 j) (told.1 j)) ∙ leads.names;
       }
 
-  may-halt : (j : Item) → is_halt_item j ≡ true → admits outbox_size (state_of v h) j ≡ true → may_halt (state_of v h) ≡ true
+  may-halt : (j : Item) → is_halt j ≡ true → admits outbox_size (state_of v h) j ≡ true → may_halt (state_of v h) ≡ true
   may-halt (Item.Halt core status) d t = (and_parts (stands_in Phase.Live (phase_at v h)) (may_halt (state_of v h)) t).1
   may-halt j d t = absurd (false≢true d)
 
-  of-halt : is_halt_item i ≡ true → Led
+  of-halt : is_halt i ≡ true → Led
   of-halt d = record {
     choice = Choice.Look;
     next = None;
@@ -250,14 +246,14 @@ module _ (v : View) (unhalted : NamesAllow v but_halt) where
   abbrev no_spins : Calls → Calls
   no_spins calls = record { board = calls.board; spins = [] }
 
-  pub answered-bare : (items : List Item) (h k : History) (calls : Calls) → Alike v h k → Asks but_halt h → solo_from v h items ≡ Some (history_from v h items) → AreAnswered v h items calls → AreAnswered (bare v) k (Bares v items) (no_spins calls)
+  pub answered-bare : (items : List Item) (h k : History) (calls : Calls) → Alike v h k → Asks but_halt h → solo_from v h items ≡ Some (history_from v h items) → AreAnswered v h items calls → AreAnswered (bare v) k (bare_items items) (no_spins calls)
   answered-bare [] h k calls a never each none = ap no_spins none
   answered-bare (i ∷ is) h k calls a never each all =
       let turn = solo-parts v h i is each in
       by (is_bare_item i) refl (λ l x. answered-bare is (after v h i) l all.3 x (asks-after but_halt v unhalted h i never) turn.1 all.5) turn.0
     where
-      by : (b : Bool) → is_bare_item i ≡ b → ((l : History) → Alike v (after v h i) l → AreAnswered (bare v) l (Bares v is) (no_spins all.3)) → admits outbox_size (state_of v h) i ≡ true
-          → AreAnswered (bare v) k (cond b (i ∷ Bares v is) (Bares v is)) (no_spins calls)
+      by : (b : Bool) → is_bare_item i ≡ b → ((l : History) → Alike v (after v h i) l → AreAnswered (bare v) l (bare_items is) (no_spins all.3)) → admits outbox_size (state_of v h) i ≡ true
+          → AreAnswered (bare v) k (cond b (i ∷ bare_items is) (bare_items is)) (no_spins calls)
       by true e rest taken = (
         all.0,
         all.1,
@@ -269,5 +265,5 @@ module _ (v : View) (unhalted : NamesAllow v but_halt) where
       )
       by false e rest taken =
           let none = no-board v.core v.core (watch_of v h) all.0 all.1 i all.2.names e in
-          subst (AreAnswered (bare v) k (Bares v is)) (sym (ap no_spins all.4 ∙ ap (λ (board : List BoardEntry). let made : Calls = record { board = board ++ all.3.board; spins = [] } in made) none))
+          subst (AreAnswered (bare v) k (bare_items is)) (sym (ap no_spins all.4 ∙ ap (λ (board : List BoardEntry). let made : Calls = record { board = board ++ all.3.board; spins = [] } in made) none))
           (rest k (skips v h k i e a))

@@ -46,7 +46,7 @@ use Rattle.osturn.proofs.GroupParts.{calls-inside, calls-outside, items-part, re
 use Rattle.osturn.proofs.GroupNames.{asks_inside, asks_outside, inside-allow, outside-allow, outside-unhalted}
 use Rattle.osturn.proofs.GroupSpins.{calls-asked}
 use Rattle.osturn.proofs.Mailed.{is_reply, posts-nothing, posts-replies}
-use Rattle.osturn.proofs.SpinSides.{Kept, are_of_sides, legal-apart, sides-together}
+use Rattle.osturn.proofs.SpinSides.{inside_calls, are_of_sides, legal-apart, sides-together}
 
 nil-front : {A : Type 0} (xs ys : List A) → xs ++ ys ≡ [] → xs ≡ []
 nil-front [] ys e = refl
@@ -59,7 +59,7 @@ module _ (plan : Plan) (stimuli : List CoreStimuli) (lists : List (CoreId × Lis
 
   -- All calls of the board, and of the spinlocks those of the group.
   abbrev made : Calls
-  made = record { board = calls.board; spins = Kept (has_core group) (is_taken_in plan group) calls.spins }
+  made = record { board = calls.board; spins = inside_calls (has_core group) (is_taken_in plan group) calls.spins }
 
   abbrev taken : CoreId → List Item
   taken id = items_of lists id
@@ -113,27 +113,27 @@ module _ (plan : Plan) (stimuli : List CoreStimuli) (lists : List (CoreId × Lis
 
   -- ---- each core
 
-  abbrev Core_fits : View → List Stimulus → List Item → Type 0
-  Core_fits v st items =
+  abbrev FitsFor : View → List Stimulus → List Item → Type 0
+  FitsFor v st items =
       (solo v items ≡ Some (history_from v [] items)) × (IsBeginning (stimuli_in items) st)
       × (has_drained items ≡ true → is_going (course_of (history_from v [] items)) ≡ true → stimuli_in items ≡ st)
 
-  fits-core : (id : CoreId) → Core_fits (view_of part id) (stimuli_of (part_stimuli group stimuli) id) (kept id) → FitsCore part (part_stimuli group stimuli) id (kept id)
+  fits-core : (id : CoreId) → FitsFor (view_of part id) (stimuli_of (part_stimuli group stimuli) id) (kept id) → FitsCore part (part_stimuli group stimuli) id (kept id)
   fits-core id f = record { alone = f.0; begins = f.1; drains = f.2 }
 
   cores : (id : CoreId) → FitsCore part (part_stimuli group stimuli) id (kept id)
   cores id = fits-core id (by (has_core group id) refl)
     where
-      by : (b : Bool) → has_core group id ≡ b → Core_fits (view_of part id) (stimuli_of (part_stimuli group stimuli) id) (kept id)
+      by : (b : Bool) → has_core group id ≡ b → FitsFor (view_of part id) (stimuli_of (part_stimuli group stimuli) id) (kept id)
       by true inside =
-          subst (λ (v : View). Core_fits v (stimuli_of (part_stimuli group stimuli) id) (kept id)) (sym (sees-same plan group id inside))
-          (subst (λ (st : List Stimulus). Core_fits (view_of plan id) st (kept id)) (sym (stimuli-inside group id inside stimuli))
-          (subst (Core_fits (view_of plan id) (stimuli_of stimuli id)) (sym (items-inside id inside)) ((fits.cores id).alone, (fits.cores id).begins, (fits.cores id).drains)))
+          subst (λ (v : View). FitsFor v (stimuli_of (part_stimuli group stimuli) id) (kept id)) (sym (sees-same plan group id inside))
+          (subst (λ (st : List Stimulus). FitsFor (view_of plan id) st (kept id)) (sym (stimuli-inside group id inside stimuli))
+          (subst (FitsFor (view_of plan id) (stimuli_of stimuli id)) (sym (items-inside id inside)) ((fits.cores id).alone, (fits.cores id).begins, (fits.cores id).drains)))
       by false outside =
           let none = stimuli-bare (taken id) in
-          subst (λ (v : View). Core_fits v (stimuli_of (part_stimuli group stimuli) id) (kept id)) (sym (view-outside plan group id outside))
-          (subst (λ (st : List Stimulus). Core_fits (bare (view_of plan id)) st (kept id)) (sym (stimuli-outside group id outside stimuli))
-          (subst (Core_fits (bare (view_of plan id)) []) (sym (items-outside id outside)) (
+          subst (λ (v : View). FitsFor v (stimuli_of (part_stimuli group stimuli) id) (kept id)) (sym (view-outside plan group id outside))
+          (subst (λ (st : List Stimulus). FitsFor (bare (view_of plan id)) st (kept id)) (sym (stimuli-outside group id outside stimuli))
+          (subst (FitsFor (bare (view_of plan id)) []) (sym (items-outside id outside)) (
             solo-bare (view_of plan id) (outside-unhalted plan group keeps id outside) (taken id) [] [] (alike-first (view_of plan id)) refl (fits.cores id).alone,
             subst (λ (xs : List Stimulus). IsBeginning xs []) (sym none) ([], refl),
             λ drained going. none,

@@ -47,8 +47,8 @@ module _ (inside : CoreId → Bool) (theirs : SpinlockId → Bool) where
     pub count : length s ≡ length t
     pub same : (n : ℕ) → theirs (lock_at n) ≡ true → get_or s n None ≡ get_or t n None
 
-  abbrev pub Kept : List SpinEntry → List SpinEntry
-  Kept log = filter (λ (e : SpinEntry). inside e.core) log
+  abbrev pub inside_calls : List SpinEntry → List SpinEntry
+  inside_calls log = filter (λ (e : SpinEntry). inside e.core) log
 
   -- A call of another core changes none of theirs.
   beside : (e : SpinEntry) (s t : List (Option CoreId)) → theirs e.call.lock ≡ false → Agree s t → Agree (holders_after e.core e.call s) t
@@ -78,15 +78,15 @@ module _ (inside : CoreId → Bool) (theirs : SpinlockId → Bool) where
       one : held e s ≡ held e t
       one = ap (lock_after e.core e.call.action) (agree.same e.call.lock.index mine)
 
-  legal-kept : (log : List SpinEntry) (s t : List (Option CoreId)) → Agree s t → are_of_sides log ≡ true → IsLegalFrom spinlocks s log → IsLegalFrom spinlocks t (Kept log)
+  legal-kept : (log : List SpinEntry) (s t : List (Option CoreId)) → Agree s t → are_of_sides log ≡ true → IsLegalFrom spinlocks s log → IsLegalFrom spinlocks t (inside_calls log)
   legal-kept [] s t agree all legal = tt
   legal-kept (e ∷ es) s t agree all legal =
       let parts = and_parts (is_of_side e.core e.call.lock) (are_of_sides es) all in
       by (inside e.core) parts.0 (λ u g. legal-kept es (holders_after e.core e.call s) u g parts.1 legal.1)
     where
       by : (b : Bool) → cond b (theirs e.call.lock) (not (theirs e.call.lock)) ≡ true
-          → ((u : List (Option CoreId)) → Agree (holders_after e.core e.call s) u → IsLegalFrom spinlocks u (Kept es))
-          → IsLegalFrom spinlocks t (cond b (e ∷ Kept es) (Kept es))
+          → ((u : List (Option CoreId)) → Agree (holders_after e.core e.call s) u → IsLegalFrom spinlocks u (inside_calls es))
+          → IsLegalFrom spinlocks t (cond b (e ∷ inside_calls es) (inside_calls es))
       by true mine rest = (
         legal.0 ∙ ap (lock_reply e.core e.call.action) (agree.same e.call.lock.index mine),
         rest (holders_after e.core e.call t) (both e s t mine agree),
@@ -94,5 +94,5 @@ module _ (inside : CoreId → Bool) (theirs : SpinlockId → Bool) where
       by false out rest = rest t (beside e s t (not-true (theirs e.call.lock) out) agree)
 
   -- Where each call is of its core's side, those of these cores alone are a legal history.
-  pub legal-apart : (log : List SpinEntry) → are_of_sides log ≡ true → IsLegal spinlocks tt log → IsLegal spinlocks tt (Kept log)
+  pub legal-apart : (log : List SpinEntry) → are_of_sides log ≡ true → IsLegal spinlocks tt log → IsLegal spinlocks tt (inside_calls log)
   legal-apart log all legal = legal-kept log no_holders no_holders (record { count = refl; same = λ n mine. refl }) all legal

@@ -110,7 +110,12 @@ fn each_proper_beginning_is_not_json(rt: HostRuntime) -> Result<(), Fail> {
 // JSON may nest to a depth of 127.
 #[test]
 fn a_text_that_nests_too_deep(rt: HostRuntime) -> Result<(), Fail> {
-    for (depth, fault) in [(127, ConfFault::Shape), (128, ConfFault::NotJson)] {
+    let examples = [
+        (127, ConfFault::Shape),
+        (128, ConfFault::NotJson),
+        (200, ConfFault::NotJson),
+    ];
+    for (depth, fault) in examples {
         let mut text = repeated(rt.alloc(), "[", "", depth)?;
         text.push_str(repeated(rt.alloc(), "]", "", depth)?.as_str())?;
         let refused = read_config(rt.alloc(), text.as_str()).err();

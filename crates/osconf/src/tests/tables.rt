@@ -26,6 +26,7 @@ BadTable "duration":9,"points":[{"offset":3,"actions":["ActivateTask A"]},{"offs
 BadTable "duration":9,"points":[{"offset":6,"actions":["ActivateTask A"]},{"offset":3,"actions":["ActivateTask A"]}]
 BadTable "duration":18,"points":[{"offset":0,"actions":["ActivateTask A"]},{"offset":10,"actions":["ActivateTask A"]}]
 BadTable "duration":5,"points":[{"offset":3,"actions":["ActivateTask A"]}],"repeating":true
+BadTable "duration":3,"points":[{"offset":3,"actions":["ActivateTask A"]}],"repeating":true
 BadTable "duration":3,"points":[{"offset":18446744073709551615,"actions":["ActivateTask A"]}]
 Limit "duration":0,"points":[{"offset":0,"actions":["ActivateTask A"]}]
 Limit "duration":1000000001,"points":[{"offset":0,"actions":["ActivateTask A"]}]|"duration":9,"points":[]

@@ -5,7 +5,10 @@ ghost use Rattle.std.specs.Prelude.{Some, length};
 use super::logs::BORDER;
 use oscommand::Job;
 use osjob::{Given, Source, print_from};
-use osplay::{check_of, cut_of, files_of, given, result_over, run_of, same};
+use osplay::{
+    Difference, check_of, cut_of, files_of, given, replay_of, result_over, result_text, run_of,
+    same,
+};
 use ostrace::MemorySink;
 use std::alloc::{AllocError, Global};
 use std::cell::Cell;
@@ -13,26 +16,44 @@ use std::sync::Wait;
 use std::test::Fail;
 use std::thread::Threads;
 
+// The job over three files, of which this one is another, comes to this fault.
+fn compare_with(
+    rt: &(impl Threads + Wait + Sync),
+    alloc: Global,
+    job: &Job,
+    at: usize,
+    file: Option<Vec<u8>>,
+    fault: &str,
+) -> Result<(), Difference> {
+    let (border, _) = given(BORDER)?;
+    let mut files = files_of(alloc, &[Some(border), Some("{}"), Some("x")])?;
+    if at < files.len() {
+        files[at] = file;
+    }
+    let result = result_over(rt, alloc, job, files.as_slice())?;
+    let due = result_text(alloc, "", fault, 1)?;
+    same(alloc, fault, result.as_str(), due.as_str())
+}
+
+// Of each file of a job the fault where it is no text. Where it cannot be read, the fault is one for all.
 #[test]
 fn files_that_are_no_text_or_unreadable_are_faults(rt: HostRuntime) -> Result<(), Fail> {
     let alloc = rt.alloc();
-    let (border, _) = given(BORDER)?;
-    let mut files = files_of(alloc, &[Some(border), None])?;
-    let unreadable = result_over(&rt, alloc, &run_of(None), files.as_slice())?;
-    same(
-        alloc,
-        "",
-        unreadable.as_str(),
-        "and reports\nfault 21 Unreadable\nand exits with 1",
-    )?;
-    files.insert(0, Some(Vec::from_slice(alloc, &[255])?))?;
-    let no_text = result_over(&rt, alloc, &run_of(None), files.as_slice())?;
-    same(
-        alloc,
-        "",
-        no_text.as_str(),
-        "and reports\nfault 1 NotJson\nand exits with 1",
-    )?;
+    let scheduled = run_of(Some("turns.json"));
+    let examples = [
+        (scheduled, 0, "fault 1 NotJson\n"),
+        (scheduled, 1, "fault 1 NotJson\n"),
+        (scheduled, 2, "fault 1 NotJson\n"),
+        (check_of(), 0, "fault 1 NotJson\n"),
+        (cut_of(0), 0, "fault 1 NotJson\n"),
+        (replay_of(0), 0, "fault 1 NotJson\n"),
+        (replay_of(0), 1, "fault 14 BadLog\n"),
+    ];
+    for (job, at, fault) in examples.as_slice() {
+        let no_text = Vec::from_slice(alloc, b"on\n\xff\n")?;
+        compare_with(&rt, alloc, job, *at, Some(no_text), fault)?;
+        compare_with(&rt, alloc, job, *at, None, "fault 21 Unreadable\n")?;
+    }
     Ok(())
 }
 

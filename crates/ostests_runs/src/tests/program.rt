@@ -1,6 +1,6 @@
 //! The program over words: what is printed, sent off and told, and the status.
 
-use super::writes::Failing;
+use super::writes::{Failing, Refusal};
 use osjob::{Fault, NoWords, Outcome, answer, close};
 use ostrace::MemorySink;
 use std::test::Fail;
@@ -15,7 +15,7 @@ fn a_text_is_sent_off_and_then_its_fault_is_told(rt: HostRuntime) -> Result<(), 
         (Err(Fault::NoMemoryToRun), 0, 0, "fault 19 WriteFailed\n", 1),
     ];
     for (ending, left, sent, line, status) in examples.as_slice() {
-        let mut out = Failing::new(Vec::from_slice(alloc, b"core 0\n")?, *left);
+        let mut out = Failing::new(Vec::from_slice(alloc, b"core 0\n")?, Refusal::Fails, *left);
         let mut err = MemorySink::new(Vec::new(alloc));
         assert_eq!(rt; close(*ending, &mut out, &mut err), *status);
         assert_eq!(rt; out.sent, *sent);
@@ -52,7 +52,7 @@ fn words_come_to_a_text_or_a_line_and_a_status(rt: HostRuntime) -> Result<(), Fa
         ),
     ];
     for (words, left, text, line, status) in examples.as_slice() {
-        let mut out = Failing::new(Vec::new(alloc), *left);
+        let mut out = Failing::new(Vec::new(alloc), Refusal::TakesNothing, *left);
         let mut err = MemorySink::new(Vec::new(alloc));
         let words = Ok(Vec::from_slice(alloc, *words)?);
         assert_eq!(rt; answer(&rt, words, &mut out, &mut err), *status);

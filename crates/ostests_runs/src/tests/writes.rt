@@ -3,30 +3,47 @@
 ghost use Rattle.std.specs.Prelude.{◌≡◌, None};
 
 use super::logs::BORDER;
+use osbase::CoreId;
+use oscommand::Job;
 use osjob::{Output, perform};
-use osplay::{Difference, files_of, given, result_from, result_over, result_text, run_of, same};
+use osplay::{
+    Difference, check_of, cut_of, files_of, given, replay_of, result_from, result_over,
+    result_text, run_of, same,
+};
 use ostrace::{MemorySink, Sink, WriteFailed};
 use std::alloc::{AllocError, Global};
 use std::sync::Wait;
 use std::test::Fail;
 use std::thread::Threads;
 
-/// Takes one byte at a time, and fails at one of the writes or at the flush behind them.
+/// How a write is refused.
+#[derive(Clone, Copy, Debug)]
+pub(super) enum Refusal {
+    /// It fails.
+    Fails,
+    /// It takes nothing.
+    TakesNothing,
+}
+
+/// Takes one byte at a time, but refuses one of the writes, or the flush behind them.
 #[derive(Drop)]
 pub(super) struct Failing {
     pub(super) bytes: Vec<u8>,
-    left: u64,
+    refusal: Refusal,
+    // How many writes come before that.
+    left: usize,
     failed: u64,
     /// How many of the bytes are sent off.
     pub(super) sent: usize,
 }
 
 impl Failing {
-    pub(super) fn new(bytes: Vec<u8>, left: u64) -> Failing
+    pub(super) fn new(bytes: Vec<u8>, refusal: Refusal, left: usize) -> Failing
         ensures { result.failed ≡ 0 }
     {
         Failing {
             bytes,
+            refusal,
             left,
             failed: 0,
             sent: 0,
@@ -43,12 +60,16 @@ impl Sink for Failing {
         let Some(first) = bytes.first() else {
             return Some(0);
         };
-        if self.left == 0 || self.bytes.push(*first).is_err() {
-            self.failed += 1;
-            return None;
+        let is_taken = self.left > 0 || self.failed > 0;
+        if is_taken && self.bytes.push(*first).is_ok() {
+            self.left = self.left.saturating_sub(1);
+            return Some(1);
         }
-        self.left -= 1;
-        Some(1)
+        self.failed += 1;
+        match self.refusal {
+            Refusal::Fails => None,
+            Refusal::TakesNothing => Some(0),
+        }
     }
 }
 
@@ -56,7 +77,7 @@ impl Output for Failing {
     ghost sent = { λ _. None };
 
     fn flush(&mut self) -> Result<(), WriteFailed> {
-        if self.left == 0 {
+        if self.left == 0 && self.failed == 0 {
             self.failed += 1;
             return Err(WriteFailed);
         }
@@ -65,42 +86,75 @@ impl Output for Failing {
     }
 }
 
-// The result of a run of these files whose output takes so many bytes.
+// The result of a job over these files whose output refuses the write behind so many.
 fn result_within(
     rt: &(impl Threads + Wait + Sync),
     alloc: Global,
+    job: &Job,
     files: &[Option<Vec<u8>>],
-    left: u64,
+    refusal: Refusal,
+    left: usize,
 ) -> Result<String, Difference> {
-    let mut out = Failing::new(Vec::new(alloc), left);
+    let mut out = Failing::new(Vec::new(alloc), refusal, left);
     let mut err = MemorySink::new(Vec::new(alloc));
-    let status = perform(rt, alloc, &run_of(None), files, &mut out, &mut err);
+    let status = perform(rt, alloc, job, files, &mut out, &mut err);
     result_from(alloc, out.bytes, err.bytes, status)
 }
 
-// What that is to be, of a run that prints this text.
-fn due_within(alloc: Global, text: &str, left: usize) -> Result<String, AllocError> {
+// What that is to be, of a job that prints this text and has this whole result.
+fn due_within(alloc: Global, text: &str, whole: &str, left: usize) -> Result<String, AllocError> {
     match text.get(..left) {
         Some(prefix) if left < text.len() => {
             result_text(alloc, prefix, "fault 19 WriteFailed\n", 1)
         }
-        _ => result_text(alloc, text, "", 0),
+        _ => String::from_str(alloc, whole),
     }
 }
+
+// Each write of the job's text is refused in turn, and at last none.
+fn refuse_each(
+    rt: &(impl Threads + Wait + Sync),
+    alloc: Global,
+    job: &Job,
+    files: &[Option<Vec<u8>>],
+    refusal: Refusal,
+) -> Result<(), Difference> {
+    let whole = result_over(rt, alloc, job, files)?;
+    let (text, _) = whole.split_once("and reports\n").ok_or("a result")?;
+    for left in 0..=text.len() {
+        let result = result_within(rt, alloc, job, files, refusal, left)?;
+        let due = due_within(alloc, text, whole.as_str(), left)?;
+        same(alloc, "", result.as_str(), due.as_str())?;
+    }
+    Ok(())
+}
+
+// A run of which the log of core 0 is printed.
+const LOG_OF_0: Job = Job::Run {
+    config: "config.json",
+    stimuli: "stim.json",
+    schedule: None,
+    items: Some(CoreId { number: 0 }),
+};
 
 #[test]
 fn a_refused_write_leaves_a_prefix_of_the_text(rt: HostRuntime) -> Result<(), Fail> {
     let alloc = rt.alloc();
     let (border, stimuli) = given(BORDER)?;
-    let files = files_of(alloc, &[Some(border), Some(stimuli)])?;
-    let whole = result_over(&rt, alloc, &run_of(None), files.as_slice())?;
-    let text = whole
-        .strip_suffix("and reports\nand exits with 0")
-        .ok_or("a run")?;
-    for left in 0..210u8 {
-        let result = result_within(&rt, alloc, files.as_slice(), u64::from(left))?;
-        let due = due_within(alloc, text, usize::from(left))?;
-        same(alloc, "", result.as_str(), due.as_str())?;
+    let examples = [
+        // The blocks of two cores, and the log of one.
+        (run_of(None), border, stimuli),
+        (LOG_OF_0, border, stimuli),
+        // The block of one core, and then maybe a fault.
+        (replay_of(0), border, "began 1 E_OK\nentered\npass1 M\n"),
+        (replay_of(0), border, "began 1 E_OK\nlast\n"),
+        (check_of(), border, ""),
+        (cut_of(0), r#"{"cores":[{"id":0}]}"#, ""),
+    ];
+    for (job, config, second) in examples.as_slice() {
+        let files = files_of(alloc, &[Some(*config), Some(*second)])?;
+        refuse_each(&rt, alloc, job, files.as_slice(), Refusal::Fails)?;
+        refuse_each(&rt, alloc, job, files.as_slice(), Refusal::TakesNothing)?;
     }
     Ok(())
 }

@@ -1,4 +1,4 @@
-//! The text of reports, in memory, in a stream, and in a sink that fails.
+//! The text of reports, in memory, in a stream, and in a sink that refuses a write.
 
 mod marks;
 mod schedules;
@@ -8,7 +8,7 @@ use marks::{ONE, ZERO};
 use osbase::{CoreId, List, Mark, Report};
 use osdraft::read_config;
 use ostrace::{MemorySink, Word, WriteFailed, WriteSink, write_ended_words, write_reports};
-use sinks::FailingSink;
+use sinks::{FailingSink, Refusal};
 use std::alloc::{AllocError, Global};
 use std::process::Abort;
 use std::slice;
@@ -74,8 +74,8 @@ fn reports_are_blocks_in_their_order(rt: HostRuntime) -> Result<(), Fail> {
     Ok(())
 }
 
-// After so many writes of three bytes the sink has a beginning of the text. If that is not all of it, the last write failed,
-// and the outcome says so. How many bytes it has.
+// Behind so many writes of three bytes one was refused, and the sink has a beginning of the text: all before that write, and
+// nothing that stands behind it. The outcome says so, unless there was no such write.
 fn judge(
     rt: &impl Abort,
     out: &FailingSink,
@@ -84,28 +84,44 @@ fn judge(
     writes: usize,
 ) -> usize {
     let bytes = out.bytes.as_slice();
-    assert!(rt; text.starts_with(bytes), "after {writes} writes");
+    let refusal = out.refusal;
+    assert!(rt;
+        text.starts_with(bytes),
+        "{refusal:?} after {writes} writes"
+    );
     let is_whole = bytes.len() == text.len();
-    assert!(rt; outcome.is_ok() == is_whole, "after {writes} writes");
-    assert!(rt; out.failed == u64::from(!is_whole), "after {writes} writes");
+    assert!(rt;
+        outcome.is_ok() == is_whole,
+        "{refusal:?} after {writes} writes"
+    );
+    assert!(rt;
+        out.failed == u64::from(!is_whole),
+        "{refusal:?} after {writes} writes"
+    );
     bytes.len()
 }
 
-#[test]
-fn a_write_that_fails_leaves_a_beginning(rt: HostRuntime) -> Result<(), Fail> {
-    let reports = exchange(rt.alloc())?;
-    let config = read_config(rt.alloc(), CONFIG)?;
+// Each write of the exchange is refused in turn, and at last none.
+fn refuse_each(rt: &impl Abort, alloc: Global, refusal: Refusal) -> Result<(), Fail> {
+    let reports = exchange(alloc)?;
+    let config = read_config(alloc, CONFIG)?;
     let text = marks::EXCHANGE_LINES.as_bytes();
     for writes in 0..40 {
-        let mut out = FailingSink::new(rt.alloc(), writes);
+        let mut out = FailingSink::new(alloc, refusal, writes);
         let outcome = write_reports(&config, &mut out, reports.as_slice());
-        let count = judge(&rt, &out, outcome, text, writes);
+        let count = judge(rt, &out, outcome, text, writes);
         assert!(rt;
             count == text.len().min(writes * 3),
-            "after {writes} writes"
+            "{refusal:?} after {writes} writes"
         );
     }
     Ok(())
+}
+
+#[test]
+fn each_refused_write_leaves_a_beginning(rt: HostRuntime) -> Result<(), Fail> {
+    refuse_each(&rt, rt.alloc(), Refusal::Fails)?;
+    refuse_each(&rt, rt.alloc(), Refusal::TakesNothing)
 }
 
 #[test]
@@ -117,7 +133,7 @@ fn many_lines_are_written_in_parts(rt: HostRuntime) -> Result<(), Fail> {
     let text = format!(in rt.alloc(); "core 0\n{ticks}")?;
     let mut before = 0;
     for writes in [0, 1, 5460, 5461, 5462, 6000, 8000, 9000] {
-        let mut out = FailingSink::new(rt.alloc(), writes);
+        let mut out = FailingSink::new(rt.alloc(), Refusal::Fails, writes);
         let outcome = write_reports(&config, &mut out, slice::from_ref(&report));
         let count = judge(&rt, &out, outcome, text.as_str().as_bytes(), writes);
         assert!(rt; count >= before, "after {writes} writes");
@@ -142,7 +158,7 @@ fn a_long_word_is_written_by_itself(rt: HostRuntime) -> Result<(), Fail> {
     ];
     let mut before = 0;
     for writes in [0, 1, 5460, 5461, 5462, 9000, 15000, 20000, 30000] {
-        let mut out = FailingSink::new(rt.alloc(), writes);
+        let mut out = FailingSink::new(rt.alloc(), Refusal::TakesNothing, writes);
         let outcome = write_ended_words(&mut out, "many", &words);
         let count = judge(&rt, &out, outcome, text.as_str().as_bytes(), writes);
         assert!(rt; count >= before, "after {writes} writes");

@@ -5,8 +5,5 @@ use Rattle.oscommand.proofs.jobs.run_job.Goals as goal
 
 pub returns : goal.returns
 returns c =
-    let found = found_of c.args.run.now in
-    let config = sym (first_value-rows found (codes "CFG")) ∙ sym c.in-Some-Some.ensures in
-    let stimuli = sym (first_value-rows found (codes "STIM")) ∙ sym c.in-Some-Some.ensures' in
-    let schedule = sym (first_value-rows found (codes "schedule")) ∙ sym c.get_str-3.ensures in
-    ((config, stimuli, schedule, c.items_core.ensures), refl)
+    let schedule = sym (first_value-rows (found_of c.args.run.now) (codes "schedule")) ∙ sym c.get_str.ensures in
+    ((c.config_of.ensures, c.stimuli_of.ensures, schedule, c.items_core.ensures), refl)

@@ -1,19 +1,12 @@
-use Rattle.ostrace.proofs.Writing.{Writes-broken, Wrote-all, Wrote-then}
-use Rattle.osturn.proofs.Configured.{id_at}
-use Rattle.osjob.specs.Checks.{line_at}
-use Rattle.osjob.proofs.Standings.{lines_at, lines_below, lines_below-more}
+use Rattle.osturn.proofs.Configured.{is_there}
+use Rattle.osjob.specs.Checks.{standing_line}
+use Rattle.osjob.proofs.Lines.{Writes-no_line, Wrote-line}
 use Rattle.osjob.proofs.checks.write_standings.Goals as goal
 
 pub returns-in_err-write_standing : goal.returns-in_err-write_standing
 returns-in_err-write_standing g c =
-    let plan = c.args.config.now in
-    let number = c.loop-number.number in
-    let parts = lines_at plan number c.loop-number-test.true in
-    Writes-broken _ _ _ c.loop-number.out _ _ (lines_below plan number) (line_at plan (id_at number)) parts.0 _ _ c.from_residual.ensures.0 parts.1 c.loop-number.invariant c.in_err-write_standing.ensures
+    Writes-no_line (is_there c.args.config.now) (standing_line c.args.config.now) _ _ _ c.loop-number.out _ c.loop-number.number c.loop-number-test.true c.loop-number.invariant _ _ c.from_residual.ensures.0 c.in_err-write_standing.ensures
 
 pub loop-number-preserved : goal.loop-number-preserved
 loop-number-preserved g c =
-    let plan = c.args.config.now in
-    let number = c.loop-number.number in
-    rw (lines_below-more plan number c.loop-number-test.true)
-    (Wrote-then _ _ _ c.loop-number.out _ (lines_below plan number) (line_at plan (id_at number)) c.loop-number.invariant (Wrote-all _ _ _ _ _ _ c.in_ok-write_standing.ensures))
+    Wrote-line (is_there c.args.config.now) (standing_line c.args.config.now) _ _ _ c.loop-number.out _ c.loop-number.number c.loop-number-test.true c.loop-number.invariant _ c.in_ok-write_standing.ensures

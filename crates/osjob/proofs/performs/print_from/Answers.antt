@@ -27,6 +27,26 @@ returns-in-Cut g c =
       known_is = c.cut_out.ensures.known;
     }
 
+pub returns-in-Groups : goal.returns-in-Groups
+returns-in-Groups g c =
+    record {
+      last = _;
+      comes = record { comes = rw c.in-Groups.is c.groups_out.ensures.comes; asked = rw c.groups_out.ensures.count at c.groups_out.ensures.asked };
+      stops = at_config c.groups_out.ensures.ahead;
+      named = rw c.in-Groups.is (omega (arith, c.groups_out.ensures.ahead));
+      known_is = c.groups_out.ensures.known;
+    }
+
+pub returns-in-Group : goal.returns-in-Group
+returns-in-Group g c =
+    record {
+      last = _;
+      comes = record { comes = rw c.in-Group.is c.group_out.ensures.comes; asked = rw c.group_out.ensures.count at c.group_out.ensures.asked };
+      stops = at_config c.group_out.ensures.ahead;
+      named = rw c.in-Group.is (omega (arith, c.group_out.ensures.ahead));
+      known_is = c.group_out.ensures.known;
+    }
+
 pub returns-in-Threads : goal.returns-in-Threads
 returns-in-Threads g c =
     let used = c.run_by_threads.ensures in

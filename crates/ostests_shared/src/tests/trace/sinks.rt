@@ -1,24 +1,35 @@
-//! A sink that fails.
+//! A sink that refuses a write.
 
 ghost use Rattle.std.specs.Prelude.{◌≡◌, Some};
 
 use ostrace::Sink;
 use std::alloc::Global;
 
-/// Takes at most three bytes a write, and fails after a number of writes.
+/// How a write is refused.
+#[derive(Clone, Copy, Debug)]
+pub enum Refusal {
+    /// It fails.
+    Fails,
+    /// It takes nothing.
+    TakesNothing,
+}
+
+/// Takes at most three bytes a write, but refuses one: that behind so many.
 #[derive(Drop)]
 pub struct FailingSink {
     pub bytes: Vec<u8>,
+    pub refusal: Refusal,
     pub left: usize,
     pub failed: u64,
 }
 
 impl FailingSink {
-    pub fn new(alloc: Global, left: usize) -> Self
+    pub fn new(alloc: Global, refusal: Refusal, left: usize) -> Self
         ensures { result.failed ≡ 0 }
     {
         FailingSink {
             bytes: Vec::new(alloc),
+            refusal,
             left,
             failed: 0,
         }
@@ -35,11 +46,15 @@ impl Sink for FailingSink {
         if bytes.is_empty() {
             return Some(0);
         }
-        if self.left > 0 && self.bytes.extend_from_slice(&bytes[..count]).is_ok() {
-            self.left -= 1;
+        let is_taken = self.left > 0 || self.failed > 0;
+        if is_taken && self.bytes.extend_from_slice(&bytes[..count]).is_ok() {
+            self.left = self.left.saturating_sub(1);
             return Some(count);
         }
         self.failed += 1;
-        None
+        match self.refusal {
+            Refusal::Fails => None,
+            Refusal::TakesNothing => Some(0),
+        }
     }
 }

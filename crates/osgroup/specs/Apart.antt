@@ -1,0 +1,40 @@
+-- What cores in a group and outside do not name, core by core.
+use Rattle.std.specs.Prelude.{◌&&◌, not, if◌then◌else◌, Bool}
+use Rattle.std.specs.List.{list_any}
+use Rattle.osbase.specs.declared.references.SpinlockId.{SpinlockId}
+use Rattle.osbase.specs.declared.items.CoreSet.{CoreSet}
+use Rattle.osbase.specs.declared.objects.Object.{Object}
+use Rattle.osbase.specs.declared.objects.ObjectKind.TheVariants.{Spinlock}
+use Rattle.osbase.specs.declared.objects.TheConstants.{NOBODY}
+use Rattle.osbase.specs.History.{same_core}
+use Rattle.osbase.specs.Objects.{same_kind, spinlock_of}
+use Rattle.osbase.specs.Sets.{has_core}
+use Rattle.oscript.specs.Rows.{halts_all}
+use Rattle.osplan.specs.declared.plans.Plan.{Plan}
+use Rattle.osplan.specs.declared.plans.Core.{Core}
+use Rattle.osplan.specs.Naming.{has_operation, names_object, op_names}
+use Rattle.osgroup.specs.Groups.{names_spinlock}
+
+-- The object stands on a core of the group.
+abbrev pub is_inside : CoreSet → Object → Bool
+is_inside group object = has_core group object.place.core
+
+-- It stands on another core. What all cores have in common stands on none.
+abbrev pub is_outside : CoreSet → Object → Bool
+is_outside group object = not (is_inside group object) && not (same_core object.place.core NOBODY)
+
+-- A script of a core of the group names the spinlock.
+abbrev pub is_taken_in : Plan → CoreSet → SpinlockId → Bool
+is_taken_in plan group l = list_any (λ (core : Core). has_core group core.id && names_spinlock core l) plan.cores
+
+-- The object is such a spinlock.
+abbrev pub is_taken : Plan → CoreSet → Object → Bool
+is_taken plan group object = same_kind object.kind Spinlock && is_taken_in plan group (spinlock_of object.place)
+
+-- A core of the group names no object of a core outside. One outside names none of the group, its scripts name no spinlock that the
+-- group's scripts name, and they shut down not all cores.
+abbrev pub keeps_apart : Plan → CoreSet → Core → Bool
+keeps_apart plan group core =
+    if has_core group core.id
+    then not (names_object (is_outside group) core)
+    else (not (names_object (is_inside group) core) && not (has_operation halts_all core) && not (has_operation (op_names (is_taken plan group)) core))

@@ -1,0 +1,74 @@
+-- Groups of cores in which no other core has a say, the least group of a core, and the configuration of a group by itself.
+use Rattle.std.specs.Prelude.{ℕ, zero, suc, ◌&&◌, ◌||◌, not, Bool, if◌then◌else◌, is_some, List, length, map}
+use Rattle.std.specs.List.{list_all, list_any}
+use Rattle.osbase.specs.declared.references.CoreId.{CoreId}
+use Rattle.osbase.specs.declared.references.SpinlockId.{SpinlockId}
+use Rattle.osbase.specs.declared.items.CoreSet.{CoreSet}
+use Rattle.osbase.specs.History.{same_core}
+use Rattle.osbase.specs.Sets.{core_ids, has_core, numbers_from}
+use Rattle.oscript.specs.Rows.{halts_all}
+use Rattle.osplan.specs.declared.plans.Plan.{Plan}
+use Rattle.osplan.specs.declared.plans.Core.{Core}
+use Rattle.osplan.specs.Naming.{has_operation, is_on, is_that_spinlock, names_object, op_names}
+use Rattle.osplan.specs.View.{core_of, no_core}
+
+-- ---- who has a say in what a core does
+
+-- A script of the core names the spinlock.
+abbrev pub names_spinlock : Core → SpinlockId → Bool
+names_spinlock core l = has_operation (op_names (is_that_spinlock l)) core
+
+abbrev pub spinlock_ids : Plan → List SpinlockId
+spinlock_ids plan = map (λ (n : ℕ). record { index = n }) (numbers_from 0 (length plan.spinlocks))
+
+abbrev pub share_spinlock : Plan → Core → Core → Bool
+share_spinlock plan a b = list_any (λ l. names_spinlock a l && names_spinlock b l) (spinlock_ids plan)
+
+-- The other core has a say in what this one does: it shuts all cores down, one of the two names an object of the other by a script, an
+-- alarm or a table, or scripts of both name a spinlock. [own]
+abbrev pub has_say : Plan → Core → Core → Bool
+has_say plan other core =
+    has_operation halts_all other || names_object (is_on core.id) other || names_object (is_on other.id) core || share_spinlock plan other core
+
+-- ---- groups
+
+abbrev pub are_configured : Plan → CoreSet → Bool
+are_configured plan cores = list_all (λ id. not (has_core cores id) || is_some (core_of plan id)) core_ids
+
+-- No core outside the group, started or not, has a say in what this one does.
+abbrev pub is_apart : Plan → CoreSet → Core → Bool
+is_apart plan group core = list_all (λ (other : Core). has_core group other.id || not (has_say plan other core)) plan.cores
+
+-- The cores are configured, and no core outside has a say in what one of them does. [own]
+abbrev pub is_group : Plan → CoreSet → Bool
+is_group plan group = are_configured plan group && list_all (λ (core : Core). not (has_core group core.id) || is_apart plan group core) plan.cores
+
+-- ---- the least group of a core
+
+-- Another core than these, which are told by their numbers, has a say in what one of them does.
+abbrev pub is_heard : Plan → (CoreId → Bool) → CoreId → Bool
+is_heard plan cores id =
+    list_any (λ (other : Core). same_core other.id id && list_any (λ (core : Core). cores core.id && has_say plan other core) plan.cores) plan.cores
+
+-- The core belongs to the other one within so many rounds, in each of which those come in that have a say in one that is in.
+abbrev pub belongs_within : Plan → CoreId → ℕ → CoreId → Bool
+belongs_within plan core zero id = same_core id core && is_some (core_of plan id)
+belongs_within plan core (suc n) id = belongs_within plan core n id || is_heard plan (belongs_within plan core n) id
+
+-- The core is in the least group of the other one. As many rounds as there are cores are enough. [own]
+abbrev pub is_in_least_group : Plan → CoreId → CoreId → Bool
+is_in_least_group plan core id = belongs_within plan core (length plan.cores) id
+
+-- ---- the configuration of a group by itself
+
+-- A core without its objects: its number, its mode, which cores it starts, and its answer to a time fault.
+abbrev pub bare_core : Core → Core
+bare_core core = record (no_core core.id) { mode = core.mode; start = core.start; protection = core.protection }
+
+abbrev pub part_of : CoreSet → Core → Core
+part_of group core = if has_core group core.id then core else bare_core core
+
+-- Each core outside the group without its objects. All else stays: the version, the cores' numbers and modes, who starts whom, the master,
+-- the modes, the spinlocks, and the mailboxes' size. [own]
+abbrev pub group_of : Plan → CoreSet → Plan
+group_of plan group = record plan { cores = map (part_of group) plan.cores }

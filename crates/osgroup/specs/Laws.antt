@@ -1,0 +1,24 @@
+-- Sets of cores that are made of others.
+use Rattle.std.specs.Prelude.{◌≡◌, ◌&&◌, ◌||◌, is_some}
+use Rattle.osbase.specs.declared.references.CoreId.{CoreId}
+use Rattle.osbase.specs.declared.items.CoreSet.{CoreSet}
+use Rattle.osbase.specs.History.{same_core}
+use Rattle.osbase.specs.Sets.{has_core}
+use Rattle.osplan.specs.declared.plans.Plan.{Plan}
+use Rattle.osplan.specs.View.{core_of}
+
+-- All configured cores are in the set, and no others.
+abbrev pub HasAll : Plan → CoreSet → Type 0
+HasAll plan cores = (id : CoreId) → has_core cores id ≡ is_some (core_of plan id)
+
+-- The core is in it alone.
+abbrev pub HasOne : CoreId → CoreSet → Type 0
+HasOne core cores = (id : CoreId) → has_core cores id ≡ same_core id core
+
+-- The cores of either of two sets are in it.
+abbrev pub IsUnion : CoreSet → CoreSet → CoreSet → Type 0
+IsUnion one other cores = (id : CoreId) → has_core cores id ≡ (has_core one id || has_core other id)
+
+-- The cores of both are.
+abbrev pub IsIntersection : CoreSet → CoreSet → CoreSet → Type 0
+IsIntersection one other cores = (id : CoreId) → has_core cores id ≡ (has_core one id && has_core other id)

@@ -1,0 +1,4 @@
+pub mod Groups
+pub mod Least
+pub mod Apart
+pub mod Laws
