@@ -1,5 +1,5 @@
 -- The subcommand that is entered, and the job that its entries say.
-use Rattle.std.proofs.Common.{◌≡◌, ◌∙◌, Bool, true, false, true≢false, refl, ap, sym, subst, codes, List, Option, Some, None, option_map, is_some}
+use Rattle.std.proofs.Common.{◌≡◌, ◌∙◌, ◌&&◌, Bool, true, false, true≢false, refl, ap, sym, subst, codes, List, Option, Some, None, option_map, is_some}
 use Rattle.std.specs.Prelude.{IfSome, IsSome, IsSomeAnd, is_none}
 use Rattle.std.specs.Str.{bytes_eq}
 use Rattle.std.proofs.lemmas.Slice.Eq.{bytes_eq-Decides}

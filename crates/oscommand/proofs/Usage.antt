@@ -1,5 +1,5 @@
 -- What the words of the program's command line give, where they have no fault.
-use Rattle.std.proofs.Common.{◌≡◌, ◌∙◌, ◌⊎◌, ◌||◌, Bool, cond, not, true, false, true≢false, refl, ap, sym, inl, inr, codes, List, [], ◌∷◌, map}
+use Rattle.std.proofs.Common.{◌≡◌, ◌∙◌, ◌||◌, Bool, cond, not, true, false, true≢false, refl, ap, sym, inl, inr, codes, List, [], ◌∷◌, map}
 use Rattle.std.specs.Borrow.{Bor}
 use Rattle.std.specs.List.{list_any}
 use Rattle.std.specs.Prelude.{⊤, IsSome, IsSomeAnd, Option, None, Some}
@@ -9,7 +9,7 @@ use Rattle.clap.specs.Faults.{check_fault, level_fault}
 use Rattle.clap.specs.Simple.{Shape, built, built_leaf, filled, help_rule, rows_at, with_index}
 use Rattle.clap.specs.Takes.{is_given}
 use Rattle.clap.specs.Walk.{nothing_held}
-use Rattle.clap.specs.Words.{IsUnsignedIn, Row, Rule, Text, fault_of, first_of, same_text, subcommand_of}
+use Rattle.clap.specs.Words.{IsUnsignedIn, Row, Rule, Text, fault_of, same_text, subcommand_of}
 use Rattle.clap.specs.declared.error.kind.ErrorKind.{ErrorKind}
 use Rattle.clap.specs.declared.builder.ValueParser.TheVariants.{Unsigned}
 use Rattle.clap.proofs.ValueTestLemmas.{accepts-Accepts}

@@ -33,8 +33,8 @@ pub record HasThreads (rows : List Row) : Type 0 where
   pub items : IfSome (first_of (codes "items") rows) (IsUnsignedIn 0 255)
 
 abbrev pub When : Bool → Type 0 → Type 0 → Type 0
-When true yes no = yes
-When false yes no = no
+When true this other = this
+When false this other = other
 
 -- One of the subcommands is named, and has its entries.
 abbrev pub AreChecked : List ℕ × List Row → Type 0

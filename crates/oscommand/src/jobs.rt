@@ -278,10 +278,7 @@ fn core_of(entries: &ArgMatches) -> CoreId
     requires { IsSomeAnd (first_of (codes "CORE") (rows_of (found_of entries.now))) (IsUnsignedIn 0 255) }
     ensures { SaysNumber (first_of (codes "CORE") (rows_of (found_of entries.now))) result.number }
 {
-    let Some(core) = entries.get_str("CORE") else {
-        unreachable!();
-    };
-    core_in(core)
+    core_in(text_in(entries, "CORE"))
 }
 
 fn run_job<'a>(run: &ArgMatches<'a>) -> Job<'a>

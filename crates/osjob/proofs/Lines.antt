@@ -37,9 +37,10 @@ module _ (holds : CoreId → Bool) (line : CoreId → List ℕ) where
   lines_rest : (n : ℕ) → (rest : List ℕ) × (lines_below n ++ rest ≡ all_lines)
   lines_rest n =
       let ids : filter holds (take n core_ids) ++ filter holds (drop n core_ids) ≡ filter holds core_ids =
-      sym (filter-append holds (take n core_ids) (drop n core_ids)) ∙ ap (filter holds) (take-append-drop n core_ids) in
-      (flat_map line (filter holds (drop n core_ids)),
-      sym (flat_map-append line (filter holds (take n core_ids)) (filter holds (drop n core_ids))) ∙ ap (flat_map line) ids)
+      sym (filter-append holds (take n core_ids) (drop n core_ids)) ∙ ap (filter holds) (take-append-drop n core_ids) in (
+        flat_map line (filter holds (drop n core_ids)),
+        sym (flat_map-append line (filter holds (take n core_ids)) (filter holds (drop n core_ids))) ∙ ap (flat_map line) ids,
+      )
 
   -- the line of one of them, and those after it
   lines_at : (n : ℕ) → n < 16 → (rest : List ℕ) × (lines_below n ++ (line_at (id_at n) ++ rest) ≡ all_lines)

@@ -113,6 +113,7 @@ fault 3 Limit
 
 // The stimuli of each of the first groups.
 const STIMULI_OF_0_AND_1: &str = r#"{"0":"op op op","1":"op op"}"#;
+
 const STIMULI_OF_2: &str = r#"{"2":"op op"}"#;
 
 #[test]

@@ -10,7 +10,7 @@ use Rattle.clap.specs.declared.error.kind.ErrorKind.TheVariants.{ArgumentConflic
 use Rattle.clap.specs.declared.parser.matches.ArgMatches.{ArgMatches}
 use Rattle.clap.proofs.OnLiterals.{clap_on_literals}
 use Rattle.oscommand.specs.declared.jobs.Job.{Job}
-use Rattle.oscommand.specs.CommandLine.{AreMailKinds, AsksFor, FailsByWords, MailKinds, command_line, conflict_in, excludes, usage_fault}
+use Rattle.oscommand.specs.CommandLine.{AreMailKinds, AsksFor, FailsByWords, MailKinds, command_line, excludes, usage_fault}
 use Rattle.oscommand.specs.Entries.{AreChecked, IsNamed}
 use Rattle.oscommand.proofs.Usage.{names_job}
 use Rattle.oscommand.proofs.jobs.job_of.Goals as goal
