@@ -34,7 +34,7 @@ says m name rows job enters other has = (
 )
   where
     none : (b : Bool) → b ≡ false → (b && has_items_and_order rows) ≡ false
-    none true e = e
+    none true e = absurd (true≢false e)
     none false e = refl
 
 pub says_threads : (m : ArgMatches) (rows : List Row) (result : Option Job) → IsEntered m (codes "threads") rows
