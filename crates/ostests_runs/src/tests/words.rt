@@ -11,6 +11,8 @@ mcos run a --schedule c b => Run { config: "a", stimuli: "b", schedule: Some("c"
 mcos run a b --items 255 => Run { config: "a", stimuli: "b", schedule: None, items: Some(CoreId { number: 255 }) }
 mcos check a => Check { config: "a" }
 mcos cut a 255 => Cut { config: "a", core: CoreId { number: 255 } }
+mcos groups a => Groups { config: "a" }
+mcos group a 16 => Group { config: "a", core: CoreId { number: 16 } }
 mcos replay a 7 b => Replay { config: "a", core: CoreId { number: 7 }, log: "b" }
 mcos threads a b --mail=locked => Threads { config: "a", stimuli: "b", turns: 1000000, mail: Locked, print: Trace }
 mcos threads a b --mail ring => Threads { config: "a", stimuli: "b", turns: 1000000, mail: Ring, print: Trace }
@@ -27,6 +29,10 @@ mcos cut a => exits with 2
 mcos cut a 256 => exits with 2
 mcos cut a -1 => exits with 2
 mcos cut a x => exits with 2
+mcos groups => exits with 2
+mcos groups a 0 => exits with 2
+mcos group a => exits with 2
+mcos group a 256 => exits with 2
 mcos threads a => exits with 2
 mcos threads a b --turns 0 => exits with 2
 mcos threads a b --turns 1000000001 => exits with 2
@@ -57,6 +63,6 @@ fn words_make_a_job_or_are_wrong_usage(rt: HostRuntime) -> Result<(), Fail> {
         same(alloc, line, text.as_str(), due)?;
         cases = cases.saturating_add(1);
     }
-    assert_eq!(rt; cases, 29);
+    assert_eq!(rt; cases, 35);
     Ok(())
 }
