@@ -1418,7 +1418,7 @@ class Examples(unittest.TestCase):
         for folder in sorted(os.listdir(os.path.join(ROOT, "examples"))):
             for words, fault in session(os.path.join(ROOT, "examples", folder)):
                 # What CORE and a log have is no fault of a file that explain judges.
-                if fault == "fault 20 NotSeparate" or words[0] == "replay":
+                if fault == "fault 20 NotSeparate" or words[0] in ("group", "replay"):
                     continue
                 with self.subTest(folder=folder, words=words):
                     files = [word for word in words[1:] if word.endswith(".json")]
