@@ -31,7 +31,7 @@ PROGRAMS = {
         {"src/main.rt": "world.rt.txt", **CLOCK},
     ),
     "bench_loop": (
-        "osbase osconf osplan osmail oskernel osturn anyhow",
+        "osbase osconf osplan osmail oskernel osrun anyhow",
         {
             "src/main.rt": "loop.rt.txt",
             "src/seats.rt": "seats.rt.txt",

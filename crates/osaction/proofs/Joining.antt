@@ -35,7 +35,7 @@ kinds-long = length-filter_both (is_of_kind true) (is_of_kind false) (λ x. refl
 pub kinds-posted : (core : Core) (actions : List RemoteCall) → count_by (is_posting core) (of_kind true actions) + count_by (is_posting core) (of_kind false actions) ≡ count_by (is_posting core) actions
 kinds-posted core = sum_by-filter_both (is_of_kind true) (is_of_kind false) (λ x. refl) (posted_by_action core)
 
--- A point's own line, and two entries for each of its actions, of which there are 8 at most.
+-- A point's own line, and two entries for each of its at most 8 actions.
 pub within-point : (activating setting all : ℕ) → activating + setting ≡ all → all ≤ 8 → 1 + 2 * activating + 2 * setting ≤ 17
 within-point activating setting all long few = omega (arith, long, few)
 

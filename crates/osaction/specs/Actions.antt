@@ -3,10 +3,10 @@ use Rattle.osbase.specs.declared.statuses.Status.TheVariants.{EOsCore}
 use Rattle.osbase.specs.declared.messages.Message.{Message}
 use Rattle.osbase.specs.declared.messages.RemoteCall.{RemoteCall}
 use Rattle.osbase.specs.declared.marks.Mark.TheVariants as Mark
-use Rattle.osact.specs.Acts.{Acts, Prints, Sends, both, if_started, look, nothing, one_then, prints, when}
-use Rattle.osact.specs.Returning.{reports}
-use Rattle.osact.specs.Seen.{is_own}
-use Rattle.osact.specs.Service.{effect_of, status_of}
+use Rattle.osservice.specs.Acts.{Acts, Prints, Sends, both, if_started, look, nothing, one_then, prints, when}
+use Rattle.osservice.specs.Returning.{reports}
+use Rattle.osservice.specs.Seen.{is_this_core}
+use Rattle.osservice.specs.Service.{effect_of, status_of}
 use Rattle.oscall.specs.Border.{core_of_call, service_of}
 
 -- An action on a task of the core acts at once, and its error calls ErrorHook. [AUTOSAR SWS OS 4.x, SWS_Os_00632; the hook: own]
@@ -20,4 +20,4 @@ posts call = one_then (Prints (Mark.CallQueued (core_of_call call) call)) (one_t
 -- On a core that was never started nothing acts: ErrorHook is called here. [own]
 abbrev pub acts : RemoteCall → Acts
 acts call =
-    look (λ s. when (is_own s (core_of_call call)) (acts_here call) (if_started (core_of_call call) (posts call) (prints (Mark.ErrorHook EOsCore))))
+    look (λ s. when (is_this_core s (core_of_call call)) (acts_here call) (if_started (core_of_call call) (posts call) (prints (Mark.ErrorHook EOsCore))))

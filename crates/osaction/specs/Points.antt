@@ -8,10 +8,10 @@ use Rattle.oscript.specs.Calls.{is_activation}
 use Rattle.osplan.specs.declared.plans.Core.{Core}
 use Rattle.osplan.specs.declared.plans.ExpiryPoint.{ExpiryPoint}
 use Rattle.osplan.specs.Objects.{may_act}
-use Rattle.osact.specs.Acts.{Acts, Prints, both, for_each, one_then}
+use Rattle.osservice.specs.Acts.{Acts, Prints, both, for_each, one_then}
 use Rattle.osaction.specs.Actions.{acts}
 
--- An activation of a task, or, if that is not what is asked for, a setting of events.
+-- An activation of a task, or else a setting of events.
 abbrev pub is_of_kind : Bool → RemoteCall → Bool
 is_of_kind true action = is_activation action
 is_of_kind false action = not (is_activation action)

@@ -4,15 +4,15 @@ ghost use Rattle.std.specs.Prelude.{◌≡◌, ◌<◌, ◌≤◌, IsTrue, false
 ghost use Rattle.osbase.specs.declared.limits.TheConstants.{CORES};
 ghost use Rattle.osbase.specs.History.{same_core};
 ghost use Rattle.osstate.specs.Does.{Effects, HasRoom};
-ghost use Rattle.osact.specs.Terms.{MayBegin};
-ghost use Rattle.osact.specs.Acts.{does};
+ghost use Rattle.osservice.specs.Terms.{MayBegin};
+ghost use Rattle.osservice.specs.Acts.{does};
 ghost use Rattle.oscall.specs.Border.{core_of_call, is_known_call};
 ghost use Rattle.osstate.specs.Readings.{is_served};
 ghost use Rattle.osaction.specs.Actions.{acts, acts_here, posts};
 
-use osact::is_ok;
 use osbase::{CoreId, Mark, Message, RemoteCall, Status};
 use oscall::serve;
+use osservice::is_ok;
 use osstate::CoreState;
 
 /// A task of the core is acted on at once, another core's by a letter without a reply; on a core that was never started nothing
@@ -30,7 +30,7 @@ pub fn act<const P: usize, const J: usize, const OUT: usize>(
     ensures outbox { length state.new.border.outbox ≤ suc (length state.old.border.outbox) }
 {
     let core = call.object().place.core;
-    if state.is_own(core) {
+    if state.is_this_core(core) {
         act_here(state, call, marks);
     } else if state.knows_started(core) {
         post(state, core, call, marks);

@@ -4,8 +4,8 @@ ghost use Rattle.std.specs.Prelude.{◌≡◌, ◌≤◌, ◌+◌, ◌*◌, IsTr
 ghost use Rattle.std.specs.List.{list_all};
 ghost use Rattle.osplan.specs.Objects.{is_posting, may_act, posted_at};
 ghost use Rattle.osstate.specs.Does.{Effects};
-ghost use Rattle.osact.specs.Terms.{MayPost};
-ghost use Rattle.osact.specs.Acts.{does};
+ghost use Rattle.osservice.specs.Terms.{MayPost};
+ghost use Rattle.osservice.specs.Acts.{does};
 ghost use Rattle.osaction.specs.Points.{acts_each, does_point, is_known_point, is_of_kind, of_kind};
 
 use crate::actions::act;

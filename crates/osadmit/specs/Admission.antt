@@ -1,4 +1,4 @@
--- Which item may be taken, asked of a core's state.
+-- Which item a core may take, by its state.
 use Rattle.std.specs.Prelude.{ℕ, ◌^◌, ◌==◌, ◌&&◌, ◌||◌, nat_lt, Bool, true, false, not, if◌then◌else◌, is_none, Option, List, [], ◌∷◌, length, slice_index}
 use Rattle.std.specs.List.{list_all}
 use Rattle.std.specs.Option.{option_map_or}
@@ -22,7 +22,7 @@ use Rattle.osbase.specs.declared.items.CoreMode.{CoreMode}
 use Rattle.osbase.specs.declared.items.CoreMode.TheVariants.{Named, DontCare}
 use Rattle.osplan.specs.Stimuli.{knows_stimulus}
 use Rattle.osplan.specs.View.{View, is_configured}
-use Rattle.osstate.specs.Readings.{is_own, next_start}
+use Rattle.osstate.specs.Readings.{is_this_core, next_start}
 use Rattle.osstate.specs.State.{KernelState}
 use Rattle.osawait.specs.Free.{is_settled, may_go_on, may_look_halt}
 use Rattle.osawait.specs.Messages.{is_awaited}
@@ -44,7 +44,7 @@ is_start_answer v core status = if is_configured v core then is_started_now_or_b
 abbrev pub is_for : CoreId → Option CoreId → Bool
 is_for core other = option_map_or (same_core core) other false
 
--- What the first gate may come to for a core: a conflict, its own mode, or, for a core that says DONOTCARE,
+-- The possible results of the first gate for a core: a conflict, its own mode, or, for a core that says DONOTCARE,
 -- any mode or none. [AUTOSAR SWS OS 4.x, SWS_Os_00608 to SWS_Os_00610; that all may say DONOTCARE is this project's own]
 abbrev pub is_agreement : View → CoreMode → Agreement → Bool
 is_agreement v mode Agreement.Conflict = true
@@ -66,7 +66,7 @@ is_front_for core (s ∷ ss) = same_core s.to core
 -- [own]
 abbrev pub is_next_from : ℕ → KernelState → CoreId → ℕ → Message → Bool
 is_next_from places s from number message =
-    has_core s.progress.started from && not (is_own s.view from) && (number == slice_index s.border.received from.number)
+    has_core s.progress.started from && not (is_this_core s.view from) && (number == slice_index s.border.received from.number)
     && is_awaited places s from message
 
 -- The open call asks for a shutdown of all cores. [AUTOSAR SWS OS 4.x, ShutdownAllCores]
@@ -77,7 +77,7 @@ asks_halt awaited = false
 abbrev pub has_asked_halt : KernelState → Bool
 has_asked_halt s = option_map_or (λ (call : OpenCall). asks_halt call.awaits) s.border.open_call false
 
--- A core is halted where it asked for the shutdown of all cores itself, or may look for one. [own]
+-- A core may be halted if it requested the shutdown of all cores itself, or may look for one. [own]
 abbrev pub may_halt : KernelState → Bool
 may_halt s = has_asked_halt s || may_look_halt s
 

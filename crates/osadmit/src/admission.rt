@@ -105,7 +105,7 @@ fn is_no_core(status: Status) -> bool
     matches!(status, Status::EOsId)
 }
 
-// What the first gate may come to for a core of this mode.
+// Whether this may be the result of the first gate for a core of this mode.
 fn is_agreed<const P: usize, const J: usize, const OUT: usize>(
     state: &CoreState<'_, P, J, OUT>,
     agreement: Agreement,
@@ -186,7 +186,7 @@ fn is_next_letter<const P: usize, const J: usize, const OUT: usize>(
     if !state.knows_started(from) {
         return false;
     }
-    let is_foreign = !state.is_own(from);
+    let is_foreign = !state.is_this_core(from);
     let is_in_order = number == state.received_from(from);
     is_foreign & is_in_order & is_awaited(state, from, message)
 }
@@ -269,7 +269,7 @@ fn is_owed_next<const P: usize, const J: usize, const OUT: usize>(
     }
 }
 
-// A core is halted where it asked for the shutdown of all cores itself, or may look for one.
+// A core may be halted if it requested the shutdown of all cores itself, or may look for one.
 fn may_halt<const P: usize, const J: usize, const OUT: usize>(
     state: &CoreState<'_, P, J, OUT>,
 ) -> bool

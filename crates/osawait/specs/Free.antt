@@ -1,4 +1,4 @@
--- Whether a core may go on by itself.
+-- Whether a core may do its own next step.
 use Rattle.std.specs.Prelude.{◌&&◌, Bool, true, false, not, is_none, List, [], ◌∷◌}
 use Rattle.std.specs.Option.{option_map_or}
 use Rattle.osbase.specs.declared.histories.Awaited.{Awaited}

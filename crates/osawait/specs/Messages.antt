@@ -12,7 +12,7 @@ use Rattle.osbase.specs.History.{same_core}
 use Rattle.oscript.specs.Calls.{is_action}
 use Rattle.osstate.specs.Readings.{is_served}
 use Rattle.osstate.specs.State.{KernelState}
-use Rattle.osact.specs.Checks.{is_ok_status}
+use Rattle.osservice.specs.Checks.{is_ok_status}
 
 -- The service whose E_OK comes with a value. [OSEK/VDX OS 2.2.3, section 13.6.3.2]
 abbrev pub answers_value : ServiceId → Bool

@@ -4,9 +4,9 @@ ghost use Rattle.std.specs.Prelude.{◌≡◌, false};
 ghost use Rattle.std.specs.Option.{option_map_or};
 ghost use Rattle.osawait.specs.Messages.{answers_value, is_awaited, is_reply_to};
 
-use osact::is_ok;
 use osbase::{Awaited, CoreId, Message, OpenCall, ServiceId, Status};
 use oscript::is_action;
+use osservice::is_ok;
 use osstate::CoreState;
 
 /// A message is expected: a request where the reply to it has a place, an action that an alarm may have, or the reply of the open

@@ -17,6 +17,6 @@ stands_in-is Closing Closing e = refl
 stands_in-is Ended Ended e = refl
 stands_in-is asked p e = absurd (false≢true e)
 
--- A test of the phase that is asked about answers as it does of that phase.
+-- A test of a phase has one answer for equal phases.
 pub in_phase : {b : Bool} (asked p : Phase) (test : Phase → Bool) → stands_in asked p ≡ true → test asked ≡ b → test p ≡ b
 in_phase asked p test stands is = ap test (stands_in-is asked p stands) ∙ is

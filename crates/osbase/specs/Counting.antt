@@ -5,7 +5,7 @@ use Rattle.std.specs.Option.{option_map_or}
 use Rattle.osbase.specs.declared.references.CounterRef.{CounterRef}
 use Rattle.osbase.specs.declared.references.AlarmRef.{AlarmRef}
 use Rattle.osbase.specs.declared.references.TableRef.{TableRef}
-use Rattle.osbase.specs.History.{History, Entry, Noted, Counted, AlarmSet, AlarmCancelled, TableStarted, TableQuit, TableNext, same_core}
+use Rattle.osbase.specs.History.{History, Entry, Noted, CounterIncremented, AlarmSet, AlarmCancelled, TableStarted, TableStopped, TableNext, same_core}
 
 -- Equality of references.
 abbrev pub same_counter : CounterRef → CounterRef → Bool
@@ -21,7 +21,7 @@ same_table a b = same_core a.core b.core && (a.index == b.index)
 
 -- How often the counter went on by one. [OSEK/VDX OS 2.2.3, section 9.1]
 abbrev pub counts_after : CounterRef → Entry → ℕ → ℕ
-counts_after c (Noted (Counted d)) count = if same_counter d c then suc count else count
+counts_after c (Noted (CounterIncremented d)) count = if same_counter d c then suc count else count
 counts_after c e count = count
 
 abbrev pub counts_of : CounterRef → History → ℕ
@@ -40,8 +40,8 @@ counts_to max value start = (start + max - value) % suc max + 1
 
 -- ---- alarms
 
--- An alarm as it was set last: at which count since then it is due first, its cycle, which is 0 for an alarm that is due once, and
--- how many counts of its counter there were since.
+-- An alarm as it was set last: at which count since then it expires first, its cycle (0 for an alarm that expires once), and how
+-- many counts of its counter there were since.
 pub record AlarmSetting : Type 0 where
   pub first : ℕ
   pub cycle : ℕ
@@ -54,7 +54,7 @@ one_count_more setting = record setting { counts = suc setting.counts }
 abbrev pub alarm_after : CounterRef → AlarmRef → Entry → Option AlarmSetting → Option AlarmSetting
 alarm_after c a (Noted (AlarmSet b first cycle)) setting = if same_alarm b a then Some (record { first = first; cycle = cycle; counts = 0 }) else setting
 alarm_after c a (Noted (AlarmCancelled b)) setting = if same_alarm b a then None else setting
-alarm_after c a (Noted (Counted d)) setting = if same_counter d c then option_map one_count_more setting else setting
+alarm_after c a (Noted (CounterIncremented d)) setting = if same_counter d c then option_map one_count_more setting else setting
 alarm_after c a e setting = setting
 
 abbrev pub alarm_of : CounterRef → AlarmRef → History → Option AlarmSetting
@@ -120,9 +120,9 @@ counted_once state = state
 -- that waits; the other's stays. [AUTOSAR SWS OS 4.x, section 7.3]
 abbrev pub table_after : CounterRef → TableRef → Entry → TableState → TableState
 table_after c s (Noted (TableStarted t wait)) state = if same_table t s then started_after wait else state
-table_after c s (Noted (TableQuit t)) state = if same_table t s then Stopped else state
+table_after c s (Noted (TableStopped t)) state = if same_table t s then Stopped else state
 table_after c s (Noted (TableNext t u)) state = if same_table u s then NextOf t else state
-table_after c s (Noted (Counted d)) state = if same_counter d c then counted_once state else state
+table_after c s (Noted (CounterIncremented d)) state = if same_counter d c then counted_once state else state
 table_after c s e state = state
 
 -- The state of a table: by the last entry that starts it, stops it or lets it wait. Without one it is stopped. If it runs, its state

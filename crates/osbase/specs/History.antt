@@ -41,10 +41,10 @@ pub data Note : Type 0 where
   -- a letter for the core that is named joins the outbox
   Queued : CoreId → Letter → Note
   -- the runner's oldest live job takes a resource, and gives one back
-  Taken : Runner → HeldResource → Note
-  Given : Runner → ℕ → Note
-  -- a counter goes on by one
-  Counted : CounterRef → Note
+  ResourceOccupied : Runner → HeldResource → Note
+  ResourceReleased : Runner → ℕ → Note
+  -- a counter is incremented
+  CounterIncremented : CounterRef → Note
   -- an alarm is set: it is due at the count of its counter that is named first, counted from here, and then every so many counts,
   -- or once alone where that is 0; and an alarm is cancelled
   AlarmSet : AlarmRef → ℕ → ℕ → Note
@@ -52,11 +52,11 @@ pub data Note : Type 0 where
   -- a schedule table runs, and its first period begins after so many counts, counted from here; it stops, or waits no longer; and the
   -- second of two tables waits for the end of a period of the first
   TableStarted : TableRef → ℕ → Note
-  TableQuit : TableRef → Note
+  TableStopped : TableRef → Note
   TableNext : TableRef → TableRef → Note
   -- the runner's oldest live job suspends interrupts once more, and resumes them once
-  Locked : Runner → Note
-  Unlocked : Runner → Note
+  InterruptsSuspended : Runner → Note
+  InterruptsResumed : Runner → Note
   -- the core goes down: it schedules and serves no longer
   WentDown : Note
   -- an operation of the runner's oldest live job is done, with this status and value
@@ -122,8 +122,8 @@ oldest r [] = None
 oldest r (j ∷ js) = if same_runner j.runner r then Some j else oldest r js
 
 -- The live jobs of tasks, the smallest stamp first; `isr_jobs` has those of ISRs. An activation begins a job, whose stamp is its place
--- in the history; a release from waiting gives the oldest live job of its task, of which an extended task has one, a new stamp, so that
--- it comes behind the others of its priority; an end ends the oldest live job of its task. [OSEK/VDX OS 2.2.3, section 4.3 and 4.5; the
+-- in the history. A release from waiting gives the oldest live job of its task a new stamp, so that it comes behind the others of its
+-- priority; an extended task has one job at most. An end ends the oldest live job of its task. [OSEK/VDX OS 2.2.3, section 4.3 and 4.5; the
 -- code has the same list, and no history to count places in.]
 abbrev pub stamped_anew : Runner → ℕ → List Job → List Job
 stamped_anew r stamp jobs = option_map_or (λ (j : Job). without_oldest r jobs ++ record j { stamp = stamp } ∷ []) (oldest r jobs) jobs
@@ -343,7 +343,7 @@ first_phase is_master = if is_master then Phase.Boot else Phase.Off
 abbrev pub phase_of : Bool → History → Phase
 phase_of is_master h = phase_from (first_phase is_master) h
 
--- Whether the core goes on: once it went down, it is down; a halt of all cores halts it, unless it is down.
+-- Whether the core runs: once it went down, it is down; a halt of all cores halts it, unless it is down.
 -- [AUTOSAR SWS OS 4.x, ShutdownOS and ShutdownAllCores; that a core that is down stays so: own]
 abbrev pub course_after : Entry → Course → Course
 course_after (Noted WentDown) course = Course.Down
@@ -363,7 +363,7 @@ abbrev pub began_count : History → ℕ
 began_count [] = 0
 began_count (e ∷ h) = began_after e (began_count h)
 
--- The application mode that the started cores came to, once the first gate is passed.
+-- The application mode on which the started cores agree, once the first gate is passed.
 -- [AUTOSAR SWS OS 4.x, SWS_Os_00608 to SWS_Os_00610]
 abbrev pub agreement_after : Entry → Option Agreement → Option Agreement
 agreement_after (Took (Item.Pass1 a)) agreement = Some a

@@ -1,4 +1,4 @@
--- Where a core stands, from being off to its end: the phases in their order; and whether it goes on.
+-- The phases of a core in their order, from off to its end; and whether it runs.
 use Rattle.std.specs.Prelude.{ℕ, ◌==◌, ◌&&◌, nat_lt, Bool, true, false}
 use Rattle.osbase.specs.declared.histories.Course.{Course}
 use Rattle.osbase.specs.declared.histories.Course.TheVariants.{Going, Down, Halted}
@@ -25,7 +25,7 @@ stands_in asked p = place_of p == place_of asked
 abbrev pub is_before_live : Phase → Bool
 is_before_live p = nat_lt (place_of p) (place_of Live)
 
--- The core is past the first gate, and goes on.
+-- The core is past the first gate, and not at its end.
 abbrev pub is_past_first_gate : Phase → Bool
 is_past_first_gate p = nat_lt (place_of FirstGate) (place_of p) && nat_lt (place_of p) (place_of Ended)
 

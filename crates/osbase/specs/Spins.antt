@@ -19,9 +19,9 @@ abbrev pub has_spinlock : SpinlockId → List GotSpinlock → Bool
 has_spinlock l got = list_any (λ (g : GotSpinlock). same_spinlock g.lock l) got
 
 -- The spinlocks that the core got and did not give back, the newest first. The job whose call is open gets one by the answer to this
--- call, and none twice; it gives one back when it is freed; what an ended job still has, and what a core that goes down or is
--- halted has, is owed. A runner stands for its oldest job: no later one runs while a release is owed.
--- [AUTOSAR SWS OS 4.x, GetSpinlock, TryToGetSpinlock and ReleaseSpinlock; that a release comes to be owed: own]
+-- call, and none twice. It gives one back when it is freed. The release of what an ended job still has, and of what a core has that
+-- goes down or is halted, is owed. A runner means its oldest job: no later one runs while a release is owed.
+-- [AUTOSAR SWS OS 4.x, GetSpinlock, TryToGetSpinlock and ReleaseSpinlock; that a release is owed: own]
 abbrev pub with_spinlock : SpinlockId → Option OpenCall → List GotSpinlock → List GotSpinlock
 with_spinlock l None got = got
 with_spinlock l (Some call) got = if has_spinlock l got then got else record { lock = l; holder = Some call.runner } ∷ got

@@ -39,8 +39,8 @@ impl Phase {
     }
 }
 
-/// Whether a core goes on, or went down by itself, or was halted with all others: a core that does not go on schedules
-/// nothing any more and serves no other core, whatever its phase is (AUTOSAR SWS OS 4.x, ShutdownOS and ShutdownAllCores).
+/// Whether a core runs, is down after its own shutdown, or was halted with all others. A core that is down or halted
+/// schedules nothing any more and serves no other core, whatever its phase is (AUTOSAR SWS OS 4.x, ShutdownOS and ShutdownAllCores).
 #[derive(Clone, Copy, PartialEq, Eq)]
 pub enum Course {
     Going,
@@ -49,7 +49,7 @@ pub enum Course {
 }
 
 impl Course {
-    /// Whether the core goes on.
+    /// Whether the core is neither down nor halted.
     pub fn is_going(self) -> bool
         ensures { result ≡ is_going self }
     {
@@ -82,8 +82,8 @@ pub struct Job {
     pub stamp: u64,
 }
 
-/// A resource that a job holds: its index among its core's own, of which alone a job holds any, and its
-/// ceiling priority (OSEK/VDX OS 2.2.3, section 8.5).
+/// A resource that a job holds: its index among its core's own and its ceiling priority. A job holds only resources of
+/// its own core (OSEK/VDX OS 2.2.3, section 8.5).
 #[derive(Clone, Copy, Default, PartialEq, Eq)]
 pub struct HeldResource {
     pub index: u8,
@@ -109,7 +109,7 @@ pub enum Awaited {
     Try(SpinlockId),
     /// ReleaseSpinlock: that the spinlock is given back.
     Release(SpinlockId),
-    /// ShutdownAllCores, which was asked for with this status: who asked first.
+    /// ShutdownAllCores with this status: which core requested it first.
     Halt(Status),
 }
 

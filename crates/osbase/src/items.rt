@@ -11,7 +11,7 @@ use crate::statuses::Status;
 /// What a core's environment gives it.
 #[derive(Clone, Copy, Debug, PartialEq, Eq)]
 pub enum Stimulus {
-    /// The running job goes on by one operation.
+    /// The running job does its next operation.
     Op,
     /// Every hardware counter of the core advances by one.
     Tick,
@@ -45,7 +45,7 @@ pub enum CoreMode {
     DontCare,
 }
 
-/// What the started cores' application modes came to at the first synchronisation point of
+/// The result of comparing the started cores' application modes at the first synchronisation point of
 /// StartOS (AUTOSAR SWS OS 4.x, SWS_Os_00608 to SWS_Os_00610).
 #[derive(Clone, Copy, Debug, PartialEq, Eq)]
 pub enum Agreement {
@@ -94,7 +94,7 @@ pub enum Item {
     },
     /// A spinlock was given back.
     Freed(SpinlockId),
-    /// A shutdown of all cores, with who asked first and with which status.
+    /// A shutdown of all cores: which core requested it first, and with which status.
     Halt {
         core: CoreId,
         status: Status,
@@ -103,6 +103,6 @@ pub enum Item {
     Drained,
     /// Every started core has drained.
     PassEnd,
-    /// The end, with who asked for a shutdown of all cores, if one was asked for.
+    /// The end, with the core that requested a shutdown of all cores, if one did.
     Last(Option<(CoreId, Status)>),
 }

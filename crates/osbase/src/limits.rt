@@ -48,7 +48,7 @@ pub const INTERRUPTS: usize = 2 * ISRS;
 /// The greatest level of an ISR; the least is 1.
 pub const LEVELS: u64 = 16;
 
-/// The greatest execution budget, in ticks; 0 stands for none.
+/// The greatest execution budget, in ticks; 0 means no budget.
 pub const GREATEST_BUDGET: u64 = 1_000_000_000;
 
 /// The most operations of a script.

@@ -104,7 +104,7 @@ pub enum Mark {
         variable: Variable,
         value: i64,
     },
-    /// `halt K S`: the shutdown of all cores is taken that core K asked for first.
+    /// `halt K S`: the shutdown of all cores is taken, which core K requested first.
     Halted {
         core: CoreId,
         status: Status,

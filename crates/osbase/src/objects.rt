@@ -10,8 +10,8 @@ use crate::references::{
     AlarmRef, CoreId, CounterRef, IsrRef, ModeId, ResourceRef, SpinlockId, TableRef, TaskRef,
 };
 
-/// The kinds of objects: those that a core has, of which operations and calls name all but ISRs, and those that all
-/// cores have in common, the application modes and the spinlocks.
+/// The kinds of objects: those that a core has, and those that all cores have in common, the application modes and the
+/// spinlocks. Operations and calls refer to objects of every kind but ISRs.
 #[derive(Clone, Copy, PartialEq, Eq)]
 pub enum ObjectKind {
     Mode,

@@ -54,8 +54,8 @@ pub type Turn = (CoreId, Choice);
 /// Turns in order.
 pub type Schedule = List<Turn>;
 
-/// What a run came to for one core: the items that it took, the lines that it printed, and whether
-/// it came to its end.
+/// The report of one core of a run: the items that it took, the lines that it printed, and whether
+/// it reached its end.
 #[derive(Debug, Drop)]
 pub struct Report {
     pub core: CoreId,

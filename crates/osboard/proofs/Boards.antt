@@ -14,11 +14,11 @@ use Rattle.osbase.proofs.StatusNumbers.{status_back, status_low}
 use Rattle.osbase.specs.declared.items.CoreMode.{CoreMode}
 use Rattle.osbase.specs.declared.items.CoreSet.{CoreSet}
 use Rattle.osbase.specs.declared.items.CoreMode.TheVariants.{Named, DontCare}
-use Rattle.osseat.specs.declared.histories.Entry.{Entry}
-use Rattle.osseat.specs.Histories.{Continues}
-use Rattle.osseat.specs.Runs.{AreIdle}
-use Rattle.osseat.specs.Views.{IsStep}
-use Rattle.osseat.proofs.Steps.{continues}
+use Rattle.osshared.specs.declared.histories.Entry.{Entry}
+use Rattle.osshared.specs.Histories.{Continues}
+use Rattle.osshared.specs.Runs.{AreIdle}
+use Rattle.osshared.specs.Views.{IsStep}
+use Rattle.osshared.proofs.Steps.{continues}
 use Rattle.osboard.specs.declared.calls.BoardView.{BoardView}
 use Rattle.osboard.specs.declared.calls.BoardState.{BoardState}
 use Rattle.osboard.specs.declared.calls.BoardCall.{BoardCall}

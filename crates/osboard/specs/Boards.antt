@@ -11,8 +11,8 @@ use Rattle.osbase.specs.History.{no_cores}
 use Rattle.osbase.specs.Sets.{has_core}
 use Rattle.osbase.specs.declared.items.CoreMode.{CoreMode}
 use Rattle.osbase.specs.declared.items.CoreMode.TheVariants.{Named, DontCare}
-use Rattle.osseat.specs.declared.histories.Entry.{Entry}
-use Rattle.osseat.specs.Histories.{Object, entry}
+use Rattle.osshared.specs.declared.histories.Entry.{Entry}
+use Rattle.osshared.specs.Histories.{Object, entry}
 use Rattle.osbase.specs.declared.limits.TheConstants.{CORES, MODES}
 use Rattle.osboard.specs.declared.calls.ModeSet.{ModeSet}
 use Rattle.osboard.specs.declared.calls.BoardView.{BoardView}
@@ -157,7 +157,7 @@ IsLook e = (e.call ≡ Look) ⊎ ((e.call ≡ LookDrained) ⊎ (e.call ≡ LookH
 abbrev pub have_all : CoreSet → CoreSet → Bool
 have_all started cores = list_all (λ (p : Bool × Bool). not p.0 || p.1) (zip started.members cores.members)
 
--- What the named modes come to, by how many they are: none, the one, or a conflict of several.
+-- The result of comparing the named modes, by how many they are: none, the one, or a conflict of several.
 -- [AUTOSAR SWS OS 4.x, SWS_Os_00608 to SWS_Os_00610; that all may say DONOTCARE is this project's own]
 abbrev pub agreement_by : ℕ → Option ℕ → Agreement
 agreement_by zero first = Agreement.NoMode

@@ -2,8 +2,8 @@
 
 ghost use Rattle.std.specs.Prelude.{◌≡◌, ◌<◌, All, map, IfOk};
 ghost use Rattle.osbase.specs.declared.limits.TheConstants.{CORES};
-ghost use Rattle.osseat.specs.Histories.{entry};
-ghost use Rattle.osseat.specs.Seats.{AllApart, AllAt, Extends, IsOneHistory, cores_of, fresh};
+ghost use Rattle.osshared.specs.Histories.{entry};
+ghost use Rattle.osshared.specs.Seats.{AllApart, AllAt, Extends, IsOneHistory, cores_of, fresh};
 ghost use Rattle.osboard.specs.Boards.{HasPlace, IsMode, ask_halt_call, drain_call, enter_call, look_call, look_drained_call, look_halt_call, one_board, ready_call, start_call};
 
 use crate::calls::{BoardCall, BoardReply, BoardView, BoardWords};
@@ -11,7 +11,7 @@ use crate::words::{
     DRAINED, ENTERED, READY, STARTED, bit, cores_in, halt_in, halt_word, mode_bits, view_in,
 };
 use osbase::{CoreId, CoreMode, CoreSet, List, Status};
-use osseat::{CoreSeat, Plan, SharedWords};
+use osshared::{CoreSeat, Plan, SharedWords};
 use std::alloc::{AllocError, Global};
 use std::marker::{Brand, Model};
 
@@ -36,7 +36,7 @@ pub struct Board {
 impl Model for Board {
     ghost use Rattle.std.specs.Prelude.{◌≡◌};
     ghost use Rattle.osbase.specs.declared.references.CoreId.{CoreId};
-    ghost use Rattle.osseat.specs.Seats.{Place};
+    ghost use Rattle.osshared.specs.Seats.{Place};
 
     ghost Value = { Place CoreId };
 
@@ -186,7 +186,7 @@ impl Board {
         }
     }
 
-    /// All seats together show one history, which is legal and has their calls and no others.
+    /// All seats together show one legal history, with their calls and no others.
     pub fn gather(&self, seats: Vec<BoardSeat>)
         requires places { AllAt self.now seats.items }
         requires cores { cores_of seats.items ≡ self.now.plan.cores }

@@ -1,7 +1,7 @@
 //! What cores ask of the board, and what it answers.
 
 use osbase::{CoreId, CoreMode, CoreSet, MODES, Status};
-use osseat::SharedObject;
+use osshared::SharedObject;
 
 /// A set of application modes: a flag for each mode.
 #[derive(Clone, Copy, PartialEq, Eq)]

@@ -2,7 +2,7 @@
 
 ghost use Rattle.std.specs.Prelude.{◌≡◌, Some};
 ghost use Rattle.osboard.specs.Boards.{ask_halt_call, board_after, board_reply, drain_call, enter_call, first_asked, first_board, look_call, look_drained_call, look_halt_call, one_board, ready_call, start_answer, start_call, with_core, with_mode};
-ghost use Rattle.osseat.specs.Histories.{Continues};
+ghost use Rattle.osshared.specs.Histories.{Continues};
 
 use crate::calls::{BoardCall, BoardReply, BoardState, BoardView, ModeSet};
 use osbase::{CORES, CoreId, CoreMode, CoreSet, MODES, Status};

@@ -33,7 +33,7 @@ impl BoardView {
         have_all(&self.started, &self.ready)
     }
 
-    /// What the modes of the cores that entered come to: none, the one, or a conflict
+    /// The result of comparing the modes of the cores that entered: none, the one, or a conflict
     /// (AUTOSAR SWS OS 4.x, SWS_Os_00608 to SWS_Os_00610; that all may say DONOTCARE is this project's own).
     pub fn agreement(&self) -> Agreement
         ensures { result ≡ agreement_in self.now.modes }

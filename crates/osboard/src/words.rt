@@ -89,7 +89,7 @@ fn modes_in(word: u64, first: usize) -> ModeSet
     ModeSet { members }
 }
 
-/// The sets that the phase word stands for.
+/// The sets that the phase word encodes.
 pub fn view_in(word: u64) -> BoardView
     ensures { result ≡ view_in word }
 {

@@ -11,12 +11,12 @@ use Rattle.osbase.specs.declared.objects.Object.{Object}
 use Rattle.osbase.specs.Answers.{served}
 use Rattle.oscript.specs.declared.Op.{Op}
 use Rattle.oscript.specs.Calls.{call_of_op}
-use Rattle.osact.specs.Acts.{Prints}
-use Rattle.osact.specs.Checks.{first_failing}
-use Rattle.osact.specs.Seen.{Seen}
-use Rattle.osact.specs.Service.{serves}
-use Rattle.osact.proofs.Called.{IsAllowed, called-passes}
-use Rattle.osact.proofs.Kept.{AreAllowed, IsNamed, Leave, crosses-ok, is_allowed, is_within, returns-ok, serves-ok}
+use Rattle.osservice.specs.Acts.{Prints}
+use Rattle.osservice.specs.Checks.{first_failing}
+use Rattle.osservice.specs.Seen.{Seen}
+use Rattle.osservice.specs.Service.{serves}
+use Rattle.osservice.proofs.Called.{IsAllowed, called-passes}
+use Rattle.osservice.proofs.Kept.{AreAllowed, IsNamed, Leave, crosses-ok, is_allowed, is_within, returns-ok, serves-ok}
 use Rattle.oscall.specs.Border.{calls, core_of_call, service_of}
 use Rattle.oscall.specs.Shutdown.{core_acts, starting_checks}
 use Rattle.oscall.specs.Variables.{script_acts}

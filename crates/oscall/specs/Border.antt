@@ -13,14 +13,14 @@ use Rattle.osbase.specs.Objects.{object_of_call}
 use Rattle.osbase.specs.Answers.{reply, served}
 use Rattle.osplan.specs.declared.plans.Core.{Core}
 use Rattle.osplan.specs.Objects.{may_name}
-use Rattle.osact.specs.declared.returning.Answer.{Answer}
-use Rattle.osact.specs.Acts.{Acts, Sends, both, if_started, look, nothing, one_then, prints, when}
-use Rattle.osact.specs.Returning.{asks, reports, returns}
-use Rattle.osact.specs.Seen.{Seen, is_own}
-use Rattle.osact.specs.Service.{Service, answer_of, effect_of, serves}
-use Rattle.ostaskcall.specs.Events.{setting}
-use Rattle.ostaskcall.specs.Tasks.{activation}
-use Rattle.osalarmcall.specs.Alarms.{absolute_setting, cancellation, inquiry, relative_setting}
+use Rattle.osservice.specs.declared.returning.ServiceResult.{ServiceResult}
+use Rattle.osservice.specs.Acts.{Acts, Sends, both, if_started, look, nothing, one_then, prints, when}
+use Rattle.osservice.specs.Returning.{asks, reports, returns}
+use Rattle.osservice.specs.Seen.{Seen, is_this_core}
+use Rattle.osservice.specs.Service.{Service, answer_of, effect_of, serves}
+use Rattle.osservice_tasks.specs.Events.{setting}
+use Rattle.osservice_tasks.specs.Tasks.{activation}
+use Rattle.osservice_alarms.specs.Alarms.{absolute_setting, cancellation, inquiry, relative_setting}
 
 -- The table: a row for each call. [own]
 abbrev pub service_of : RemoteCall → Seen → Service
@@ -43,7 +43,7 @@ is_known_call core call = may_name core (object_of_call call)
 
 -- On an own object the service is done here; another core is asked.
 abbrev pub crosses : Runner → ServiceId → RemoteCall → Acts
-crosses r id call = look (λ s. when (is_own s (core_of_call call)) (serves r id (service_of call s)) (asks r id (core_of_call call) call))
+crosses r id call = look (λ s. when (is_this_core s (core_of_call call)) (serves r id (service_of call s)) (asks r id (core_of_call call) call))
 
 -- The checks of the caller's core: the invalid identifier, and a core that was never started.
 -- [OSEK/VDX OS 2.2.3, section 13.2.3.1 and 13.5.3.1; E_OS_CORE: own]
@@ -54,7 +54,7 @@ calls r id (Some call) = if_started (core_of_call call) (crosses r id call) (ret
 -- ---- for another core
 
 -- A call of another core is served: its effects, then its line with the status, and then what follows from the answer.
-abbrev pub serves_for : CoreId → RemoteCall → (Answer → Acts) → Acts
+abbrev pub serves_for : CoreId → RemoteCall → (ServiceResult → Acts) → Acts
 serves_for from call follows = look (λ s.
     let answer = answer_of (service_of call s) in
     both (effect_of (service_of call s)) (both (prints (served from call answer.status answer.value)) (follows answer)))

@@ -3,20 +3,20 @@
 ghost use Rattle.std.specs.Prelude.{◌≡◌, ◌<◌, IfSome, IsTrue, false};
 ghost use Rattle.osbase.specs.declared.limits.TheConstants.{CORES};
 ghost use Rattle.osstate.specs.Does.{Effects, Reads, service_entries, service_marks};
-ghost use Rattle.osact.specs.Terms.{MayBegin, MayPost, MayServe};
-ghost use Rattle.osact.specs.Acts.{both, does, prints};
-ghost use Rattle.osact.specs.Checks.{is_ok_status};
-ghost use Rattle.osact.specs.Service.{answers_with, carries_out};
+ghost use Rattle.osservice.specs.Terms.{MayBegin, MayPost, MayServe};
+ghost use Rattle.osservice.specs.Acts.{both, does, prints};
+ghost use Rattle.osservice.specs.Checks.{is_ok_status};
+ghost use Rattle.osservice.specs.Service.{answers_with, carries_out};
 ghost use Rattle.osbase.specs.Answers.{reply, served};
 ghost use Rattle.osjobs.specs.Jobs.{is_plain};
 ghost use Rattle.oscall.specs.Border.{calls, core_of_call, crosses, is_known_call, serves_action, serves_request, service_of};
 ghost use Rattle.osstate.specs.Readings.{is_served};
 
-use osact::{Answer, ask, finish, refuse, report};
-use osalarmcall::{ask_left, cancel, set_absolute, set_relative};
 use osbase::{CoreId, Mark, Message, RemoteCall, Runner, ServiceId, Status};
+use osservice::{ServiceResult, ask, finish, refuse, report};
+use osservice_alarms::{ask_left, cancel, set_absolute, set_relative};
+use osservice_tasks::{activate, set_events};
 use osstate::CoreState;
-use ostaskcall::{activate, set_events};
 
 /// The half of a service that the object's core does, for a job of its own and for another core alike: the
 /// remaining checks, and the effect. A service that is refused has none.
@@ -24,7 +24,7 @@ pub fn serve<const P: usize, const J: usize, const OUT: usize>(
     state: &mut CoreState<'_, P, J, OUT>,
     call: RemoteCall,
     marks: &mut Vec<Mark>,
-) -> Answer
+) -> ServiceResult
     requires served { IsTrue (is_served state.old.view call) }
     requires begins { MayBegin 2 2 state.old marks.old }
     ensures answer { Reads (answers_with (service_of call)) state.old result }
@@ -89,7 +89,7 @@ fn cross<const P: usize, const J: usize, const OUT: usize>(
     ensures { Effects service_entries service_marks (does (crosses runner service call)) state.old state.new marks.old marks.new }
 {
     let core = call.object().place.core;
-    if !state.is_own(core) {
+    if !state.is_this_core(core) {
         return ask(state, runner, service, core, call, marks);
     }
     let answer = serve(state, call, marks);
@@ -102,7 +102,7 @@ fn serve_for<const P: usize, const J: usize, const OUT: usize>(
     from: CoreId,
     call: RemoteCall,
     marks: &mut Vec<Mark>,
-) -> Answer
+) -> ServiceResult
     requires served { IsTrue (is_served state.old.view call) }
     requires begins { MayBegin 3 3 state.old marks.old }
     ensures answer { Reads (answers_with (service_of call)) state.old result }
@@ -115,7 +115,7 @@ fn serve_for<const P: usize, const J: usize, const OUT: usize>(
 }
 
 // The line of a call that was served.
-fn mark_of(core: CoreId, call: RemoteCall, answer: Answer) -> Mark
+fn mark_of(core: CoreId, call: RemoteCall, answer: ServiceResult) -> Mark
     ensures mark { result ≡ served core call answer.status answer.value }
     ensures plain { IsTrue (is_plain result) }
 {
@@ -135,7 +135,7 @@ fn mark_of(core: CoreId, call: RemoteCall, answer: Answer) -> Mark
 }
 
 // The reply that says what a service answered.
-fn reply_of(answer: Answer) -> Message
+fn reply_of(answer: ServiceResult) -> Message
     ensures { result ≡ reply answer.status answer.value }
 {
     match answer.value {

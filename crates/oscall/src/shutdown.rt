@@ -3,16 +3,16 @@
 ghost use Rattle.std.specs.Prelude.{◌≡◌, ◌≤◌, ◌+◌, ◌^◌, IsTrue};
 ghost use Rattle.osjobs.specs.Priorities.{is_own_runner};
 ghost use Rattle.osstate.specs.Does.{Effects, HasRoom, Reads, Remarks, service_entries, service_marks};
-ghost use Rattle.osact.specs.Terms.{MayAct, Offered};
-ghost use Rattle.osact.specs.Acts.{does};
-ghost use Rattle.osact.specs.Checks.{first_failing};
-ghost use Rattle.osact.specs.Seen.{all_cores};
+ghost use Rattle.osservice.specs.Terms.{MayAct, Offered};
+ghost use Rattle.osservice.specs.Acts.{does};
+ghost use Rattle.osservice.specs.Checks.{first_failing};
+ghost use Rattle.osservice.specs.Seen.{all_cores};
 ghost use Rattle.oscall.specs.Shutdown.{core_acts, core_count, counts_cores, goes_down, is_ignored, is_unknown, refuses_start, shuts_down_all, starting_checks};
 
 use crate::variables::set;
-use osact::{Step, refuse};
 use osbase::{Awaited, CoreId, CoreSet, Mark, OpenCall, Runner, ServiceId, Status, Variable};
 use oscript::Op;
+use osservice::{Step, refuse};
 use osstate::CoreState;
 
 // No core of this number is configured, or it is the invalid identifier.

@@ -2,13 +2,13 @@
 
 ghost use Rattle.std.specs.Prelude.{◌≡◌};
 ghost use Rattle.osstate.specs.Does.{Effects, service_entries, service_marks};
-ghost use Rattle.osact.specs.Terms.{MayAct, Offered};
-ghost use Rattle.osact.specs.Acts.{does};
+ghost use Rattle.osservice.specs.Terms.{MayAct, Offered};
+ghost use Rattle.osservice.specs.Acts.{does};
 ghost use Rattle.oscall.specs.Variables.{adds, adds_variable, script_acts, sets, stores_status, sum_of};
 
-use osact::Step;
 use osbase::{Mark, Runner, Status, Variable};
 use oscript::Op;
+use osservice::Step;
 use osstate::CoreState;
 
 /// A variable of the running job of one of the core's tasks becomes this number, which is printed.

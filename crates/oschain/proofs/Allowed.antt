@@ -6,9 +6,9 @@ use Rattle.osbase.specs.declared.statuses.ServiceId.{ServiceId}
 use Rattle.osbase.specs.declared.references.Runner.{Runner}
 use Rattle.osbase.specs.declared.messages.RemoteCall.{RemoteCall}
 use Rattle.oscript.specs.declared.Op.{Op}
-use Rattle.osact.proofs.Called.{IsAllowed}
-use Rattle.osact.proofs.Kept.{AreAllowed, IsNamed, Leave, crosses-ok, is_within}
-use Rattle.ostaskcall.proofs.Allowed.{ends-ok}
+use Rattle.osservice.proofs.Called.{IsAllowed}
+use Rattle.osservice.proofs.Kept.{AreAllowed, IsNamed, Leave, crosses-ok, is_within}
+use Rattle.osservice_tasks.proofs.Allowed.{ends-ok}
 use Rattle.oschain.specs.Chaining.{chain_acts, chains_here, chains_to}
 
 module _ (l : Leave) where

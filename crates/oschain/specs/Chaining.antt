@@ -9,11 +9,11 @@ use Rattle.osbase.specs.declared.references.Runner.{Runner}
 use Rattle.osbase.specs.declared.messages.RemoteCall.TheVariants as Remote
 use Rattle.osbase.specs.History.{same_runner}
 use Rattle.oscript.specs.declared.Op.{Op}
-use Rattle.osact.specs.Acts.{Acts, both, if_started, look, when}
-use Rattle.osact.specs.Callers.{by_task, holding_checks}
-use Rattle.osact.specs.Returning.{answers, asks, returns}
-use Rattle.osact.specs.Seen.{Seen, is_at_limit, is_own}
-use Rattle.ostaskcall.specs.Tasks.{activates, ends}
+use Rattle.osservice.specs.Acts.{Acts, both, if_started, look, when}
+use Rattle.osservice.specs.Callers.{by_task, holding_checks}
+use Rattle.osservice.specs.Returning.{answers, asks, returns}
+use Rattle.osservice.specs.Seen.{Seen, is_at_limit, is_this_core}
+use Rattle.osservice_tasks.specs.Tasks.{activates, ends}
 
 -- As many jobs of the task are live as it may have. The caller's own task has one less once the caller has ended.
 -- [OSEK/VDX OS 2.2.3, section 13.2.3.3]
@@ -27,7 +27,7 @@ chains_here r t = look (λ s. answers r Service.ChainTask ((exceeds_limit s r t,
 -- Another core is asked to activate its task, and the caller ends with its reply. [OSEK/VDX OS 2.2.3, section 13.2.3.3; that it is
 -- a request and a reply is this project's own]
 abbrev pub chains_to : Runner → TaskRef → Acts
-chains_to r t = look (λ s. when (is_own s t.core) (chains_here r t) (asks r Service.ChainTask t.core (Remote.ActivateTask t)))
+chains_to r t = look (λ s. when (is_this_core s t.core) (chains_here r t) (asks r Service.ChainTask t.core (Remote.ActivateTask t)))
 
 -- A caller that may hold nothing, where the task's core was started.
 abbrev pub chains_across : Runner → TaskRef → Acts

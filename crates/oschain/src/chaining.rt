@@ -9,21 +9,21 @@ ghost use Rattle.osplan.specs.Objects.{may_name};
 ghost use Rattle.osjobs.specs.Priorities.{is_own_runner};
 ghost use Rattle.osstate.specs.Does.{Effects, Reads, service_entries, service_marks};
 ghost use Rattle.osstate.specs.Queries.{is_at_limit_in};
-ghost use Rattle.osact.specs.Terms.{MayAct, MayOperate, MayServe, Offered};
-ghost use Rattle.osact.specs.Acts.{does};
-ghost use Rattle.osact.specs.Seen.{seen_of};
+ghost use Rattle.osservice.specs.Terms.{MayAct, MayOperate, MayServe, Offered};
+ghost use Rattle.osservice.specs.Acts.{does};
+ghost use Rattle.osservice.specs.Seen.{seen_of};
 ghost use Rattle.oschain.specs.Chaining.{chain_acts, chains, chains_across, chains_here, chains_if, chains_to, ends_caller, exceeds_limit, resumes};
 
-use osact::{Answer, Step, ask, finish, is_ok, refuse};
 use osbase::{Mark, RemoteCall, Runner, ServiceId, Status, TaskRef};
 use oscript::Op;
+use osservice::{ServiceResult, Step, ask, finish, is_ok, refuse};
+use osservice_tasks::{end, end_task, status_of_holding};
 use osstate::CoreState;
-use ostaskcall::{end, end_task, status_of_holding};
 
 // A running job of one of the core's tasks ends itself, and a job of the task begins (OSEK/VDX OS 2.2.3, section
 // 13.2.3.3). The invalid identifier answers E_OS_ID, a task of a core that was never started E_OS_CORE, a caller
 // that holds a resource E_OS_RESOURCE, one that holds a spinlock E_OS_SPINLOCK, and a task with as many jobs as it may
-// have, if it is not the caller's own, E_OS_LIMIT; then nothing is activated, and the caller goes on. Another core is
+// have, if it is not the caller's own, E_OS_LIMIT; then nothing is activated, and the caller runs on. Another core is
 // asked to activate its task, and the caller ends once it answers.
 fn chain<const P: usize, const J: usize, const OUT: usize>(
     state: &mut CoreState<'_, P, J, OUT>,
@@ -118,7 +118,7 @@ fn chain_to<const P: usize, const J: usize, const OUT: usize>(
     requires serves { MayServe 1 OUT state.old (Runner.Task caller) marks.old }
     ensures { Effects service_entries service_marks (does (chains_to (Runner.Task caller) task)) state.old state.new marks.old marks.new }
 {
-    if state.is_own(task.core) {
+    if state.is_this_core(task.core) {
         return chain_here(state, caller, task, marks);
     }
     let runner = Runner::Task(caller);
@@ -172,7 +172,7 @@ pub fn resume<const P: usize, const J: usize, const OUT: usize>(
     state: &mut CoreState<'_, P, J, OUT>,
     runner: Runner,
     service: ServiceId,
-    answer: Answer,
+    answer: ServiceResult,
     marks: &mut Vec<Mark>,
 )
     requires { MayAct 3 2 state.old runner marks.old }

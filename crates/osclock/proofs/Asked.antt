@@ -17,7 +17,7 @@ use Rattle.oscount.specs.declared.counters.Counter.{Counter}
 use Rattle.oscount.specs.Clocks.{counts_until, is_due_next}
 use Rattle.oscount.proofs.Expiries.{in-use, left-is, next-due}
 use Rattle.osclock.specs.Clocks.{AreClocks, ClockState, alarm_in, alarm_refs, are_settings_granted, clocks_by, clocks_of, counter_for, counter_in, counts_to_by, counts_to_in, counts_to_value_by, counts_to_value_in, due_by, due_in, is_attached, is_due_by, is_due_in, is_in_use_by, is_used, left_by, left_in, max_of, no_counter, unset, value_by}
-use Rattle.osattach.proofs.Members.{kept-same}
+use Rattle.osattached.proofs.Members.{kept-same}
 use Rattle.osclock.proofs.Attached.{attached-counter, attached-own}
 use Rattle.osclock.proofs.Bounds.{list-at}
 use Rattle.osclock.proofs.Places.{alarm-some}

@@ -9,10 +9,10 @@ use Rattle.osplan.specs.declared.plans.Alarm.{Alarm as AlarmValue}
 use Rattle.osplan.specs.declared.plans.Core.{Core}
 use Rattle.osplan.specs.Objects.{is_own_object}
 use Rattle.osplan.proofs.Tests.{all-filter}
-use Rattle.osattach.proofs.Members.{kept-all, kept-passes, stands}
-use Rattle.osattach.proofs.Own.{goes-own}
+use Rattle.osattached.proofs.Members.{kept-all, kept-passes, stands}
+use Rattle.osattached.proofs.Own.{goes-own}
 use Rattle.osclock.proofs.Places.{placed}
-use Rattle.osattach.proofs.Ranges.{length-table}
+use Rattle.osattached.proofs.Ranges.{length-table}
 use Rattle.osclock.specs.Clocks.{ClockState, alarm_family, alarm_ref, alarm_refs, attached_to, counter_for, counter_in, is_attached, max_for, max_of, no_counter}
 
 pub attached-own : (core : Core) (c : CounterRef) (a : AlarmRef) → is_attached core c a ≡ true → is_own_object core (alarm_object a) ≡ true

@@ -11,7 +11,7 @@ use Rattle.osplan.specs.declared.plans.Core.{Core}
 use Rattle.osplan.specs.declared.plans.Counter.{Counter as CounterValue}
 use Rattle.osplan.specs.View.{own_alarm}
 use Rattle.osplan.specs.Counters.{each_by}
-use Rattle.osattach.proofs.Ranges.{listed, repeated}
+use Rattle.osattached.proofs.Ranges.{listed, repeated}
 use Rattle.oscount.specs.declared.alarms.Alarm.{Alarm}
 use Rattle.oscount.specs.declared.counters.Counter.{Counter}
 use Rattle.oscount.specs.Clocks.{counter_at}

@@ -4,11 +4,11 @@ use Rattle.std.specs.List.{slice_set}
 use Rattle.std.proofs.lemmas.Bool.{cond-true}
 use Rattle.osbase.specs.declared.references.AlarmRef.{AlarmRef}
 use Rattle.osbase.specs.declared.references.CounterRef.{CounterRef}
-use Rattle.osbase.specs.History.{Noted, Counted}
+use Rattle.osbase.specs.History.{Noted, CounterIncremented}
 use Rattle.osbase.specs.Objects.{counter_object}
 use Rattle.osplan.specs.declared.plans.Core.{Core}
 use Rattle.osplan.specs.Objects.{is_own_object}
-use Rattle.osattach.proofs.Changed.{each-all}
+use Rattle.osattached.proofs.Changed.{each-all}
 use Rattle.oscount.specs.declared.alarms.Alarm.{Alarm}
 use Rattle.oscount.specs.declared.counters.Counter.{Counter}
 use Rattle.oscount.specs.Clocks.{advanced, alarm_beyond}
@@ -19,7 +19,7 @@ use Rattle.osclock.proofs.Law.{both}
 -- what a count leaves, of a core's clocks
 pub counted-is : (core : Core) (c : CounterRef) (t s : ClockState) (counter : Counter) (list : List AlarmRef) (counters : List Counter) (alarms : List Alarm) → t ≡ s → AreClocks core s → is_own_object core (counter_object c) ≡ true
     → counter ≡ counter_in c s → list ≡ get_or t.attached c.index [] → counters ≡ slice_set t.counters c.index (advanced counter) → alarms ≡ all_beyond counter list t.alarms
-    → (let u : ClockState = record { counters = counters; alarms = alarms; attached = t.attached } in u) ≡ clocks_by core (Noted (Counted c)) s
+    → (let u : ClockState = record { counters = counters; alarms = alarms; attached = t.attached } in u) ≡ clocks_by core (Noted (CounterIncremented c)) s
 counted-is core c t s counter list counters alarms same clocks own value own_list on beyond =
     both
     (on ∙ ap (λ (u : ClockState). slice_set u.counters c.index (advanced counter)) same ∙ ap (λ (k : Counter). slice_set s.counters c.index (advanced k)) value)

@@ -18,10 +18,10 @@ use Rattle.osplan.specs.View.{own_alarm}
 use Rattle.osplan.proofs.Clocked.{clock-parts}
 use Rattle.osbase.proofs.Places.{passes-at}
 use Rattle.osbase.specs.declared.limits.TheConstants.{COUNTERS}
-use Rattle.osattach.proofs.Members.{list-at as own-list}
-use Rattle.osattach.proofs.Own.{own-inside, those-inside}
+use Rattle.osattached.proofs.Members.{list-at as own-list}
+use Rattle.osattached.proofs.Own.{own-inside, those-inside}
 use Rattle.osplan.proofs.Counters.{counter-is, counter-place}
-use Rattle.osattach.proofs.Ranges.{length-table}
+use Rattle.osattached.proofs.Ranges.{length-table}
 use Rattle.oscount.specs.declared.alarms.Alarm.{Alarm}
 use Rattle.oscount.specs.declared.alarms.Expiry.{Expiry}
 use Rattle.oscount.specs.declared.counters.Counter.{Counter}

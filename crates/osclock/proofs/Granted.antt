@@ -3,7 +3,7 @@ use Rattle.std.proofs.Common.{◌≡◌, Bool, true, false, cond, Option, Some, 
 use Rattle.std.specs.Option.{option_map_or}
 use Rattle.std.proofs.lemmas.Bool.{and_parts}
 use Rattle.osbase.specs.declared.references.AlarmRef.{AlarmRef}
-use Rattle.osbase.specs.History.{History, Entry, Noted, Counted, AlarmSet, AlarmCancelled}
+use Rattle.osbase.specs.History.{History, Entry, Noted, CounterIncremented, AlarmSet, AlarmCancelled}
 use Rattle.osbase.specs.Counting.{AlarmSetting, alarm_after, alarm_of, is_granted, is_in_turn, one_count_more, same_alarm, same_counter}
 use Rattle.osbase.proofs.Same.{same_alarm-true}
 use Rattle.osplan.specs.declared.plans.Alarm.{Alarm as AlarmValue}
@@ -29,7 +29,7 @@ module _ (core : Core) (a : AlarmRef) (x : AlarmValue) (own : own_alarm core a �
       by : (c : Bool) → is_granted (max_of core x.counter) (cond c None setting) ≡ true
       by true = refl
       by false = before
-  step (Noted (Counted d)) setting set before = by (same_counter d x.counter) setting before
+  step (Noted (CounterIncremented d)) setting set before = by (same_counter d x.counter) setting before
     where
       by : (c : Bool) (o : Option AlarmSetting) → is_granted (max_of core x.counter) o ≡ true → is_granted (max_of core x.counter) (cond c (option_map one_count_more o) o) ≡ true
       by true None held = held

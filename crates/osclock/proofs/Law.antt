@@ -6,7 +6,7 @@ use Rattle.std.proofs.Math.Nat.{mod-add-mod}
 use Rattle.std.proofs.lemmas.Bool.{cond-false, cond-true, false≢true}
 use Rattle.osbase.specs.declared.references.AlarmRef.{AlarmRef}
 use Rattle.osbase.specs.declared.references.CounterRef.{CounterRef}
-use Rattle.osbase.specs.History.{History, Entry, Noted, Counted, AlarmSet, AlarmCancelled}
+use Rattle.osbase.specs.History.{History, Entry, Noted, CounterIncremented, AlarmSet, AlarmCancelled}
 use Rattle.osbase.specs.Counting.{AlarmSetting, alarm_of, counts_left, counts_of, is_in_turn, one_count_more, same_alarm, same_counter, will_be_due}
 use Rattle.osbase.specs.Objects.{alarm_object, counter_object}
 use Rattle.osbase.proofs.Same.{same_alarm-refl, same_counter-refl, same_counter-true}
@@ -17,10 +17,10 @@ use Rattle.osplan.specs.Clocked.{are_clocks_within}
 use Rattle.osplan.specs.Objects.{is_own_object}
 use Rattle.osplan.specs.View.{own_alarm}
 use Rattle.osplan.proofs.Clocked.{clock-parts}
-use Rattle.osattach.proofs.Members.{stands}
-use Rattle.osattach.proofs.Own.{kept-there, none-changed, one-changed, refers, those-changed}
+use Rattle.osattached.proofs.Members.{stands}
+use Rattle.osattached.proofs.Own.{kept-there, none-changed, one-changed, refers, those-changed}
 use Rattle.osplan.proofs.Counters.{counter-apart, counter-other, counter-own, counter-place}
-use Rattle.osattach.proofs.Ranges.{table-within}
+use Rattle.osattached.proofs.Ranges.{table-within}
 use Rattle.oscount.specs.declared.counters.Counter.{Counter}
 use Rattle.oscount.specs.declared.alarms.Alarm.{Alarm}
 use Rattle.oscount.specs.Clocks.{advanced, alarm_at, alarm_beyond, counter_at, setting_of}
@@ -48,24 +48,24 @@ read core a h x = alarm_at (max_of core x.counter) (counts_of x.counter h) (alar
 -- ---- a count
 
 counters-on : (core : Core) (c : CounterRef) (h : History) → is_own_object core (counter_object c) ≡ true
-    → slice_set (clocks_of core h).counters c.index (advanced (counter_in c (clocks_of core h))) ≡ (clocks_of core (Noted (Counted c) ∷ h)).counters
+    → slice_set (clocks_of core h).counters c.index (advanced (counter_in c (clocks_of core h))) ≡ (clocks_of core (Noted (CounterIncremented c) ∷ h)).counters
 counters-on core c h own =
     ap (λ (k : Counter). slice_set (clocks_of core h).counters c.index (advanced k)) (counter-at core c h own)
     ∙ ap (slice_set (clocks_of core h).counters c.index) here
-    ∙ table-set (λ n. counter_by core (counter_ref core n) h) (λ n. counter_by core (counter_ref core n) (Noted (Counted c) ∷ h)) 0 (length core.counters) c.index c.index (omega arith) (counter-place core c own).inside others
+    ∙ table-set (λ n. counter_by core (counter_ref core n) h) (λ n. counter_by core (counter_ref core n) (Noted (CounterIncremented c) ∷ h)) 0 (length core.counters) c.index c.index (omega arith) (counter-place core c own).inside others
   where
-    here : advanced (counter_by core c h) ≡ counter_by core (counter_ref core c.index) (Noted (Counted c) ∷ h)
+    here : advanced (counter_by core c h) ≡ counter_by core (counter_ref core c.index) (Noted (CounterIncremented c) ∷ h)
     here =
         next (max_of core c) (counts_of c h)
         ∙ ap (counter_at (max_of core c)) (sym (cond-true (same_counter c c) (suc (counts_of c h)) (counts_of c h) (same_counter-refl c)))
-        ∙ ap (λ r. counter_by core r (Noted (Counted c) ∷ h)) (counter-place core c own).ref
+        ∙ ap (λ r. counter_by core r (Noted (CounterIncremented c) ∷ h)) (counter-place core c own).ref
 
-    others : (m : ℕ) → (m ≡ c.index → ⊥) → counter_by core (counter_ref core m) h ≡ counter_by core (counter_ref core m) (Noted (Counted c) ∷ h)
+    others : (m : ℕ) → (m ≡ c.index → ⊥) → counter_by core (counter_ref core m) h ≡ counter_by core (counter_ref core m) (Noted (CounterIncremented c) ∷ h)
     others m apart = ap (counter_at (max_of core (counter_ref core m))) (sym (cond-false (same_counter c (counter_ref core m)) (suc (counts_of (counter_ref core m) h)) (counts_of (counter_ref core m) h) (counter-other core c m apart)))
 
 alarm-on : (core : Core) (c : CounterRef) (a : AlarmRef) (h : History) (o : Option AlarmValue)
     → cond (option_map_or (λ (x : AlarmValue). same_counter c x.counter) o false) (alarm_beyond (counter_by core c h) (option_map_or (read core a h) o unset)) (option_map_or (read core a h) o unset)
-    ≡ option_map_or (read core a (Noted (Counted c) ∷ h)) o unset
+    ≡ option_map_or (read core a (Noted (CounterIncremented c) ∷ h)) o unset
 alarm-on core c a h None = refl
 alarm-on core c a h (Some x) = by (same_counter c x.counter) refl
   where
@@ -77,22 +77,22 @@ alarm-on core c a h (Some x) = by (same_counter c x.counter) refl
         ∙ ap (λ y. let alarm : Alarm = record { expiry = y } in alarm) (beyond (max_of core x.counter) (counts_of x.counter h) (alarm_of x.counter a h))
 
 -- an alarm of another counter
-read-apart : (core : Core) (c : CounterRef) (a : AlarmRef) (x : AlarmValue) (h : History) → same_counter c x.counter ≡ false → read core a h x ≡ read core a (Noted (Counted c) ∷ h) x
+read-apart : (core : Core) (c : CounterRef) (a : AlarmRef) (x : AlarmValue) (h : History) → same_counter c x.counter ≡ false → read core a h x ≡ read core a (Noted (CounterIncremented c) ∷ h) x
 read-apart core c a x h apart =
     ap (λ (t : Bool). alarm_at (max_of core x.counter) (cond t (suc (counts_of x.counter h)) (counts_of x.counter h)) (cond t (option_map one_count_more (alarm_of x.counter a h)) (alarm_of x.counter a h))) (sym apart)
 
-pub alarm-apart : (core : Core) (c d : CounterRef) (a : AlarmRef) (h : History) → same_counter c d ≡ false → is_attached core d a ≡ true → alarm_by core a h ≡ alarm_by core a (Noted (Counted c) ∷ h)
+pub alarm-apart : (core : Core) (c d : CounterRef) (a : AlarmRef) (h : History) → same_counter c d ≡ false → is_attached core d a ≡ true → alarm_by core a h ≡ alarm_by core a (Noted (CounterIncremented c) ∷ h)
 alarm-apart core c d a h apart on =
     let own = stands (alarm_family core) d a on in
     ap (λ (o : Option AlarmValue). option_map_or (read core a h) o unset) own.is
     ∙ read-apart core c a own.value h (ap (same_counter c) (sym own.by) ∙ apart)
-    ∙ ap (λ (o : Option AlarmValue). option_map_or (read core a (Noted (Counted c) ∷ h)) o unset) (sym own.is)
+    ∙ ap (λ (o : Option AlarmValue). option_map_or (read core a (Noted (CounterIncremented c) ∷ h)) o unset) (sym own.is)
 
 alarms-on : (core : Core) (c : CounterRef) (h : History) → is_own_object core (counter_object c) ≡ true
-    → all_passed core c (counter_in c (clocks_of core h)) (clocks_of core h).alarms ≡ (clocks_of core (Noted (Counted c) ∷ h)).alarms
+    → all_passed core c (counter_in c (clocks_of core h)) (clocks_of core h).alarms ≡ (clocks_of core (Noted (CounterIncremented c) ∷ h)).alarms
 alarms-on core c h own =
     ap (λ (k : Counter). all_passed core c k (clocks_of core h).alarms) (counter-at core c h own)
-    ∙ those-changed (placed core) (λ a. alarm_by core a h) (λ a. alarm_by core a (Noted (Counted c) ∷ h)) c (λ (a : AlarmRef). alarm_beyond (counter_by core c h)) unset (λ a. alarm-on core c a h (own_alarm core a))
+    ∙ those-changed (placed core) (λ a. alarm_by core a h) (λ a. alarm_by core a (Noted (CounterIncremented c) ∷ h)) c (λ (a : AlarmRef). alarm_beyond (counter_by core c h)) unset (λ a. alarm-on core c a h (own_alarm core a))
 
 pub both : {s t : ClockState} → s.counters ≡ t.counters → s.alarms ≡ t.alarms → s.attached ≡ t.attached → s ≡ t
 both {s} {t} counters alarms attached =
@@ -100,7 +100,7 @@ both {s} {t} counters alarms attached =
     ∙ ap (λ (x : List Alarm). let u : ClockState = record { counters = t.counters; alarms = x; attached = s.attached } in u) alarms
     ∙ ap (λ (x : List (List AlarmRef)). let u : ClockState = record { counters = t.counters; alarms = t.alarms; attached = x } in u) attached
 
-pub count-on : (core : Core) (c : CounterRef) (h : History) → is_own_object core (counter_object c) ≡ true → counted core c (clocks_of core h) ≡ clocks_of core (Noted (Counted c) ∷ h)
+pub count-on : (core : Core) (c : CounterRef) (h : History) → is_own_object core (counter_object c) ≡ true → counted core c (clocks_of core h) ≡ clocks_of core (Noted (CounterIncremented c) ∷ h)
 count-on core c h own = both (counters-on core c h own) (alarms-on core c h own) refl
 
 -- ---- an alarm that is set or cancelled
@@ -133,24 +133,24 @@ cancelled-other core a b h apart =
 -- ---- each entry
 
 -- a count of what is not the core's own
-count-off : (core : Core) (c : CounterRef) (h : History) → are_clocks_within core ≡ true → is_own_object core (counter_object c) ≡ false → clocks_of core h ≡ clocks_of core (Noted (Counted c) ∷ h)
+count-off : (core : Core) (c : CounterRef) (h : History) → are_clocks_within core ≡ true → is_own_object core (counter_object c) ≡ false → clocks_of core h ≡ clocks_of core (Noted (CounterIncremented c) ∷ h)
 count-off core c h within other =
     both
-    (table-within (λ n. counter_by core (counter_ref core n) h) (λ n. counter_by core (counter_ref core n) (Noted (Counted c) ∷ h)) 0 (length core.counters) (λ n inside. counter-off n (omega (arith, inside))))
-    (table-within (λ n. alarm_by core (alarm_ref core n) h) (λ n. alarm_by core (alarm_ref core n) (Noted (Counted c) ∷ h)) 0 (length core.alarms) (λ n inside. alarm-off (alarm_ref core n) (own_alarm core (alarm_ref core n)) refl))
+    (table-within (λ n. counter_by core (counter_ref core n) h) (λ n. counter_by core (counter_ref core n) (Noted (CounterIncremented c) ∷ h)) 0 (length core.counters) (λ n inside. counter-off n (omega (arith, inside))))
+    (table-within (λ n. alarm_by core (alarm_ref core n) h) (λ n. alarm_by core (alarm_ref core n) (Noted (CounterIncremented c) ∷ h)) 0 (length core.alarms) (λ n inside. alarm-off (alarm_ref core n) (own_alarm core (alarm_ref core n)) refl))
     refl
   where
-    counter-off : (n : ℕ) → n < length core.counters → counter_by core (counter_ref core n) h ≡ counter_by core (counter_ref core n) (Noted (Counted c) ∷ h)
+    counter-off : (n : ℕ) → n < length core.counters → counter_by core (counter_ref core n) h ≡ counter_by core (counter_ref core n) (Noted (CounterIncremented c) ∷ h)
     counter-off n inside = ap (λ (t : Bool). counter_at (max_of core (counter_ref core n)) (cond t (suc (counts_of (counter_ref core n) h)) (counts_of (counter_ref core n) h))) (sym (counter-apart core c (counter_ref core n) other (counter-own core n inside)))
 
-    alarm-off : (a : AlarmRef) (o : Option AlarmValue) → own_alarm core a ≡ o → option_map_or (read core a h) o unset ≡ option_map_or (read core a (Noted (Counted c) ∷ h)) o unset
+    alarm-off : (a : AlarmRef) (o : Option AlarmValue) → own_alarm core a ≡ o → option_map_or (read core a h) o unset ≡ option_map_or (read core a (Noted (CounterIncremented c) ∷ h)) o unset
     alarm-off a None own = refl
     alarm-off a (Some x) own = read-apart core c a x h (counter-apart core c x.counter other (attached core a x within own))
 
-pub count-after : (core : Core) (c : CounterRef) (h : History) → are_clocks_within core ≡ true → clocks_by core (Noted (Counted c)) (clocks_of core h) ≡ clocks_of core (Noted (Counted c) ∷ h)
+pub count-after : (core : Core) (c : CounterRef) (h : History) → are_clocks_within core ≡ true → clocks_by core (Noted (CounterIncremented c)) (clocks_of core h) ≡ clocks_of core (Noted (CounterIncremented c) ∷ h)
 count-after core c h within = by (is_own_object core (counter_object c)) refl
   where
-    by : (b : Bool) → is_own_object core (counter_object c) ≡ b → cond b (counted core c (clocks_of core h)) (clocks_of core h) ≡ clocks_of core (Noted (Counted c) ∷ h)
+    by : (b : Bool) → is_own_object core (counter_object c) ≡ b → cond b (counted core c (clocks_of core h)) (clocks_of core h) ≡ clocks_of core (Noted (CounterIncremented c) ∷ h)
     by true own = count-on core c h own
     by false other = count-off core c h within other
 
@@ -176,7 +176,7 @@ cancel-after core a h = by (is_own_object core (alarm_object a)) refl
 
 -- What is read off a longer history is what its newest entry does to what was read.
 pub after : (core : Core) (e : Entry) (h : History) → are_clocks_within core ≡ true → clocks_by core e (clocks_of core h) ≡ clocks_of core (e ∷ h)
-after core (Noted (Counted c)) h within = count-after core c h within
+after core (Noted (CounterIncremented c)) h within = count-after core c h within
 after core (Noted (AlarmSet a first cycle)) h within = set-after core a first cycle h within
 after core (Noted (AlarmCancelled a)) h within = cancel-after core a h
 after core e h within = refl

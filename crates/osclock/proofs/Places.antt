@@ -7,7 +7,7 @@ use Rattle.osplan.specs.declared.plans.Core.{Core}
 use Rattle.osplan.specs.Objects.{is_own_object}
 use Rattle.osplan.specs.View.{own_alarm}
 pub use Rattle.osplan.proofs.Counters.{counter-own}
-use Rattle.osattach.proofs.Own.{Placed, own-is, own-some, own-there}
+use Rattle.osattached.proofs.Own.{Placed, own-is, own-some, own-there}
 use Rattle.osclock.specs.Clocks.{alarm_family, alarm_ref}
 
 -- They are all of the core's objects of their kind.

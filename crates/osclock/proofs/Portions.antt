@@ -4,7 +4,7 @@ use Rattle.std.proofs.lemmas.List.Sums.{sum_by-cons, sum_by-le-sum_by}
 use Rattle.osbase.specs.declared.references.AlarmRef.{AlarmRef}
 use Rattle.osbase.specs.Sets.{numbers_from}
 use Rattle.osplan.specs.declared.plans.Core.{Core}
-use Rattle.osattach.proofs.Members.{portions}
+use Rattle.osattached.proofs.Members.{portions}
 use Rattle.osclock.specs.Clocks.{alarm_family, alarm_refs, attached_to, counter_ref}
 
 -- how many pass is a sum

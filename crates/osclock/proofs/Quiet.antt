@@ -9,7 +9,7 @@ use Rattle.std.proofs.lemmas.List.{get_or_past, get_or-set_other, get_or-set_sam
 use Rattle.std.proofs.lemmas.List.Elements.{All-head, All-more, All-nil, All-same, All-tail, All-weaker}
 use Rattle.osbase.specs.declared.references.AlarmRef.{AlarmRef}
 use Rattle.osbase.specs.declared.references.CounterRef.{CounterRef}
-use Rattle.osbase.specs.History.{Entry, Noted, Counted}
+use Rattle.osbase.specs.History.{Entry, Noted, CounterIncremented}
 use Rattle.osbase.specs.Objects.{counter_object}
 use Rattle.osplan.specs.declared.plans.Core.{Core}
 use Rattle.osplan.specs.Objects.{is_own_object}
@@ -108,7 +108,7 @@ quiet-set quiet t place counts counter counters alarms was inside known on other
 -- a count of an own counter, which takes the clocks from s, as their fields t have them
 module _ (core : Core) (c : CounterRef) (t s : ClockState) (same : t ≡ s) (clocks : AreClocks core s) (own : is_own_object core (counter_object c) ≡ true) (quiet : List ℕ) (all : length quiet ≡ COUNTERS) (was : AreQuiet quiet t) where
   abbrev counted : Entry
-  counted = Noted (Counted c)
+  counted = Noted (CounterIncremented c)
 
   abbrev before : Counter
   before = counter_in c t

@@ -1,4 +1,4 @@
--- An alarm that is set by itself is set within its counter's values.
+-- An autostarted alarm is set within its counter's values.
 use Rattle.std.proofs.Common.{◌≡◌, ℕ, suc, ◌<◌, ◌≤◌, true, Option, Some, None, is_some, refl, ap, sym, ◌∙◌, arith}
 use Rattle.std.specs.Option.{option_map_or}
 use Rattle.std.proofs.lemmas.Bool.{false≢true}

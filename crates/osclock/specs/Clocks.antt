@@ -4,7 +4,7 @@ use Rattle.std.specs.List.{list_all, slice_set}
 use Rattle.std.specs.Option.{option_map_or}
 use Rattle.osbase.specs.declared.references.AlarmRef.{AlarmRef}
 use Rattle.osbase.specs.declared.references.CounterRef.{CounterRef}
-use Rattle.osbase.specs.History.{History, Entry, Noted, Counted, AlarmSet, AlarmCancelled}
+use Rattle.osbase.specs.History.{History, Entry, Noted, CounterIncremented, AlarmSet, AlarmCancelled}
 use Rattle.osbase.specs.Counting.{AlarmSetting, alarm_of, counts_of, counts_to, is_due, is_in_turn, is_in_use, left_of, one_count_more, value_after}
 use Rattle.osbase.specs.Objects.{alarm_object, counter_object}
 use Rattle.osbase.specs.Sets.{numbers_from}
@@ -15,7 +15,7 @@ use Rattle.osplan.specs.Clocked.{are_clocks_within}
 use Rattle.osplan.specs.Objects.{is_own_object}
 use Rattle.osplan.specs.View.{own_alarm, own_counter}
 pub use Rattle.osplan.specs.Counters.{counter_ref}
-use Rattle.osattach.specs.Attached.{all_changed, each_changed}
+use Rattle.osattached.specs.Attached.{all_changed, each_changed}
 use Rattle.osbase.specs.Families.{Family, goes_by, refs_of, those_by}
 use Rattle.osplan.specs.Counters.{each_by}
 use Rattle.oscount.specs.declared.counters.Counter.{Counter}
@@ -146,7 +146,7 @@ with_alarm a alarm s = record s { alarms = slice_set s.alarms a.index alarm }
 
 -- What is not the core's own changes nothing.
 abbrev pub clocks_by : Core → Entry → ClockState → ClockState
-clocks_by core (Noted (Counted c)) s = if is_own_object core (counter_object c) then counted core c s else s
+clocks_by core (Noted (CounterIncremented c)) s = if is_own_object core (counter_object c) then counted core c s else s
 clocks_by core (Noted (AlarmSet a first cycle)) s = if is_own_object core (alarm_object a) then with_alarm a (due_after (counter_for core a s) first cycle) s else s
 clocks_by core (Noted (AlarmCancelled a)) s = if is_own_object core (alarm_object a) then with_alarm a unset s else s
 clocks_by core e s = s

@@ -3,7 +3,7 @@
 ghost use Rattle.std.specs.Prelude.{◌≡◌, ◌<◌, ◌≤◌, ◌^◌, suc, [], All, IsTrue, filter, length, map, replicate, slice_index_or};
 ghost use Rattle.std.specs.List.{slice_set};
 ghost use Rattle.osbase.specs.declared.references.AlarmRef.{AlarmRef};
-ghost use Rattle.osbase.specs.History.{Noted, Counted, AlarmSet, AlarmCancelled};
+ghost use Rattle.osbase.specs.History.{Noted, CounterIncremented, AlarmSet, AlarmCancelled};
 ghost use Rattle.osbase.specs.Objects.{alarm_object, counter_object};
 ghost use Rattle.osplan.specs.declared.plans.Counter.{Counter as CounterValue};
 ghost use Rattle.osplan.specs.Clocked.{are_clocks_within};
@@ -13,7 +13,7 @@ ghost use Rattle.osplan.specs.Counters.{IsObject, each_by};
 ghost use Rattle.osclock.specs.Clocks.{AreClocks, IsBounded, IsQuiet, alarm_family, alarm_in, alarm_refs, all_beyond, clocks_by, clocks_of, counter_for, counter_in, counts_to_in, counts_to_value_in, due_after, due_in, is_used, left_in, max_for, max_of, unset};
 
 use arrayvec::ArrayVec;
-use osattach::Attached;
+use osattached::Attached;
 use osbase::{ALARMS, AlarmRef, COUNTERS, CounterRef};
 use oscount::{Alarm, Counter};
 use osplan::{Core, own};
@@ -56,12 +56,12 @@ impl Clocks {
         }
     }
 
-    /// A counter of the core goes on by one, and each alarm of it that is due then is due again a cycle later, or is not
-    /// in use any longer (OSEK/VDX OS 2.2.3, section 9.1 and 9.2).
+    /// A counter of the core is incremented. Each of its alarms that expires by that expires again a cycle later, or is
+    /// no longer in use (OSEK/VDX OS 2.2.3, section 9.1 and 9.2).
     pub fn count(&mut self, core: &Core, counter: CounterRef)
         requires clocks { AreClocks core.now self.old }
         requires own { IsTrue (is_own_object core.now (counter_object counter)) }
-        ensures { self.new ≡ clocks_by core.now (Noted (Counted counter)) self.old }
+        ensures { self.new ≡ clocks_by core.now (Noted (CounterIncremented counter)) self.old }
     {
         let before = self.counter(counter);
         let mut after = before;

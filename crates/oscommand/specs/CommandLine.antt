@@ -170,7 +170,7 @@ subcommand_name (Group config core) = codes "group"
 subcommand_name (Replay config core log) = codes "replay"
 subcommand_name (Threads config stimuli turns mail print) = codes "threads"
 
--- The words, of which the first is the program's name, name the job's subcommand with the job's entries.
+-- The words, the program's name first, name the job's subcommand with the job's entries.
 pub record AsksFor (words : List (List ℕ)) (job : Job) : Type 0 where
   pub kinds : MailKinds
   pub kinds_are : AreMailKinds kinds

@@ -97,7 +97,7 @@ Exit status: 0 ended, 1 a fault (`fault N Name`), 2 wrong usage, 3 stalled.
 
 Example: mcos threads config.json stimuli.json";
 
-/// What the program is asked to do, with the paths of its files.
+/// The program's job, with the paths of its files.
 #[derive(Clone, Copy, Debug, PartialEq, Eq)]
 pub enum Job<'a> {
     /// Plays the listed turns, or else the default schedule, and prints each core's trace, or one core's log.
@@ -120,18 +120,18 @@ pub enum Job<'a> {
     Groups {
         config: &'a str,
     },
-    /// Prints the configuration of a core's least group by itself.
+    /// Prints the configuration of a core's least group alone.
     Group {
         config: &'a str,
         core: CoreId,
     },
-    /// Plays a core by itself with the items of its log, and prints its trace.
+    /// Plays a core alone with the items of its log, and prints its trace.
     Replay {
         config: &'a str,
         core: CoreId,
         log: &'a str,
     },
-    /// Runs each core on a thread of its own, and prints what is asked for. A core whose turns change nothing so many
+    /// Runs each core on a thread of its own, and prints what the job names. A core whose turns change nothing so many
     /// times in a row gives up.
     Threads {
         config: &'a str,

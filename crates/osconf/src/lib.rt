@@ -7,11 +7,11 @@
 mod tests;
 
 pub use osbase::{Schedule, Stimuli};
-pub use osdraft::read_config;
-pub use osgiven::{read_schedule, read_stimuli};
+pub use osinput::{read_schedule, read_stimuli};
+pub use osload::read_config;
 pub use osplan::{
     Alarm, AlarmStart, ConfFault, Config, Core, Counter, ExpiryPoint, Isr, Plan, Protection,
     Resource, Spinlock, Table, TableStart, Task, order_ok,
 };
-pub use osseparate::{Standing, cut, is_separate, standing_of};
+pub use osseparate::{Coupling, coupling_of, cut, is_separate};
 pub use oswrite::config_text;

@@ -89,8 +89,8 @@ impl Alarm {
         }
     }
 
-    /// Its counter is about to go on by one: where it is due then, it is due again a cycle later, or, without one,
-    /// not in use any longer (OSEK/VDX OS 2.2.3, section 9.2).
+    /// Its counter is about to be incremented. If the alarm expires by that, it expires again a cycle later; without a
+    /// cycle it is no longer in use (OSEK/VDX OS 2.2.3, section 9.2).
     pub fn advance(&mut self, counter: Counter)
         requires max { counter.max < 2 ^ 31 }
         requires value { counter.value ≤ counter.max }

@@ -10,11 +10,11 @@ use Rattle.oscript.specs.declared.Frame.{Frame}
 use Rattle.oscript.specs.declared.Action.{Action}
 use Rattle.oscript.specs.declared.Action.TheVariants.{Perform, End}
 use Rattle.oscript.specs.Rows.{service_of}
-use Rattle.oscript.specs.Rows.{form_of_op}
+use Rattle.oscript.specs.Rows.{parsed_op_of}
 
 -- The service that an operation calls. An operation that calls one answers a status; another does not. [own]
 abbrev pub service_of_op : Op → Option ServiceId
-service_of_op op = service_of (form_of_op op).0
+service_of_op op = service_of (parsed_op_of op).0
 
 abbrev pub op_has_status : Op → Bool
 op_has_status op = is_some (service_of_op op)
@@ -33,7 +33,7 @@ result_of (Op.GetNumberOfActivatedCores x) = Some x
 result_of (Op.TryToGetSpinlock target x) = Some x
 result_of op = None
 
--- The place in the script at which an operation lets its job go on, other than at the next. [own]
+-- The place in the script to which an operation may send its job, if it may jump. [own]
 abbrev pub position_of : Op → Option ℕ
 position_of (Op.Jump n) = Some n
 position_of (Op.JumpIfZero x n) = Some n
@@ -59,7 +59,7 @@ abbrev pub is_zero : ℤ → Bool
 is_zero (pos n) = n == 0
 is_zero (negsuc n) = false
 
--- Where a job goes on: at the next operation, or at the one that a jump names. [own]
+-- The place of the job's next operation: the next in the script, or the one that a jump names. [own]
 abbrev pub place_after : Op → Frame → ℕ
 place_after (Op.Jump n) frame = n
 place_after (Op.JumpIfZero x n) frame = if is_zero (value_of x frame) then n else frame.pc + 1
@@ -74,8 +74,8 @@ stored (Some x) (Some n) frame = with_value x n frame
 stored (Some x) None frame = frame
 stored None value frame = frame
 
--- After an operation the job stands where it goes on, a service's status is its last status, and a value is its
--- variable's. [own]
+-- After an operation the job is at its next one, a service's status is its last status, and a value is stored in its
+-- variable. [own]
 abbrev pub completed_by : Action → Frame → Status → Option ℤ → Frame
 completed_by End frame status value = frame
 completed_by (Perform op) frame status value =

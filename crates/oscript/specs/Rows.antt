@@ -25,7 +25,7 @@ use Rattle.oscript.specs.declared.rows.Arg.TheVariants.{Core, Object, Mask, Numb
 use Rattle.oscript.specs.declared.rows.Arg.{Arg}
 use Rattle.oscript.specs.declared.rows.Args.TheVariants.{Zero, One, Two, Three}
 use Rattle.oscript.specs.declared.rows.Args.{Args}
-use Rattle.oscript.specs.declared.rows.Form.{Form}
+use Rattle.oscript.specs.declared.rows.ParsedOp.{ParsedOp}
 use Rattle.oscript.specs.declared.rows.Kind.{Kind}
 use Rattle.oscript.specs.declared.rows.Row.{Row}
 use Rattle.oscript.specs.declared.rows.TheConstants.{ALARM, COUNTER, POSITION, RESOURCE, SPINLOCK, STATUS, TABLE, TASK, TICKS}
@@ -100,7 +100,7 @@ service_of verb = (row_of verb).2
 
 -- ---- operations as forms
 
-abbrev pub form_view : Form Place → Verb × List (Arg Place)
+abbrev pub form_view : ParsedOp Place → Verb × List (Arg Place)
 form_view form = (form.verb, items form.args)
 
 -- ---- arguments by their places. One that is not of its kind is taken as the invalid identifier, as 0 or as v0.
@@ -177,48 +177,48 @@ variable_at args i = variable_in (slice_get args i)
 
 -- ---- operations and their forms
 
-abbrev pub op_by : Verb → List (Arg Place) → Op
-op_by Verb.Work args = Op.Work
-op_by Verb.Set args = Op.Set (variable_at args 0) (int_at args 1)
-op_by Verb.Add args = Op.Add (variable_at args 0) (int_at args 1)
-op_by Verb.AddVariable args = Op.AddVariable (variable_at args 0) (variable_at args 1)
-op_by Verb.StoreStatus args = Op.StoreStatus (variable_at args 0)
-op_by Verb.Jump args = Op.Jump (number_at args 0)
-op_by Verb.JumpIfZero args = Op.JumpIfZero (variable_at args 0) (number_at args 1)
-op_by Verb.ActivateTask args = Op.ActivateTask (task_at args 0)
-op_by Verb.TerminateTask args = Op.TerminateTask
-op_by Verb.ChainTask args = Op.ChainTask (task_at args 0)
-op_by Verb.Schedule args = Op.Schedule
-op_by Verb.GetResource args = Op.GetResource (resource_at args 0)
-op_by Verb.ReleaseResource args = Op.ReleaseResource (resource_at args 0)
-op_by Verb.SetEvent args = Op.SetEvent (task_at args 0) (mask_at args 1)
-op_by Verb.ClearEvent args = Op.ClearEvent (mask_at args 0)
-op_by Verb.GetEvent args = Op.GetEvent (task_at args 0) (variable_at args 1)
-op_by Verb.WaitEvent args = Op.WaitEvent (mask_at args 0)
-op_by Verb.IncrementCounter args = Op.IncrementCounter (counter_at args 0)
-op_by Verb.GetCounterValue args = Op.GetCounterValue (counter_at args 0) (variable_at args 1)
-op_by Verb.SetRelAlarm args = Op.SetRelAlarm (alarm_at args 0) (number_at args 1) (number_at args 2)
-op_by Verb.SetAbsAlarm args = Op.SetAbsAlarm (alarm_at args 0) (number_at args 1) (number_at args 2)
-op_by Verb.CancelAlarm args = Op.CancelAlarm (alarm_at args 0)
-op_by Verb.GetAlarm args = Op.GetAlarm (alarm_at args 0) (variable_at args 1)
-op_by Verb.StartScheduleTableRel args = Op.StartScheduleTableRel (table_at args 0) (number_at args 1)
-op_by Verb.StartScheduleTableAbs args = Op.StartScheduleTableAbs (table_at args 0) (number_at args 1)
-op_by Verb.NextScheduleTable args = Op.NextScheduleTable (table_at args 0) (table_at args 1)
-op_by Verb.StopScheduleTable args = Op.StopScheduleTable (table_at args 0)
-op_by Verb.GetScheduleTableStatus args = Op.GetScheduleTableStatus (table_at args 0) (variable_at args 1)
-op_by Verb.SuspendAllInterrupts args = Op.SuspendAllInterrupts
-op_by Verb.ResumeAllInterrupts args = Op.ResumeAllInterrupts
-op_by Verb.StartCore args = Op.StartCore (core_at args 0)
-op_by Verb.GetNumberOfActivatedCores args = Op.GetNumberOfActivatedCores (variable_at args 0)
-op_by Verb.ShutdownOs args = Op.ShutdownOs (status_at args 0)
-op_by Verb.ShutdownAllCores args = Op.ShutdownAllCores (status_at args 0)
-op_by Verb.GetSpinlock args = Op.GetSpinlock (spinlock_at args 0)
-op_by Verb.TryToGetSpinlock args = Op.TryToGetSpinlock (spinlock_at args 0) (variable_at args 1)
-op_by Verb.ReleaseSpinlock args = Op.ReleaseSpinlock (spinlock_at args 0)
+abbrev pub op_of_parsed : Verb → List (Arg Place) → Op
+op_of_parsed Verb.Work args = Op.Work
+op_of_parsed Verb.Set args = Op.Set (variable_at args 0) (int_at args 1)
+op_of_parsed Verb.Add args = Op.Add (variable_at args 0) (int_at args 1)
+op_of_parsed Verb.AddVariable args = Op.AddVariable (variable_at args 0) (variable_at args 1)
+op_of_parsed Verb.StoreStatus args = Op.StoreStatus (variable_at args 0)
+op_of_parsed Verb.Jump args = Op.Jump (number_at args 0)
+op_of_parsed Verb.JumpIfZero args = Op.JumpIfZero (variable_at args 0) (number_at args 1)
+op_of_parsed Verb.ActivateTask args = Op.ActivateTask (task_at args 0)
+op_of_parsed Verb.TerminateTask args = Op.TerminateTask
+op_of_parsed Verb.ChainTask args = Op.ChainTask (task_at args 0)
+op_of_parsed Verb.Schedule args = Op.Schedule
+op_of_parsed Verb.GetResource args = Op.GetResource (resource_at args 0)
+op_of_parsed Verb.ReleaseResource args = Op.ReleaseResource (resource_at args 0)
+op_of_parsed Verb.SetEvent args = Op.SetEvent (task_at args 0) (mask_at args 1)
+op_of_parsed Verb.ClearEvent args = Op.ClearEvent (mask_at args 0)
+op_of_parsed Verb.GetEvent args = Op.GetEvent (task_at args 0) (variable_at args 1)
+op_of_parsed Verb.WaitEvent args = Op.WaitEvent (mask_at args 0)
+op_of_parsed Verb.IncrementCounter args = Op.IncrementCounter (counter_at args 0)
+op_of_parsed Verb.GetCounterValue args = Op.GetCounterValue (counter_at args 0) (variable_at args 1)
+op_of_parsed Verb.SetRelAlarm args = Op.SetRelAlarm (alarm_at args 0) (number_at args 1) (number_at args 2)
+op_of_parsed Verb.SetAbsAlarm args = Op.SetAbsAlarm (alarm_at args 0) (number_at args 1) (number_at args 2)
+op_of_parsed Verb.CancelAlarm args = Op.CancelAlarm (alarm_at args 0)
+op_of_parsed Verb.GetAlarm args = Op.GetAlarm (alarm_at args 0) (variable_at args 1)
+op_of_parsed Verb.StartScheduleTableRel args = Op.StartScheduleTableRel (table_at args 0) (number_at args 1)
+op_of_parsed Verb.StartScheduleTableAbs args = Op.StartScheduleTableAbs (table_at args 0) (number_at args 1)
+op_of_parsed Verb.NextScheduleTable args = Op.NextScheduleTable (table_at args 0) (table_at args 1)
+op_of_parsed Verb.StopScheduleTable args = Op.StopScheduleTable (table_at args 0)
+op_of_parsed Verb.GetScheduleTableStatus args = Op.GetScheduleTableStatus (table_at args 0) (variable_at args 1)
+op_of_parsed Verb.SuspendAllInterrupts args = Op.SuspendAllInterrupts
+op_of_parsed Verb.ResumeAllInterrupts args = Op.ResumeAllInterrupts
+op_of_parsed Verb.StartCore args = Op.StartCore (core_at args 0)
+op_of_parsed Verb.GetNumberOfActivatedCores args = Op.GetNumberOfActivatedCores (variable_at args 0)
+op_of_parsed Verb.ShutdownOs args = Op.ShutdownOs (status_at args 0)
+op_of_parsed Verb.ShutdownAllCores args = Op.ShutdownAllCores (status_at args 0)
+op_of_parsed Verb.GetSpinlock args = Op.GetSpinlock (spinlock_at args 0)
+op_of_parsed Verb.TryToGetSpinlock args = Op.TryToGetSpinlock (spinlock_at args 0) (variable_at args 1)
+op_of_parsed Verb.ReleaseSpinlock args = Op.ReleaseSpinlock (spinlock_at args 0)
 
 -- The operation of a form. [own]
 abbrev pub op_of : Verb × List (Arg Place) → Op
-op_of form = op_by form.0 form.1
+op_of form = op_of_parsed form.0 form.1
 
 -- The argument that refers to an object of a kind; without one it is the invalid identifier.
 abbrev pub ref_argument : {R : Type 0} → ObjectKind → (R → Place) → Option R → Arg Place
@@ -247,44 +247,44 @@ abbrev pub status_argument : Status → Arg Place
 status_argument status = Number (status_number status)
 
 -- The form of an operation. [own]
-abbrev pub form_of_op : Op → Verb × List (Arg Place)
-form_of_op Op.Work = (Verb.Work, [])
-form_of_op (Op.Set x n) = (Verb.Set, Variable x.index ∷ Int n ∷ [])
-form_of_op (Op.Add x n) = (Verb.Add, Variable x.index ∷ Int n ∷ [])
-form_of_op (Op.AddVariable x y) = (Verb.AddVariable, Variable x.index ∷ Variable y.index ∷ [])
-form_of_op (Op.StoreStatus x) = (Verb.StoreStatus, Variable x.index ∷ [])
-form_of_op (Op.Jump n) = (Verb.Jump, Number n ∷ [])
-form_of_op (Op.JumpIfZero x n) = (Verb.JumpIfZero, Variable x.index ∷ Number n ∷ [])
-form_of_op (Op.ActivateTask target) = (Verb.ActivateTask, task_argument target ∷ [])
-form_of_op Op.TerminateTask = (Verb.TerminateTask, [])
-form_of_op (Op.ChainTask target) = (Verb.ChainTask, task_argument target ∷ [])
-form_of_op Op.Schedule = (Verb.Schedule, [])
-form_of_op (Op.GetResource target) = (Verb.GetResource, resource_argument target ∷ [])
-form_of_op (Op.ReleaseResource target) = (Verb.ReleaseResource, resource_argument target ∷ [])
-form_of_op (Op.SetEvent target mask) = (Verb.SetEvent, task_argument target ∷ Mask mask ∷ [])
-form_of_op (Op.ClearEvent mask) = (Verb.ClearEvent, Mask mask ∷ [])
-form_of_op (Op.GetEvent target x) = (Verb.GetEvent, task_argument target ∷ Variable x.index ∷ [])
-form_of_op (Op.WaitEvent mask) = (Verb.WaitEvent, Mask mask ∷ [])
-form_of_op (Op.IncrementCounter target) = (Verb.IncrementCounter, counter_argument target ∷ [])
-form_of_op (Op.GetCounterValue target x) = (Verb.GetCounterValue, counter_argument target ∷ Variable x.index ∷ [])
-form_of_op (Op.SetRelAlarm target increment cycle) = (Verb.SetRelAlarm, alarm_argument target ∷ Number increment ∷ Number cycle ∷ [])
-form_of_op (Op.SetAbsAlarm target start cycle) = (Verb.SetAbsAlarm, alarm_argument target ∷ Number start ∷ Number cycle ∷ [])
-form_of_op (Op.CancelAlarm target) = (Verb.CancelAlarm, alarm_argument target ∷ [])
-form_of_op (Op.GetAlarm target x) = (Verb.GetAlarm, alarm_argument target ∷ Variable x.index ∷ [])
-form_of_op (Op.StartScheduleTableRel target offset) = (Verb.StartScheduleTableRel, table_argument target ∷ Number offset ∷ [])
-form_of_op (Op.StartScheduleTableAbs target start) = (Verb.StartScheduleTableAbs, table_argument target ∷ Number start ∷ [])
-form_of_op (Op.NextScheduleTable from to) = (Verb.NextScheduleTable, table_argument from ∷ table_argument to ∷ [])
-form_of_op (Op.StopScheduleTable target) = (Verb.StopScheduleTable, table_argument target ∷ [])
-form_of_op (Op.GetScheduleTableStatus target x) = (Verb.GetScheduleTableStatus, table_argument target ∷ Variable x.index ∷ [])
-form_of_op Op.SuspendAllInterrupts = (Verb.SuspendAllInterrupts, [])
-form_of_op Op.ResumeAllInterrupts = (Verb.ResumeAllInterrupts, [])
-form_of_op (Op.StartCore target) = (Verb.StartCore, Core target ∷ [])
-form_of_op (Op.GetNumberOfActivatedCores x) = (Verb.GetNumberOfActivatedCores, Variable x.index ∷ [])
-form_of_op (Op.ShutdownOs status) = (Verb.ShutdownOs, status_argument status ∷ [])
-form_of_op (Op.ShutdownAllCores status) = (Verb.ShutdownAllCores, status_argument status ∷ [])
-form_of_op (Op.GetSpinlock target) = (Verb.GetSpinlock, spinlock_argument target ∷ [])
-form_of_op (Op.TryToGetSpinlock target x) = (Verb.TryToGetSpinlock, spinlock_argument target ∷ Variable x.index ∷ [])
-form_of_op (Op.ReleaseSpinlock target) = (Verb.ReleaseSpinlock, spinlock_argument target ∷ [])
+abbrev pub parsed_op_of : Op → Verb × List (Arg Place)
+parsed_op_of Op.Work = (Verb.Work, [])
+parsed_op_of (Op.Set x n) = (Verb.Set, Variable x.index ∷ Int n ∷ [])
+parsed_op_of (Op.Add x n) = (Verb.Add, Variable x.index ∷ Int n ∷ [])
+parsed_op_of (Op.AddVariable x y) = (Verb.AddVariable, Variable x.index ∷ Variable y.index ∷ [])
+parsed_op_of (Op.StoreStatus x) = (Verb.StoreStatus, Variable x.index ∷ [])
+parsed_op_of (Op.Jump n) = (Verb.Jump, Number n ∷ [])
+parsed_op_of (Op.JumpIfZero x n) = (Verb.JumpIfZero, Variable x.index ∷ Number n ∷ [])
+parsed_op_of (Op.ActivateTask target) = (Verb.ActivateTask, task_argument target ∷ [])
+parsed_op_of Op.TerminateTask = (Verb.TerminateTask, [])
+parsed_op_of (Op.ChainTask target) = (Verb.ChainTask, task_argument target ∷ [])
+parsed_op_of Op.Schedule = (Verb.Schedule, [])
+parsed_op_of (Op.GetResource target) = (Verb.GetResource, resource_argument target ∷ [])
+parsed_op_of (Op.ReleaseResource target) = (Verb.ReleaseResource, resource_argument target ∷ [])
+parsed_op_of (Op.SetEvent target mask) = (Verb.SetEvent, task_argument target ∷ Mask mask ∷ [])
+parsed_op_of (Op.ClearEvent mask) = (Verb.ClearEvent, Mask mask ∷ [])
+parsed_op_of (Op.GetEvent target x) = (Verb.GetEvent, task_argument target ∷ Variable x.index ∷ [])
+parsed_op_of (Op.WaitEvent mask) = (Verb.WaitEvent, Mask mask ∷ [])
+parsed_op_of (Op.IncrementCounter target) = (Verb.IncrementCounter, counter_argument target ∷ [])
+parsed_op_of (Op.GetCounterValue target x) = (Verb.GetCounterValue, counter_argument target ∷ Variable x.index ∷ [])
+parsed_op_of (Op.SetRelAlarm target increment cycle) = (Verb.SetRelAlarm, alarm_argument target ∷ Number increment ∷ Number cycle ∷ [])
+parsed_op_of (Op.SetAbsAlarm target start cycle) = (Verb.SetAbsAlarm, alarm_argument target ∷ Number start ∷ Number cycle ∷ [])
+parsed_op_of (Op.CancelAlarm target) = (Verb.CancelAlarm, alarm_argument target ∷ [])
+parsed_op_of (Op.GetAlarm target x) = (Verb.GetAlarm, alarm_argument target ∷ Variable x.index ∷ [])
+parsed_op_of (Op.StartScheduleTableRel target offset) = (Verb.StartScheduleTableRel, table_argument target ∷ Number offset ∷ [])
+parsed_op_of (Op.StartScheduleTableAbs target start) = (Verb.StartScheduleTableAbs, table_argument target ∷ Number start ∷ [])
+parsed_op_of (Op.NextScheduleTable from to) = (Verb.NextScheduleTable, table_argument from ∷ table_argument to ∷ [])
+parsed_op_of (Op.StopScheduleTable target) = (Verb.StopScheduleTable, table_argument target ∷ [])
+parsed_op_of (Op.GetScheduleTableStatus target x) = (Verb.GetScheduleTableStatus, table_argument target ∷ Variable x.index ∷ [])
+parsed_op_of Op.SuspendAllInterrupts = (Verb.SuspendAllInterrupts, [])
+parsed_op_of Op.ResumeAllInterrupts = (Verb.ResumeAllInterrupts, [])
+parsed_op_of (Op.StartCore target) = (Verb.StartCore, Core target ∷ [])
+parsed_op_of (Op.GetNumberOfActivatedCores x) = (Verb.GetNumberOfActivatedCores, Variable x.index ∷ [])
+parsed_op_of (Op.ShutdownOs status) = (Verb.ShutdownOs, status_argument status ∷ [])
+parsed_op_of (Op.ShutdownAllCores status) = (Verb.ShutdownAllCores, status_argument status ∷ [])
+parsed_op_of (Op.GetSpinlock target) = (Verb.GetSpinlock, spinlock_argument target ∷ [])
+parsed_op_of (Op.TryToGetSpinlock target x) = (Verb.TryToGetSpinlock, spinlock_argument target ∷ Variable x.index ∷ [])
+parsed_op_of (Op.ReleaseSpinlock target) = (Verb.ReleaseSpinlock, spinlock_argument target ∷ [])
 
 -- ---- arguments of their kinds
 
@@ -310,7 +310,7 @@ are_of kinds args = false
 
 -- The operation's arguments are of the kinds of its row. [own]
 abbrev pub is_in_form : Op → Bool
-is_in_form op = are_of (kinds_of (form_of_op op).0) (form_of_op op).1
+is_in_form op = are_of (kinds_of (parsed_op_of op).0) (parsed_op_of op).1
 
 -- ---- the objects of an operation
 
@@ -329,16 +329,16 @@ objects_in args = filter_map object_in args
 
 -- The objects that an operation names, in the order of its arguments. [own]
 abbrev pub objects_of : Op → List Named
-objects_of op = objects_in (form_of_op op).1
+objects_of op = objects_in (parsed_op_of op).1
 
--- A mask has an event: 0 stands for one that is out of its range. [own]
+-- A mask has an event: it is 0 if it was out of its range. [own]
 abbrev pub has_event : {R : Type 0} → Arg R → Bool
 has_event (Mask mask) = nat_le 1 mask
 has_event arg = true
 
 -- Each mask of the operation has an event. [own]
 abbrev pub has_masks : Op → Bool
-has_masks op = list_all has_event (form_of_op op).1
+has_masks op = list_all has_event (parsed_op_of op).1
 
 -- The operation takes or gives back a resource. [OSEK/VDX OS 2.2.3, section 13.4]
 abbrev pub uses_resource : Op → Bool
@@ -348,17 +348,17 @@ uses_resource op = false
 
 -- The operation may name no object of another core: GetResource, ReleaseResource, GetEvent, GetCounterValue, and the five services of
 -- schedule tables. [own]
-abbrev pub names_own_only : Op → Bool
-names_own_only (Op.GetResource target) = true
-names_own_only (Op.ReleaseResource target) = true
-names_own_only (Op.GetEvent target x) = true
-names_own_only (Op.GetCounterValue target x) = true
-names_own_only (Op.StartScheduleTableRel target offset) = true
-names_own_only (Op.StartScheduleTableAbs target start) = true
-names_own_only (Op.NextScheduleTable from to) = true
-names_own_only (Op.StopScheduleTable target) = true
-names_own_only (Op.GetScheduleTableStatus target x) = true
-names_own_only op = false
+abbrev pub refers_to_own_only : Op → Bool
+refers_to_own_only (Op.GetResource target) = true
+refers_to_own_only (Op.ReleaseResource target) = true
+refers_to_own_only (Op.GetEvent target x) = true
+refers_to_own_only (Op.GetCounterValue target x) = true
+refers_to_own_only (Op.StartScheduleTableRel target offset) = true
+refers_to_own_only (Op.StartScheduleTableAbs target start) = true
+refers_to_own_only (Op.NextScheduleTable from to) = true
+refers_to_own_only (Op.StopScheduleTable target) = true
+refers_to_own_only (Op.GetScheduleTableStatus target x) = true
+refers_to_own_only op = false
 
 -- The operation asks how many cores are started, calls StartCore, or names a spinlock: what it does depends on what all cores share.
 -- [AUTOSAR SWS OS 4.x, SWS_Os_00672, SWS_Os_00676, SWS_Os_00686, SWS_Os_00703 and SWS_Os_00695]

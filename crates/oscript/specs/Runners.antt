@@ -8,7 +8,7 @@ use Rattle.osbase.specs.declared.references.Runner.{Runner}
 use Rattle.osbase.specs.declared.histories.HeldResource.{HeldResource}
 use Rattle.osbase.specs.declared.histories.TaskEvents.{TaskEvents}
 use Rattle.osbase.specs.declared.marks.Mark.{Mark}
-use Rattle.osbase.specs.History.{History, Entry, Printed, Noted, Taken, Given, Locked, Unlocked, Done, no_events, same_runner, with_awaited, with_cleared, with_none_set, with_set, without_resource}
+use Rattle.osbase.specs.History.{History, Entry, Printed, Noted, ResourceOccupied, ResourceReleased, InterruptsSuspended, InterruptsResumed, Done, no_events, same_runner, with_awaited, with_cleared, with_none_set, with_set, without_resource}
 use Rattle.osbase.specs.Interrupts.{deeper, running_job, runner_of_job, shallower}
 use Rattle.oscript.specs.declared.Op.{Op}
 use Rattle.oscript.specs.declared.Frame.{Frame}
@@ -33,10 +33,10 @@ first_row = record { held = []; events = no_events; frame = new_frame; depth = 0
 
 -- The runner whose row an entry changes, if it changes one. A tick changes that of the one whose job is running.
 abbrev pub runner_of : Option Runner → Entry → Option Runner
-runner_of running (Noted (Taken r x)) = Some r
-runner_of running (Noted (Given r index)) = Some r
-runner_of running (Noted (Locked r)) = Some r
-runner_of running (Noted (Unlocked r)) = Some r
+runner_of running (Noted (ResourceOccupied r x)) = Some r
+runner_of running (Noted (ResourceReleased r index)) = Some r
+runner_of running (Noted (InterruptsSuspended r)) = Some r
+runner_of running (Noted (InterruptsResumed r)) = Some r
 runner_of running (Noted (Done r status value)) = Some r
 runner_of running (Printed (Mark.Activated t)) = Some (Runner.Task t)
 runner_of running (Printed (Mark.Terminated t)) = Some (Runner.Task t)
@@ -74,10 +74,10 @@ waiting_for mask row = record row { events = with_awaited (Some mask) row.events
 -- activation leaves no event set. Only an operation that is done reads the script.
 -- [OSEK/VDX OS 2.2.3, section 8.2, 7, 13.3.2 and 13.5.3; that an activation clears the events: section 13.2.3.1]
 abbrev pub row_step : List Op → Entry → Row → Row
-row_step script (Noted (Taken r x)) row = holding x row
-row_step script (Noted (Given r index)) row = record row { held = without_resource index row.held }
-row_step script (Noted (Locked r)) row = record row { depth = deeper row.depth }
-row_step script (Noted (Unlocked r)) row = record row { depth = shallower row.depth }
+row_step script (Noted (ResourceOccupied r x)) row = holding x row
+row_step script (Noted (ResourceReleased r index)) row = record row { held = without_resource index row.held }
+row_step script (Noted (InterruptsSuspended r)) row = record row { depth = deeper row.depth }
+row_step script (Noted (InterruptsResumed r)) row = record row { depth = shallower row.depth }
 row_step script (Noted (Done r status value)) row = record row { frame = completed script row.frame status value }
 row_step script (Printed (Mark.Activated t)) row = record row { events = with_none_set row.events }
 row_step script (Printed (Mark.Terminated t)) row = ended row

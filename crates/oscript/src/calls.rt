@@ -6,8 +6,8 @@ ghost use Rattle.oscript.specs.Calls.{action_of_op, call_of_op, is_action, is_ac
 use crate::Op;
 use osbase::{RemoteCall, ServiceId};
 
-/// The service that an operation calls for an object of any core, and the call for that object, which is none for the
-/// invalid identifier (AUTOSAR SWS OS 4.x, SWS_Os_00596 and SWS_Os_00602). None of an operation of another kind.
+/// The service that an operation calls for an object of any core, and the call for that object; no call for the invalid
+/// identifier (AUTOSAR SWS OS 4.x, SWS_Os_00596 and SWS_Os_00602). `None` for an operation of another kind.
 #[inline(always)]
 pub fn call_of_op(op: Op) -> Option<(ServiceId, Option<RemoteCall>)>
     ensures { result ≡ call_of_op op }

@@ -12,7 +12,7 @@ use osbase::{
     AlarmRef, CoreId, CounterRef, List, ResourceRef, ServiceId, SpinlockId, Status, TableRef,
     TaskRef, Variable,
 };
-pub use rows::{Arg, Args, Form, Kind, Row, VERBS, Verb, form_of_op, op_of, row_of, verb_of};
+pub use rows::{Arg, Args, Kind, ParsedOp, Row, VERBS, Verb, op_of, parsed_op_of, row_of, verb_of};
 
 /// One operation of a script. In place of an object, `None` is the invalid identifier, `?`.
 #[derive(Clone, Copy, Debug, PartialEq, Eq)]
@@ -132,7 +132,7 @@ impl Op {
         }
     }
 
-    /// The place in the script at which the operation lets the job go on, other than at the next.
+    /// The place in the script to which the operation may send its job, if it may jump.
     pub fn position(self) -> Option<u32>
         ensures { result ≡ position_of self }
     {

@@ -2,7 +2,7 @@
 //! that it names.
 
 ghost use Rattle.std.specs.Prelude.{◌≡◌, List, [], ◌∷◌, filter_map, option_map, slice_get};
-ghost use Rattle.oscript.specs.Rows.{alarm_argument, asks_shared, core_at, form_of_op, form_view, halts_all, has_masks, int_at, items, mask_at, names_own_only, number_at, object_in, objects_of, op_of, place_at, plain_row, ref_argument, ref_at, row_of, row_view, service_row, status_argument, status_at, uses_resource, variable_at};
+ghost use Rattle.oscript.specs.Rows.{alarm_argument, asks_shared, core_at, parsed_op_of, form_view, halts_all, has_masks, int_at, items, mask_at, refers_to_own_only, number_at, object_in, objects_of, op_of, place_at, plain_row, ref_argument, ref_at, row_of, row_view, service_row, status_argument, status_at, uses_resource, variable_at};
 
 use crate::Op;
 use osbase::{AlarmRef, CoreId, Object, ObjectKind, Place, Reference, ServiceId, Status, Variable};
@@ -242,7 +242,7 @@ pub fn row_of(verb: Verb) -> Row
 #[derive(Clone, Copy, PartialEq, Eq)]
 pub enum Arg<R> {
     Object(ObjectKind, Option<R>),
-    /// Events; 0 stands for a mask that is out of its range.
+    /// Events; 0 if the mask is out of its range.
     Mask(u32),
     Number(u32),
     Int(i64),
@@ -253,7 +253,7 @@ pub enum Arg<R> {
 /// An operation as its verb and its arguments, whose objects are known as `R` says: by their names, or
 /// by their places.
 #[derive(Clone, Copy, PartialEq, Eq)]
-pub struct Form<R> {
+pub struct ParsedOp<R> {
     pub verb: Verb,
     pub args: Args<Arg<R>>,
 }
@@ -367,7 +367,7 @@ fn variable_at(args: Args<Arg<Place>>, i: usize) -> Variable
 /// The operation of a form. An argument that is not of its kind is taken as the invalid identifier, as 0
 /// or as `v0`.
 #[inline(always)]
-pub fn op_of(form: Form<Place>) -> Op
+pub fn op_of(form: ParsedOp<Place>) -> Op
     ensures { result ≡ op_of (form_view form) }
 {
     let args = form.args;
@@ -446,7 +446,7 @@ fn variable_argument(variable: Variable) -> Arg<Place>
 
 /// What an operation does.
 pub fn verb_of(op: Op) -> Verb
-    ensures { result ≡ (form_of_op op).0 }
+    ensures { result ≡ (parsed_op_of op).0 }
 {
     match op {
         Op::Work => Verb::Work,
@@ -509,7 +509,7 @@ fn two(first: Arg<Place>, second: Arg<Place>) -> Args<Arg<Place>>
 
 // The arguments of an operation, as a script has them.
 fn args_of(op: Op) -> Args<Arg<Place>>
-    ensures { items result ≡ (form_of_op op).1 }
+    ensures { items result ≡ (parsed_op_of op).1 }
 {
     match op {
         Op::Work | Op::TerminateTask | Op::Schedule => Args::Zero,
@@ -547,10 +547,10 @@ fn args_of(op: Op) -> Args<Arg<Place>>
 }
 
 /// The form of an operation.
-pub fn form_of_op(op: Op) -> Form<Place>
-    ensures { form_view result ≡ form_of_op op }
+pub fn parsed_op_of(op: Op) -> ParsedOp<Place>
+    ensures { form_view result ≡ parsed_op_of op }
 {
-    Form {
+    ParsedOp {
         verb: verb_of(op),
         args: args_of(op),
     }
@@ -636,8 +636,8 @@ impl Op {
     }
 
     /// Whether the operation may name no object of another core.
-    pub fn names_own_only(self) -> bool
-        ensures { result ≡ names_own_only self }
+    pub fn refers_to_own_only(self) -> bool
+        ensures { result ≡ refers_to_own_only self }
     {
         match self {
             Op::GetResource(_) => true,

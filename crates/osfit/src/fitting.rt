@@ -7,7 +7,7 @@ ghost use Rattle.osplan.specs.declared.plans.Alarm.{Alarm as AlarmValue};
 ghost use Rattle.osplan.specs.declared.plans.Resource.{Resource as ResourceValue};
 ghost use Rattle.osplan.specs.declared.plans.Task.{Task as TaskValue};
 ghost use Rattle.osfit.specs.Fits.{fits_core, fits_in};
-ghost use Rattle.osplan.specs.Objects.{greatest_posted, is_posting, outbox_needed, posted_at, posted_at_once};
+ghost use Rattle.osplan.specs.Objects.{most_posts_of_table, is_posting, outbox_needed, posted_at, most_posts_per_tick};
 ghost use Rattle.osplan.specs.View.{core_of};
 
 use osbase::{CALLS_AT_ONCE, CoreId, RemoteCall};
@@ -30,8 +30,8 @@ fn posted_at(core: &Core, point: &ExpiryPoint) -> usize
         .count()
 }
 
-fn greatest_posted(core: &Core, table: &Table) -> usize
-    ensures { result ≡ greatest_posted core.now table.now }
+fn most_posts_of_table(core: &Core, table: &Table) -> usize
+    ensures { result ≡ most_posts_of_table core.now table.now }
 {
     let mut greatest = 0;
     for point in table.points.as_slice() {
@@ -54,19 +54,19 @@ fn posted_by_alarms(core: &Core) -> usize
 }
 
 fn posted_by_tables(core: &Core) -> usize
-    requires { sum_by (greatest_posted core.now) core.now.tables < 2 ^ 64 }
-    ensures { result ≡ sum_by (greatest_posted core.now) core.now.tables }
+    requires { sum_by (most_posts_of_table core.now) core.now.tables < 2 ^ 64 }
+    ensures { result ≡ sum_by (most_posts_of_table core.now) core.now.tables }
 {
     core.tables
         .as_slice()
         .iter()
-        .map(|table| greatest_posted(core, table))
+        .map(|table| most_posts_of_table(core, table))
         .sum()
 }
 
 // How many places the core's outbox needs at least.
 fn outbox_needed(core: &Core) -> usize
-    requires { posted_at_once core.now ≤ POSTED }
+    requires { most_posts_per_tick core.now ≤ POSTED }
     ensures { result ≡ outbox_needed core.now }
 {
     CALLS_AT_ONCE + (posted_by_alarms(core) + posted_by_tables(core))
@@ -104,7 +104,7 @@ fn are_ceilings_below(core: &Core, priorities: usize) -> bool
 
 fn fits_core(core: &Core, priorities: usize, jobs: usize, places: usize) -> bool
     requires activations { sum_by (λ (t : TaskValue). t.activations) core.now.tasks ≤ JOBS }
-    requires posted { posted_at_once core.now ≤ POSTED }
+    requires posted { most_posts_per_tick core.now ≤ POSTED }
     ensures { result ≡ fits_core priorities jobs places core.now }
 {
     are_tasks_below(core, priorities)

@@ -8,8 +8,8 @@ use Rattle.osbase.specs.{declared.messages.RemoteCall.RemoteCall, History.same_c
 use Rattle.osbase.proofs.Same.{same_core-true}
 use Rattle.oscript.specs.{declared.Op.Op, Calls.is_action, Rows.objects_of}
 use Rattle.osplan.specs.{declared.plans.Plan.Plan, declared.plans.Core.Core, declared.plans.Alarm.Alarm, declared.plans.Table.Table}
-use Rattle.osplan.specs.Expressible.{all_common_names, are_distinct, is_core_expressible, is_expressible, object_names}
-use Rattle.osplan.specs.Limits.{CoreSizes, StartSizes, TableSizes, alarm_sizes, cores_by, core_sizes, is_action_known, is_alarm_known, is_alarm_near, is_by, is_core_known, is_core_mode, is_core_near, is_core_timed, is_core_within, is_mode, is_object, is_op_known, is_script_known, is_table_known, is_table_near, is_table_timed, is_task_known, is_versioned, is_within, is_within_limits, are_numbers_distinct, numbers_of, number_of, sizes_of, table_sizes, is_between, most_cores}
+use Rattle.osplan.specs.Representable.{all_common_names, are_distinct, is_core_representable, is_representable, object_names}
+use Rattle.osplan.specs.Limits.{CoreSizes, StartSizes, TableSizes, alarm_sizes, cores_by, core_sizes, is_action_known, is_alarm_known, is_alarm_local, is_by, is_core_known, is_core_mode, has_local_references, is_core_timed, is_core_within, is_mode, is_object, is_op_known, is_script_known, is_table_known, is_table_local, is_table_timed, is_task_known, is_versioned, is_within, is_within_limits, are_numbers_distinct, numbers_of, number_of, sizes_of, table_sizes, is_between, most_cores}
 use Rattle.osplan.specs.Objects.{alarm_modes, core_scripts, common_names, has_index, is_common, table_actions, table_modes}
 use Rattle.osplan.specs.Naming.{acts_on, has_operation, is_on, names_object, op_names}
 use Rattle.osplan.specs.View.{core_of, counter_in}
@@ -82,16 +82,16 @@ module _ (plan : Plan) (group : CoreSet) (limits : IsTrue (is_within_limits plan
         ap (λ (k : CoreId). not (has_core group k) && not (same_core k NOBODY)) (same_core-true object.place.core core.id on)
         ∙ ap (λ (b : Bool). not b && not (same_core core.id NOBODY)) inside
 
-    inside-alarm : (alarm : Alarm) → (is_alarm_known plan alarm && is_alarm_near core.id alarm) ≡ true → leaves alarm.action ≡ false → is_alarm_known alone alarm ≡ true
+    inside-alarm : (alarm : Alarm) → (is_alarm_known plan alarm && is_alarm_local core.id alarm) ≡ true → leaves alarm.action ≡ false → is_alarm_known alone alarm ≡ true
     inside-alarm alarm h inward =
-        let both = and_parts (is_alarm_known plan alarm) (is_alarm_near core.id alarm) h in
+        let both = and_parts (is_alarm_known plan alarm) (is_alarm_local core.id alarm) h in
         let known = and_parts _ (list_all (is_mode plan) (alarm_modes alarm)) both.0 in
         let objects = and_parts (is_object plan (counter_object alarm.counter)) (is_action_known plan alarm.action) known.0 in
         and_from _ _ (and_from _ _ (inside-object (counter_object alarm.counter) objects.0 (near-inside (counter_object alarm.counter) both.1)) (inside-action alarm.action objects.1 inward)) known.1
 
-    inside-table : (table : Table) → (is_table_known plan table && is_table_near core.id table) ≡ true → list_any leaves (table_actions table) ≡ false → is_table_known alone table ≡ true
+    inside-table : (table : Table) → (is_table_known plan table && is_table_local core.id table) ≡ true → list_any leaves (table_actions table) ≡ false → is_table_known alone table ≡ true
     inside-table table h inward =
-        let both = and_parts (is_table_known plan table) (is_table_near core.id table) h in
+        let both = and_parts (is_table_known plan table) (is_table_local core.id table) h in
         let known = and_parts _ (list_all (is_mode plan) (table_modes table)) both.0 in
         let objects = and_parts (is_object plan (counter_object table.counter)) (list_all (is_action_known plan) (table_actions table)) known.0 in
         let actions = all-without (is_action_known plan) leaves (is_action_known alone) inside-action (table_actions table) objects.1 inward in
@@ -107,10 +107,10 @@ module _ (plan : Plan) (group : CoreSet) (limits : IsTrue (is_within_limits plan
         let acting : (list_any (λ (alarm : Alarm). leaves alarm.action) core.alarms ≡ false) × (list_any (λ (table : Table). list_any leaves (table_actions table)) core.tables ≡ false) = or_parts _ _ (sym (any-acting (is_outside group) core) ∙ named.1) in
         let mode : is_core_mode alone core.mode ≡ true = grind (arith, scripts.0) in
         let ops = all-without (is_script_known plan) (list_any (op_names (is_outside group))) (is_script_known alone) inside-script (core_scripts core) scripts.1 named.0 in
-        let mine = all-without (λ (alarm : Alarm). is_alarm_known plan alarm && is_alarm_near core.id alarm) (λ (alarm : Alarm). leaves alarm.action) (is_alarm_known alone) inside-alarm core.alarms
-        (all-both (is_alarm_known plan) (is_alarm_near core.id) core.alarms alarms.1 near.alarms) acting.0 in
-        let theirs = all-without (λ (table : Table). is_table_known plan table && is_table_near core.id table) (λ (table : Table). list_any leaves (table_actions table)) (is_table_known alone) inside-table core.tables
-        (all-both (is_table_known plan) (is_table_near core.id) core.tables tables.1 near.tables) acting.1 in
+        let mine = all-without (λ (alarm : Alarm). is_alarm_known plan alarm && is_alarm_local core.id alarm) (λ (alarm : Alarm). leaves alarm.action) (is_alarm_known alone) inside-alarm core.alarms
+        (all-both (is_alarm_known plan) (is_alarm_local core.id) core.alarms alarms.1 near.alarms) acting.0 in
+        let theirs = all-without (λ (table : Table). is_table_known plan table && is_table_local core.id table) (λ (table : Table). list_any leaves (table_actions table)) (is_table_known alone) inside-table core.tables
+        (all-both (is_table_known plan) (is_table_local core.id) core.tables tables.1 near.tables) acting.1 in
         and_from _ _ (and_from _ _ (and_from _ _ (and_from _ _ mode ops) tasks.1) mine) theirs
 
     counters-same : (c : CounterRef) → same_core c.core core.id ≡ true → counter_in alone c ≡ counter_in plan c
@@ -119,10 +119,10 @@ module _ (plan : Plan) (group : CoreSet) (limits : IsTrue (is_within_limits plan
         (core-inside plan group c.core (ap (has_core group) (same_core-true c.core core.id here) ∙ inside))
 
     alarms-same : NearParts core → map (alarm_sizes (counter_in alone)) core.alarms ≡ map (alarm_sizes (counter_in plan)) core.alarms
-    alarms-same near = map-where (alarm_sizes (counter_in alone)) (alarm_sizes (counter_in plan)) (is_alarm_near core.id) (λ alarm h. rw (counters-same alarm.counter h) refl) core.alarms near.alarms
+    alarms-same near = map-where (alarm_sizes (counter_in alone)) (alarm_sizes (counter_in plan)) (is_alarm_local core.id) (λ alarm h. rw (counters-same alarm.counter h) refl) core.alarms near.alarms
 
     tables-same : NearParts core → map (table_sizes (counter_in alone)) core.tables ≡ map (table_sizes (counter_in plan)) core.tables
-    tables-same near = map-where (table_sizes (counter_in alone)) (table_sizes (counter_in plan)) (is_table_near core.id) (λ table h. rw (counters-same table.counter h) refl) core.tables near.tables
+    tables-same near = map-where (table_sizes (counter_in alone)) (table_sizes (counter_in plan)) (is_table_local core.id) (λ table h. rw (counters-same table.counter h) refl) core.tables near.tables
 
     sizes-same : NearParts core → core_sizes alone core ≡ core_sizes plan core
     sizes-same near =
@@ -148,12 +148,12 @@ module _ (plan : Plan) (group : CoreSet) (limits : IsTrue (is_within_limits plan
   apart_inside c = not (has_core group c.id) || not (names_object (is_outside group) c)
 
   abbrev is_whole : Core → Bool
-  is_whole c = is_core_within (core_sizes plan c) && is_core_known plan c && is_core_near c && is_core_timed plan c && apart_inside c
+  is_whole c = is_core_within (core_sizes plan c) && is_core_known plan c && has_local_references c && is_core_timed plan c && apart_inside c
 
   record WholeParts (c : Core) : Type 0 where
     pub within : is_core_within (core_sizes plan c) ≡ true
     pub known : is_core_known plan c ≡ true
-    pub near : is_core_near c ≡ true
+    pub near : has_local_references c ≡ true
     pub timed : is_core_timed plan c ≡ true
     pub apart : apart_inside c ≡ true
 
@@ -161,23 +161,23 @@ module _ (plan : Plan) (group : CoreSet) (limits : IsTrue (is_within_limits plan
   whole-parts c h =
       let apart = and_parts _ (apart_inside c) h in
       let timed = and_parts _ (is_core_timed plan c) apart.0 in
-      let near = and_parts _ (is_core_near c) timed.0 in
+      let near = and_parts _ (has_local_references c) timed.0 in
       let known = and_parts (is_core_within (core_sizes plan c)) (is_core_known plan c) near.0 in
       record { within = known.0; known = known.1; near = near.1; timed = timed.1; apart = apart.1 }
 
   abbrev is_good : Core → Bool
-  is_good c = is_core_within (core_sizes alone c) && is_core_known alone c && is_core_near c && is_core_timed alone c
+  is_good c = is_core_within (core_sizes alone c) && is_core_known alone c && has_local_references c && is_core_timed alone c
 
   record GoodParts (c : Core) : Type 0 where
     pub within : is_core_within (core_sizes alone c) ≡ true
     pub known : is_core_known alone c ≡ true
-    pub near : is_core_near c ≡ true
+    pub near : has_local_references c ≡ true
     pub timed : is_core_timed alone c ≡ true
 
   good-parts : (c : Core) → is_good c ≡ true → GoodParts c
   good-parts c h =
       let timed = and_parts _ (is_core_timed alone c) h in
-      let near = and_parts _ (is_core_near c) timed.0 in
+      let near = and_parts _ (has_local_references c) timed.0 in
       let known = and_parts (is_core_within (core_sizes alone c)) (is_core_known alone c) near.0 in
       record { within = known.0; known = known.1; near = near.1; timed = timed.1 }
 
@@ -197,9 +197,9 @@ module _ (plan : Plan) (group : CoreSet) (limits : IsTrue (is_within_limits plan
   all-good apart =
       list_all-map is_good (part_of group) plan.cores
       ∙ all-weaker is_whole (λ (c : Core). is_good (part_of group c)) good-part plan.cores
-      (all-both (λ (c : Core). is_core_within (core_sizes plan c) && is_core_known plan c && is_core_near c && is_core_timed plan c) apart_inside plan.cores
-      (all-both (λ (c : Core). is_core_within (core_sizes plan c) && is_core_known plan c && is_core_near c) (is_core_timed plan) plan.cores
-      (all-both (λ (c : Core). is_core_within (core_sizes plan c) && is_core_known plan c) is_core_near plan.cores
+      (all-both (λ (c : Core). is_core_within (core_sizes plan c) && is_core_known plan c && has_local_references c && is_core_timed plan c) apart_inside plan.cores
+      (all-both (λ (c : Core). is_core_within (core_sizes plan c) && is_core_known plan c && has_local_references c) (is_core_timed plan) plan.cores
+      (all-both (λ (c : Core). is_core_within (core_sizes plan c) && is_core_known plan c) has_local_references plan.cores
       (all-both (λ (c : Core). is_core_within (core_sizes plan c)) (is_core_known plan) plan.cores parts.cores parts.known) parts.near) parts.timed) apart)
 
   pick : (q : Core → Bool) → ((c : Core) → is_good c ≡ true → q c ≡ true) → list_all is_good (map (part_of group) plan.cores) ≡ true → list_all q (map (part_of group) plan.cores) ≡ true
@@ -248,7 +248,7 @@ module _ (plan : Plan) (group : CoreSet) (limits : IsTrue (is_within_limits plan
   stays-whole is =
       let good = all-good (named-inside plan group limits is) in
       and_from _ _ (and_from _ _ (and_from _ _ (and_from _ _ (and_from _ _ (and_from _ _ (and_from _ _ (sizes-alone good) (ap are_numbers_distinct (numbers-same plan.cores) ∙ parts.distinct)) master-there)
-      (pick (is_core_known alone) (λ c h. (good-parts c h).known) good)) (pick is_core_near (λ c h. (good-parts c h).near) good)) (pick (is_core_timed alone) (λ c h. (good-parts c h).timed) good)) parts.linked) parts.ordered
+      (pick (is_core_known alone) (λ c h. (good-parts c h).known) good)) (pick has_local_references (λ c h. (good-parts c h).near) good)) (pick (is_core_timed alone) (λ c h. (good-parts c h).timed) good)) parts.linked) parts.ordered
 
 -- ---- what a text can say
 
@@ -274,17 +274,17 @@ distinct-less group front (c ∷ cs) h = by (has_core group c.id) (λ names. dis
     by true later = ap are_distinct (sym (append_assoc front (object_names c) less)) ∙ later (object_names c) (ap are_distinct (append_assoc front (object_names c) rest) ∙ h)
     by false later = ap are_distinct (sym (append_assoc front [] less)) ∙ later [] (ap are_distinct (append_assoc front [] rest) ∙ without)
 
-expressible-part : (group : CoreSet) (c : Core) → is_core_expressible c ≡ true → is_core_expressible (part_of group c) ≡ true
-expressible-part group c h = by (has_core group c.id)
+representable-part : (group : CoreSet) (c : Core) → is_core_representable c ≡ true → is_core_representable (part_of group c) ≡ true
+representable-part group c h = by (has_core group c.id)
   where
-    by : (b : Bool) → is_core_expressible (cond b c (bare_core c)) ≡ true
+    by : (b : Bool) → is_core_representable (cond b c (bare_core c)) ≡ true
     by true = h
     by false = refl
 
-pub stays-expressible : (plan : Plan) (group : CoreSet) → IsTrue (is_expressible plan) → is_expressible (group_of plan group) ≡ true
-stays-expressible plan group expressible =
-    let said : TextParts plan = text-parts plan expressible in
+pub stays-representable : (plan : Plan) (group : CoreSet) → IsTrue (is_representable plan) → is_representable (group_of plan group) ≡ true
+stays-representable plan group representable =
+    let said : TextParts plan = text-parts plan representable in
     and_from _ _
     (and_from _ _ (and_from _ _ said.modes said.spinlocks)
-    (list_all-map is_core_expressible (part_of group) plan.cores ∙ all-weaker is_core_expressible (λ (c : Core). is_core_expressible (part_of group c)) (expressible-part group) plan.cores said.cores))
+    (list_all-map is_core_representable (part_of group) plan.cores ∙ all-weaker is_core_representable (λ (c : Core). is_core_representable (part_of group c)) (representable-part group) plan.cores said.cores))
     (distinct-less group (all_common_names plan) plan.cores said.names)

@@ -1,4 +1,4 @@
--- Groups of cores in which no other core has a say, the least group of a core, and the configuration of a group by itself.
+-- Groups of cores in which no other core has a say, the least group of a core, and the configuration of a group alone.
 use Rattle.std.specs.Prelude.{ℕ, zero, suc, ◌&&◌, ◌||◌, not, Bool, if◌then◌else◌, is_some, List, length, map}
 use Rattle.std.specs.List.{list_all, list_any}
 use Rattle.osbase.specs.declared.references.CoreId.{CoreId}
@@ -45,12 +45,12 @@ is_group plan group = are_configured plan group && list_all (λ (core : Core). n
 
 -- ---- the least group of a core
 
--- Another core than these, which are told by their numbers, has a say in what one of them does.
+-- A core outside has a say in what one of these does; they are given by their numbers.
 abbrev pub is_heard : Plan → (CoreId → Bool) → CoreId → Bool
 is_heard plan cores id =
     list_any (λ (other : Core). same_core other.id id && list_any (λ (core : Core). cores core.id && has_say plan other core) plan.cores) plan.cores
 
--- The core belongs to the other one within so many rounds, in each of which those come in that have a say in one that is in.
+-- The core belongs to the other one within so many rounds. Each round adds the cores that have a say in one that is in.
 abbrev pub belongs_within : Plan → CoreId → ℕ → CoreId → Bool
 belongs_within plan core zero id = same_core id core && is_some (core_of plan id)
 belongs_within plan core (suc n) id = belongs_within plan core n id || is_heard plan (belongs_within plan core n) id
@@ -59,7 +59,7 @@ belongs_within plan core (suc n) id = belongs_within plan core n id || is_heard 
 abbrev pub is_in_least_group : Plan → CoreId → CoreId → Bool
 is_in_least_group plan core id = belongs_within plan core (length plan.cores) id
 
--- ---- the configuration of a group by itself
+-- ---- the configuration of a group alone
 
 -- A core without its objects: its number, its mode, which cores it starts, and its answer to a time fault.
 abbrev pub bare_core : Core → Core

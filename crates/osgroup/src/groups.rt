@@ -130,7 +130,7 @@ fn row_of(plan: &Plan, at: CoreId) -> CoreSet
     CoreSet { members }
 }
 
-// So of each core number, so that no pair of cores is asked in each round.
+// One row for each core number, so that no round tests each pair of cores again.
 fn rows_of(plan: &Plan) -> [CoreSet; CORES]
     requires { IsTrue (is_within_limits plan.now) }
     ensures { AreRows plan.now result }

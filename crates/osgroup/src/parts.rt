@@ -3,27 +3,14 @@
 ghost use Rattle.std.specs.Prelude.{◌≡◌, IsTrue, IfOk, IfErr, map};
 ghost use Rattle.osgroup.specs.Groups.{bare_core, group_of, is_group, part_of};
 
-use osbase::{CoreId, CoreSet, List, Name};
-use osplan::{ConfFault, Config, Core, Plan, Spinlock};
+use osbase::{CoreId, CoreSet, List};
+use osplan::{ConfFault, Config, Core, Plan, Spinlock, copied_core, copied_modes};
 use std::alloc::{AllocError, Global};
-
-// A copy is what it is a copy of, whatever parts it has.
-fn copied_core(core: &Core) -> Result<Core, AllocError>
-    ensures { IfOk result (λ copy. copy ≡ core.now) }
-{
-    core.clone()
-}
 
 fn copied_start(core: &Core) -> Result<List<CoreId>, AllocError>
     ensures { IfOk result (λ start. start ≡ core.now.start) }
 {
     core.start.clone()
-}
-
-fn copied_modes(plan: &Plan) -> Result<List<Name>, AllocError>
-    ensures { IfOk result (λ modes. modes ≡ plan.now.modes) }
-{
-    plan.modes.clone()
 }
 
 fn copied_spinlock(spinlock: &Spinlock) -> Result<Spinlock, AllocError>
@@ -95,7 +82,7 @@ fn group_plan(alloc: Global, plan: &Plan, group: &CoreSet) -> Result<Plan, Alloc
     })
 }
 
-/// The configuration of a group by itself, in which each core of the group sees what it sees in the whole. Each core
+/// The configuration of a group alone, in which each core of the group sees what it sees in the whole. Each core
 /// outside stays with its number, its mode, its start list and its answer to a time fault, and loses its objects. All
 /// else stays: the version, the master, the modes, the spinlocks and the mailboxes' size. `NoMemory` where memory runs
 /// out; the configuration stays as it is.

@@ -5,7 +5,7 @@ use Rattle.osbase.specs.declared.references.CoreId.{CoreId}
 use Rattle.osbase.specs.Sets.{core_ids}
 use Rattle.osplan.specs.declared.plans.Plan.{Plan}
 use Rattle.osgroup.specs.Groups.{is_in_least_group}
-use Rattle.ostext.specs.Trace.{led, line_end}
+use Rattle.ostrace_text.specs.Trace.{led, line_end}
 use Rattle.osjob.specs.Groups.{group_head, group_line, number_of, number_word}
 
 filter_same : (p q : CoreId → Bool) (ids : List CoreId) → ((id : CoreId) → p id ≡ q id) → filter p ids ≡ filter q ids

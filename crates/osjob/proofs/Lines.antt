@@ -1,4 +1,4 @@
--- The lines or words of the cores of which something holds, as far as they are written.
+-- The lines or words of the cores that pass a test, as far as they are written.
 use Rattle.std.proofs.Common.{◌≡◌, ◌∙◌, ◌+◌, ◌<◌, ◌++◌, ℕ, Bool, true, false, cond, if◌then◌else◌, List, [], ◌∷◌, Option, Result, Ok, Err, refl, ap, sym, append-nil, append_assoc, take, drop, filter, take-append-drop}
 use Rattle.std.specs.List.{flat_map}
 use Rattle.std.specs.Result.{IsErr}
@@ -8,7 +8,7 @@ use Rattle.osbase.specs.declared.references.CoreId.{CoreId}
 use Rattle.osbase.specs.Sets.{core_ids}
 use Rattle.ostrace.specs.Taken.{Writes}
 use Rattle.ostrace.proofs.Writing.{Writes-broken, Wrote, Wrote-all, Wrote-then}
-use Rattle.osturn.proofs.Configured.{id_at, one_more_id}
+use Rattle.osrun.proofs.Configured.{id_at, one_more_id}
 
 module _ (holds : CoreId → Bool) (line : CoreId → List ℕ) where
   -- the lines of the cores with a number below n

@@ -11,7 +11,7 @@ use Rattle.ostrace.specs.declared.sinks.WriteFailed.{WriteFailed as SinkFailed}
 use Rattle.osjob.specs.declared.faults.Fault.{Fault}
 use Rattle.osjob.specs.declared.faults.Fault.TheVariants.{NoMemoryToRun, Unreadable}
 use Rattle.osjob.specs.declared.outcomes.Outcome.{Outcome}
-use Rattle.osjob.specs.Performs.{BreaksThreads, Comes, HasNoReports, IsOrderPrinted, IsReportOutput, IsReported, IsThreadsOutput, NoFault, PrintsFrom, broken_off, fails, prints, unless_refused}
+use Rattle.osjob.specs.Performs.{BreaksThreads, PrintsOrFaults, HasNoReports, IsOrderPrinted, IsReportOutput, IsReported, IsThreadsOutput, NoFault, PrintsFrom, broken_off, fails, prints, unless_refused}
 use Rattle.osjob.specs.Runs.{IsInput, IsThreaded, are_items_known}
 use Rattle.osjob.specs.Texts.{File, IsAsked}
 
@@ -25,7 +25,7 @@ written-asked (Err refused) ending result count files apart e = rw e (λ same. c
 -- What is printed of the reports of a run is what its job prints.
 pub reports-come : {O : Type 0} (taken : O → Option (List ℕ)) (failed : O → ℕ) (old new : O) (Played : Plan → List Report → Type 0) (Breaks : Fault → Type 0) (schedule : Option (List ℕ)) (items : Option CoreId) (files : List File) (plan : Plan) (stimuli : List CoreStimuli) (turns : Option (List (CoreId × Choice))) (reports : List Report) (count : ℕ) (result : Result Outcome Fault)
     → Played plan reports → are_items_known plan items ≡ true → IsInput schedule files plan stimuli turns → Breaks NoMemoryToRun
-    → Comes taken failed old new (IsReported plan reports items) (λ fault. fault ≡ NoMemoryToRun) result
+    → PrintsOrFaults taken failed old new (IsReported plan reports items) (λ fault. fault ≡ NoMemoryToRun) result
     → PrintsFrom taken failed old new (NoFault (IsReportOutput Played items)) (HasNoReports Breaks schedule items files) files count result
 reports-come taken failed old new Played Breaks schedule items files plan stimuli turns reports count result played known input breaks (prints text ending output printed) = record {
   comes = prints text ending (rw output.ending_is (record { plan = plan; reports = reports; known = known; played = played; text_is = output.text_is; outcome_is = refl })) printed;
@@ -39,7 +39,7 @@ reports-come taken failed old new Played Breaks schedule items files plan stimul
 -- So is what is printed of one order of the turns of a run by threads.
 pub order-comes : {O : Type 0} (taken : O → Option (List ℕ)) (failed : O → ℕ) (old new : O) (patience : ℕ) (files : List File) (plan : Plan) (reports : List Report) (turns : Option (List (CoreId × Choice))) (count : ℕ) (result : Result Outcome Fault)
     → (threaded : IsThreaded patience files plan reports) → IsInput None files plan threaded.stimuli turns
-    → Comes taken failed old new (IsOrderPrinted plan threaded.stimuli reports) (λ fault. fault ≡ NoMemoryToRun) result
+    → PrintsOrFaults taken failed old new (IsOrderPrinted plan threaded.stimuli reports) (λ fault. fault ≡ NoMemoryToRun) result
     → PrintsFrom taken failed old new (NoFault (IsThreadsOutput patience Order files)) (HasNoReports BreaksThreads None None files) files count result
 order-comes taken failed old new patience files plan reports turns count result threaded input (prints text ending output printed) = record {
   comes = prints text ending (rw output.ending_is (record { plan = plan; reports = reports; threaded = threaded; ordered = output.ordered; outcome_is = refl })) printed;

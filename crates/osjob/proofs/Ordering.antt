@@ -6,7 +6,7 @@ use Rattle.osbase.specs.declared.turns.Choice.{Choice}
 use Rattle.osbase.specs.declared.turns.CoreStimuli.{CoreStimuli}
 use Rattle.osbase.specs.declared.turns.Report.{Report}
 use Rattle.osplan.specs.declared.plans.Plan.{Plan}
-use Rattle.osturn.specs.Sound.{unclocked}
+use Rattle.osrun.specs.Sound.{unclocked}
 use Rattle.osworld.specs.Runs.{AreReports}
 use Rattle.osjob.specs.Runs.{IsOrdered, order_line}
 

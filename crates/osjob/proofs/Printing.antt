@@ -1,8 +1,8 @@
--- What writing a text comes to as printing.
+-- Writing a text, as printing.
 use Rattle.std.proofs.Common.{◌≡◌, ◌∙◌, ℕ, List, [], ◌∷◌, Option, Result, Ok, Err, refl, ap, append-nil}
 use Rattle.osbase.specs.declared.turns.Report.{Report}
 use Rattle.osplan.specs.declared.plans.Plan.{Plan}
-use Rattle.ostext.specs.Trace.{block_of, text_of}
+use Rattle.ostrace_text.specs.Trace.{block_of, text_of}
 use Rattle.ostrace.specs.declared.sinks.WriteFailed.{WriteFailed as SinkFailed}
 use Rattle.ostrace.specs.Taken.{Writes}
 use Rattle.osjob.specs.declared.faults.Fault.{Fault}

@@ -8,9 +8,9 @@ use Rattle.osbase.specs.declared.turns.CoreStimuli.{CoreStimuli}
 use Rattle.osplan.specs.declared.plans.Plan.{Plan}
 use Rattle.osplan.specs.declared.faults.ConfFault.{ConfFault}
 use Rattle.osplan.specs.declared.faults.ConfFault.TheVariants.{NoMemory}
-use Rattle.osgiven.specs.Given.{stimuli_meant}
+use Rattle.osinput.specs.Given.{stimuli_of_text}
 use Rattle.osplan.specs.Fault.{IsLeast}
-use Rattle.osdraft.specs.Meaning.{config_of}
+use Rattle.osload.specs.Meaning.{config_of}
 use Rattle.osjob.specs.declared.faults.Fault.{Fault}
 use Rattle.osjob.specs.declared.faults.Fault.TheVariants.{Text}
 use Rattle.osjob.specs.Runs.{IsGiven}
@@ -31,14 +31,14 @@ pub config-kept : (old new : List File) (plan : Plan) → KeepsBelow 1 old new �
 config-kept old new plan keeps config = Means-kept config_of old new 0 plan (keeps 0 (omega arith)) config
 
 pub IsGiven-read : (old new : List File) (plan : Plan) (stimuli : List CoreStimuli) → KeepsBelow 1 old new
-    → Means config_of (text_at old 0) plan → Means (stimuli_meant plan) (text_at new 1) stimuli → IsGiven new plan stimuli
+    → Means config_of (text_at old 0) plan → Means (stimuli_of_text plan) (text_at new 1) stimuli → IsGiven new plan stimuli
 IsGiven-read old new plan stimuli keeps config listed = record { config = config-kept old new plan keeps config; listed = listed }
 
 -- and the schedule after both
 pub IsGiven-kept : (old new : List File) (plan : Plan) (stimuli : List CoreStimuli) → KeepsBelow 2 old new → IsGiven old plan stimuli → IsGiven new plan stimuli
 IsGiven-kept old new plan stimuli keeps given = record {
   config = Means-kept config_of old new 0 plan (keeps 0 (omega arith)) given.config;
-  listed = Means-kept (stimuli_meant plan) old new 1 stimuli (keeps 1 (omega arith)) given.listed;
+  listed = Means-kept (stimuli_of_text plan) old new 1 stimuli (keeps 1 (omega arith)) given.listed;
 }
 
 -- a file that has a meaning was read

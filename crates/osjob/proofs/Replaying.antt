@@ -4,7 +4,7 @@ use Rattle.std.specs.Prelude.{IfErr, IsSome}
 use Rattle.osbase.specs.declared.items.Item.{Item}
 use Rattle.osbase.specs.declared.references.CoreId.{CoreId}
 use Rattle.osbase.specs.declared.turns.Report.{Report}
-use Rattle.osdraft.specs.Meaning.{config_of}
+use Rattle.osload.specs.Meaning.{config_of}
 use Rattle.oslog.specs.Logs.{IsLog}
 use Rattle.oslog.specs.declared.faults.LogFault.{LogFault}
 use Rattle.oslog.specs.declared.faults.LogFault.TheVariants as log
@@ -15,7 +15,7 @@ use Rattle.osjob.specs.declared.faults.Fault.TheVariants.{ItemRefused, NoMemoryT
 use Rattle.osjob.specs.declared.outcomes.Outcome.{Outcome}
 use Rattle.osjob.specs.Faults.{of_log}
 use Rattle.osjob.specs.LogTexts.{IsLogFault, IsLogOf, log_at}
-use Rattle.osjob.specs.Performs.{Comes, fails, prints}
+use Rattle.osjob.specs.Performs.{PrintsOrFaults, fails, prints}
 use Rattle.osjob.specs.Replays.{EndsAt, HasNoReplay, IsReplayOutput, Replays, broken_off}
 use Rattle.osjob.specs.Texts.{File, IsAsked, Means, text_at}
 use Rattle.osjob.proofs.Logging.{written-asked}
@@ -34,11 +34,11 @@ ends-asked plan core items report (Err fault) ends = absurd ends
 
 module _ {O : Type 0} (taken : O → Option (List ℕ)) (failed : O → ℕ) (old new : O) (plan : Plan) (core : CoreId) (items : List Item) (files : List File) (result : Result Outcome Fault) where
   abbrev ComesOf : Type 0
-  ComesOf = Comes taken failed old new (Replays plan core items) (λ fault. fault ≡ NoMemoryToRun) result
+  ComesOf = PrintsOrFaults taken failed old new (Replays plan core items) (λ fault. fault ≡ NoMemoryToRun) result
 
   -- What a replay of a log's items prints is what a replay of its files does.
   pub replay-comes : Means config_of (text_at files 0) plan → IsSome (core_of plan core) → IsLogOf plan (log_at files 1) items → ComesOf
-      → Comes taken failed old new (IsReplayOutput core files) (HasNoReplay core files) result
+      → PrintsOrFaults taken failed old new (IsReplayOutput core files) (HasNoReplay core files) result
   replay-comes config configured said (prints text ending replays printed) =
       prints text ending (record { plan = plan; items = items; config = config; configured = configured; log = said; replays = replays }) printed
   replay-comes config configured said (fails fault is none same) = fails fault is (λ apart. broken_off plan items config configured said none) same

@@ -1,4 +1,4 @@
--- A job and its paths, and what it comes to where there was no memory for them.
+-- A job and its paths, and its outcome if there was no memory for them.
 use Rattle.std.proofs.Common.{◌≡◌, ◌∙◌, ℕ, List, [], Option, Err, ap, arith, map, refl, sym, length}
 use Rattle.std.proofs.lemmas.List.{length-map}
 use Rattle.std.specs.Borrow.{Bor}

@@ -4,25 +4,25 @@ use Rattle.std.specs.Fmt.{decimal}
 use Rattle.std.specs.List.{flat_map}
 use Rattle.osbase.specs.declared.references.CoreId.{CoreId}
 use Rattle.osplan.specs.declared.plans.Plan.{Plan}
-use Rattle.osseparate.specs.declared.separate.Standing.{Standing}
-use Rattle.osseparate.specs.declared.separate.Standing.TheVariants.{Separate, Bound, Off}
-use Rattle.osseparate.specs.Separate.{cut_of, standing_of}
+use Rattle.osseparate.specs.declared.separate.Coupling.{Coupling}
+use Rattle.osseparate.specs.declared.separate.Coupling.TheVariants.{Separate, Bound, Off}
+use Rattle.osseparate.specs.Separate.{cut_of, coupling_of}
 use Rattle.osplan.specs.View.{core_of}
-use Rattle.ostext.specs.Trace.{line_end, spaced}
+use Rattle.ostrace_text.specs.Trace.{line_end, spaced}
 use Rattle.oswrite.specs.Writing.{config_text}
-use Rattle.osturn.specs.Fits.{ids_of}
+use Rattle.osrun.specs.Fits.{ids_of}
 
-abbrev pub standing_word : Standing → List ℕ
+abbrev pub standing_word : Coupling → List ℕ
 standing_word Separate = codes "separate"
 standing_word Bound = codes "bound"
 standing_word Off = codes "off"
 
 -- The line of a configured core. [own]
-abbrev pub core_text : CoreId → Standing → List ℕ
+abbrev pub core_text : CoreId → Coupling → List ℕ
 core_text id standing = spaced (codes "core" ∷ decimal id.number ∷ standing_word standing ∷ []) ++ line_end
 
 abbrev pub standing_line : Plan → CoreId → List ℕ
-standing_line plan id = core_text id (standing_of plan id)
+standing_line plan id = core_text id (coupling_of plan id)
 
 -- No line for a number that no core has.
 abbrev pub line_at : Plan → CoreId → List ℕ

@@ -2,7 +2,7 @@
 use Rattle.std.specs.Prelude.{ℕ, List, [], ◌∷◌, ◌++◌, codes}
 use Rattle.std.specs.Fmt.{decimal}
 use Rattle.osplan.specs.Fault.{fault_number as conf_fault_number, fault_name as conf_fault_name}
-use Rattle.ostext.specs.Trace.{line_end, spaced}
+use Rattle.ostrace_text.specs.Trace.{line_end, spaced}
 use Rattle.oslog.specs.declared.faults.LogFault.{LogFault}
 use Rattle.oslog.specs.declared.faults.LogFault.TheVariants as log
 use Rattle.osthreads.specs.declared.runs.ThreadReason.{ThreadReason}

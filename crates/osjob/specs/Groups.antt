@@ -8,9 +8,9 @@ use Rattle.osbase.specs.Sets.{core_ids}
 use Rattle.osplan.specs.declared.plans.Plan.{Plan}
 use Rattle.osplan.specs.View.{core_of}
 use Rattle.osgroup.specs.Groups.{group_of, is_in_least_group}
-use Rattle.ostext.specs.Trace.{line_end, spaced}
+use Rattle.ostrace_text.specs.Trace.{line_end, spaced}
 use Rattle.oswrite.specs.Writing.{config_text}
-use Rattle.osturn.specs.Fits.{ids_of}
+use Rattle.osrun.specs.Fits.{ids_of}
 
 abbrev pub number_of : CoreId → List ℕ
 number_of id = decimal id.number

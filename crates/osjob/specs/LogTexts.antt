@@ -19,7 +19,7 @@ abbrev pub IsLogOf : Plan → Result (List ℕ) Fault → List Item → Type 0
 IsLogOf plan (Ok text) items = IsLog plan text items
 IsLogOf plan (Err fault) items = ⊥
 
--- The fault of a log: that it is no text; that it says no items; or want of memory, of which nothing is said. [own]
+-- The fault of a log: that it is no text; that it says no items; or that memory ran out, which says nothing of it. [own]
 abbrev pub IsLogFault : Plan → Result (List ℕ) Fault → Fault → Type 0
 IsLogFault plan (Err no_text) fault = fault ≡ no_text
 IsLogFault plan (Ok text) BadLog = (items : List Item) → IsLog plan text items → ⊥

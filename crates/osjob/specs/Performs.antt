@@ -1,4 +1,4 @@
--- What a job comes to: what it prints, its status, and the fault that it tells. [own]
+-- The outcome of a job: what it prints, its status, and the fault that it reports. [own]
 use Rattle.std.specs.Prelude.{◌≡◌, ◌≢◌, ℕ, Bool, true, false, Option, Some, None, Result, Ok, Err, List, IsSome, IfErr}
 use Rattle.std.specs.Result.{IsOkAnd}
 use Rattle.osbase.specs.declared.items.CoreSet.{CoreSet}
@@ -12,11 +12,11 @@ use Rattle.osplan.specs.View.{core_of}
 use Rattle.osplan.specs.declared.faults.ConfFault.TheVariants.{NoMemory, NotSeparate, UnknownName}
 use Rattle.osseparate.specs.Separate.{cut_of, is_separate}
 use Rattle.osgroup.specs.Groups.{group_of, is_in_least_group}
-use Rattle.osdraft.specs.Meaning.{config_of, faults_of}
-use Rattle.osgiven.specs.Given.{schedule_faults, stimuli_faults}
+use Rattle.osload.specs.Meaning.{config_of, faults_of}
+use Rattle.osinput.specs.Given.{schedule_faults, stimuli_faults}
 use Rattle.ostrace.specs.declared.sinks.WriteFailed.{WriteFailed as SinkFailed}
 use Rattle.ostrace.specs.Taken.{Writes}
-use Rattle.osturn.specs.Ends.{have_all_ended}
+use Rattle.osrun.specs.Ends.{have_all_ended}
 use Rattle.osjob.specs.declared.faults.Fault.{Fault}
 use Rattle.osjob.specs.declared.faults.Fault.TheVariants.{MailBreak, NoMemoryToRun, NoThread, Text, WriteFailed}
 use Rattle.oscommand.specs.declared.jobs.Job.{Job}
@@ -84,7 +84,7 @@ IsThreadsOutput turns Trace files = IsReportOutput (IsThreaded turns files) None
 IsThreadsOutput turns (Log core) files = IsReportOutput (IsThreaded turns files) (Some core)
 IsThreadsOutput turns Order files = IsOrderOutput turns files
 
--- The log of a core that is not configured is asked for, which is the fault.
+-- The log of a core that is not configured is requested: a fault.
 abbrev pub HasNoItems : Plan → Option CoreId → Fault → Type 0
 HasNoItems plan items fault = (are_items_known plan items ≡ false) × (fault ≡ Text UnknownName)
 
@@ -190,7 +190,7 @@ pub record IsGroupsOutput (files : List File) (text : List ℕ) (outcome : Outco
 abbrev pub IsLeastGroup : Plan → CoreId → CoreSet → Type 0
 IsLeastGroup plan core group = (id : CoreId) → has_core group id ≡ is_in_least_group plan core id
 
--- The configuration of the core's least group by itself. [own]
+-- The configuration of the core's least group alone. [own]
 pub record IsGroupOutput (core : CoreId) (files : List File) (text : List ℕ) (outcome : Outcome) : Type 0 where
   pub plan : Plan
   pub config : Means config_of (text_at files 0) plan
@@ -216,7 +216,7 @@ pub record IsGroupOf (plan : Plan) (core : CoreId) (text : List ℕ) : Type 0 wh
 
 -- ---- any job
 
--- What a job prints, and how it ends then: with an outcome, or by a fault that is told behind the text.
+-- What a job prints, and how it ends then: with an outcome, or by a fault that is reported behind the text.
 abbrev pub IsOutput : Job → List File → List ℕ → Result Outcome Fault → Type 0
 IsOutput (Run config stimuli schedule items) files = NoFault (IsRunOutput (path_in schedule) items files)
 IsOutput (Check config) files = NoFault (IsCheckOutput files)
@@ -242,33 +242,33 @@ abbrev pub unless_refused : Result Unit SinkFailed → Result Outcome Fault → 
 unless_refused (Ok done) ending = ending
 unless_refused (Err refused) ending = Err WriteFailed
 
--- A text is printed: all of it, or a beginning of it up to the first write that fails. [own]
+-- A text is printed: all of it, or a prefix of it up to the first write that fails. [own]
 pub record Prints {S : Type 0} (taken : S → Option (List ℕ)) (failed : S → ℕ) (old new : S) (text : List ℕ)
     (ending result : Result Outcome Fault) : Type 0 where
   pub written : Result Unit SinkFailed
   pub writes : Writes taken failed old new text written
   pub result_is : result ≡ unless_refused written ending
 
--- There is an output, which is printed; or there is none, for a fault, and nothing is printed. [own]
-pub data Comes {S : Type 0} (taken : S → Option (List ℕ)) (failed : S → ℕ) (old new : S)
+-- An output is printed; or there is a fault, and nothing is printed. [own]
+pub data PrintsOrFaults {S : Type 0} (taken : S → Option (List ℕ)) (failed : S → ℕ) (old new : S)
     (Output : List ℕ → Result Outcome Fault → Type 0) (NoOutput : Fault → Type 0) (result : Result Outcome Fault) : Type 0 where
   prints : (text : List ℕ) (ending : Result Outcome Fault) → Output text ending → Prints taken failed old new text ending result →
-      Comes taken failed old new Output NoOutput result
-  fails : (fault : Fault) → result ≡ Err fault → NoOutput fault → new ≡ old → Comes taken failed old new Output NoOutput result
+      PrintsOrFaults taken failed old new Output NoOutput result
+  fails : (fault : Fault) → result ≡ Err fault → NoOutput fault → new ≡ old → PrintsOrFaults taken failed old new Output NoOutput result
 
--- A fault is told by its line, as far as it can be written, and nothing else is told. [own]
+-- A fault is reported by its line, as far as it can be written, and nothing else is reported. [own]
 abbrev pub Tells : {S : Type 0} → (S → Option (List ℕ)) → (S → ℕ) → S → S → Result Outcome Fault → Type 0
 Tells taken failed old new (Ok outcome) = new ≡ old
 Tells taken failed old new (Err fault) = (written : Result Unit SinkFailed) × Writes taken failed old new (fault_text fault) written
 
--- What files come to, of so many as there are: an output, which is printed, or a fault. [own]
+-- The outcome of files, as many as there are: an output, which is printed, or a fault. [own]
 pub record PrintsFrom {O : Type 0} (taken : O → Option (List ℕ)) (failed : O → ℕ) (old new : O)
     (Output : List ℕ → Result Outcome Fault → Type 0) (NoOutput : Fault → Type 0) (files : List File) (count : ℕ)
     (result : Result Outcome Fault) : Type 0 where
-  pub comes : Comes taken failed old new Output NoOutput result
+  pub comes : PrintsOrFaults taken failed old new Output NoOutput result
   pub asked : IfErr result (IsAsked count files)
 
--- What a run of these files comes to: its reports are printed, or there is a fault.
+-- The outcome of a run of these files: its reports are printed, or there is a fault.
 abbrev pub IsRunPrinted : {O : Type 0} → (O → Option (List ℕ)) → (O → ℕ) → O → O → Option (List ℕ) → Option CoreId → List File → ℕ →
     Result Outcome Fault → Type 0
 IsRunPrinted taken failed old new schedule items files count result =
@@ -280,12 +280,12 @@ abbrev pub IsThreadsPrinted : {O : Type 0} → (O → Option (List ℕ)) → (O 
 IsThreadsPrinted taken failed old new turns print files count result =
     PrintsFrom taken failed old new (NoFault (IsThreadsOutput turns print files)) (HasNoReports BreaksThreads None (logged_core print) files) files count result
 
--- What a job over these files comes to: it prints what it asks for, or has a fault. [own]
+-- The outcome of a job over these files: it prints what it names, or has a fault. [own]
 abbrev pub IsPrinted : {O : Type 0} → (O → Option (List ℕ)) → (O → ℕ) → O → O → Job → List File → ℕ → Result Outcome Fault → Type 0
 IsPrinted taken failed old new job files count result =
     PrintsFrom taken failed old new (IsOutput job files) (HasNoOutput job files) files count result
 
--- What a job comes to: what it prints, its status, and what is told of a fault. [own]
+-- The outcome of a job: what it prints, its status, and what it reports of a fault. [own]
 pub record Performs {O E : Type 0} (out_taken : O → Option (List ℕ)) (out_failed : O → ℕ) (old_out new_out : O)
     (err_taken : E → Option (List ℕ)) (err_failed : E → ℕ) (old_err new_err : E) (job : Job) (files : List File)
     (count status : ℕ) : Type 0 where

@@ -28,7 +28,7 @@ pub record SendsOff {S : Type 0} (taken sent : S → Option (List ℕ)) (failed 
   pub sends : Sends taken sent failed old new flushed
   pub result_is : result ≡ unless_refused flushed ending
 
--- What was printed is sent off, a fault is told, and the status is that of the outcome or of the fault. [own]
+-- What was printed is sent off, a fault is reported, and the status is that of the outcome or of the fault. [own]
 pub record Closes {O E : Type 0} (out_taken out_sent : O → Option (List ℕ)) (out_failed : O → ℕ) (old_out new_out : O)
     (err_taken : E → Option (List ℕ)) (err_failed : E → ℕ) (old_err new_err : E) (ending : Result Outcome Fault)
     (status : ℕ) : Type 0 where
@@ -53,18 +53,18 @@ pub record DoesJob {O E : Type 0} (out_taken out_sent : O → Option (List ℕ))
   pub prints : PrintsJob out_taken out_failed old_out printed job result
   pub closes : Closes out_taken out_sent out_failed printed new_out err_taken err_failed old_err new_err result status
 
--- A mistake in the words is told by a text, as far as it can be written, and the status is 2. [own]
+-- A mistake in the words is reported by a text, as far as it can be written, and the status is 2. [own]
 pub record IsMistaken {S : Type 0} (taken : S → Option (List ℕ)) (failed : S → ℕ) (old new : S) (text : List ℕ)
     (status : ℕ) : Type 0 where
   pub written : Result Unit SinkFailed
   pub writes : Writes taken failed old new text written
   pub status_is : status ≡ 2
 
--- What is told where a word is no text. [own]
+-- The report of a word that is no text. [own]
 abbrev pub no_text : List ℕ
 no_text = codes "error: a word of the command line is not UTF-8\n"
 
--- Help or the version is asked for.
+-- The words request help or the version.
 abbrev pub is_request : ErrorKind → Bool
 is_request DisplayHelp = true
 is_request DisplayVersion = true
@@ -72,7 +72,7 @@ is_request _ = false
 
 module _ {O E : Type 0} (out_taken out_sent : O → Option (List ℕ)) (out_failed : O → ℕ) (old_out new_out : O)
     (err_taken : E → Option (List ℕ)) (err_failed : E → ℕ) (old_err new_err : E) where
-  -- Words that ask for no job: help or the version is printed as a job's text is, or a mistake is told and nothing printed, each
+  -- Words that name no job: help or the version is printed as a job's text is, or a mistake is reported and nothing printed, each
   -- in some text; or memory was wanting. [own]
   pub data Refuses (kind : ErrorKind) (status : ℕ) : Type 0 where
     shows : is_request kind ≡ true → (text : List ℕ) (printed : O) (result : Result Outcome Fault) →
@@ -84,13 +84,13 @@ module _ {O E : Type 0} (out_taken out_sent : O → Option (List ℕ)) (out_fail
     has_no_memory : Closes out_taken out_sent out_failed old_out new_out err_taken err_failed old_err new_err
         (Err (Text NoMemory)) status → Refuses kind status
 
-  -- The words ask for a job, which is done; or for none, by a kind of error that they have. [own]
+  -- The words name a job, and it is done; or none, with an error of some kind. [own]
   pub data Obeys (words : List (List ℕ)) (status : ℕ) : Type 0 where
     does : (job : Job) → AsksFor words job →
         DoesJob out_taken out_sent out_failed old_out new_out err_taken err_failed old_err new_err job status → Obeys words status
     refuses : (error : Error) → FailsByWords words (Err error) → Refuses (kind_of error) status → Obeys words status
 
-  -- What the words come to, or that they could not be read. [own]
+  -- The outcome of the words, or that they could not be read. [own]
   abbrev pub Answers : Result (List (List ℕ)) NoWords → ℕ → Type 0
   Answers (Ok words) status = Obeys words status
   Answers (Err none.NoMemory) status = Closes out_taken out_sent out_failed old_out new_out err_taken err_failed old_err new_err

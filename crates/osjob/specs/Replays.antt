@@ -3,12 +3,12 @@ use Rattle.std.specs.Prelude.{◌≡◌, ◌≢◌, ℕ, Result, Ok, Err, List, 
 use Rattle.osbase.specs.declared.items.Item.{Item}
 use Rattle.osbase.specs.declared.references.CoreId.{CoreId}
 use Rattle.osbase.specs.declared.turns.Report.{Report}
-use Rattle.osdraft.specs.Meaning.{config_of, faults_of}
+use Rattle.osload.specs.Meaning.{config_of, faults_of}
 use Rattle.osplan.specs.declared.faults.ConfFault.TheVariants.{NoMemory}
 use Rattle.osplan.specs.declared.plans.Plan.{Plan}
 use Rattle.osplan.specs.View.{core_of}
 use Rattle.osreplay.specs.Replays.{IsRefused, IsReplayed}
-use Rattle.ostext.specs.Trace.{block_of}
+use Rattle.ostrace_text.specs.Trace.{block_of}
 use Rattle.osjob.specs.LogTexts.{IsLogFault, IsLogOf, IsUnknownCore, log_at}
 use Rattle.osjob.specs.Texts.{File, IsFaultOf, Means, text_at}
 use Rattle.osjob.specs.declared.faults.Fault.{Fault}
@@ -17,7 +17,7 @@ use Rattle.osjob.specs.declared.outcomes.Outcome.{Outcome}
 use Rattle.osjob.specs.declared.outcomes.Outcome.TheVariants.{Done}
 
 -- Items that a core may take one after another give its block; where it may not take one of them, they give the block of the
--- items before, and the fault that tells which it is. [own]
+-- items before, and the fault that names it. [own]
 abbrev pub EndsAt : Plan → CoreId → List Item → Report → Result Outcome Fault → Type 0
 EndsAt plan core items report (Ok outcome) = IsReplayed plan core items report × (outcome ≡ Done)
 EndsAt plan core items report (Err (ItemRefused number)) = IsRefused plan core items number report
@@ -37,7 +37,7 @@ pub record IsReplayOutput (core : CoreId) (files : List File) (text : List ℕ) 
   pub log : IsLogOf plan (log_at files 1) items
   pub replays : Replays plan core items text ending
 
--- The fault of the configuration; that the core is not in it; the fault of the log; or want of memory in the replay. [own]
+-- The fault of the configuration; that the core is not in it; the fault of the log; or that memory ran out in the replay. [own]
 pub data IsReplayFault (core : CoreId) (files : List File) (fault : Fault) : Type 0 where
   in_config : IsFaultOf faults_of (text_at files 0) fault → IsReplayFault core files fault
   in_core : (plan : Plan) → Means config_of (text_at files 0) plan → IsUnknownCore plan core fault → IsReplayFault core files fault

@@ -1,4 +1,4 @@
--- What the files of a run come to: its reports, and what is printed of them. [own]
+-- The reports of a run over its files, and what is printed of them. [own]
 use Rattle.std.specs.Prelude.{ℕ, ◌≡◌, ◌≤◌, ◌⊎◌, max, Bool, true, false, Option, Some, None, is_some, List, [], ◌++◌, codes, find, length, map}
 use Rattle.std.specs.Option.{option_map_or}
 use Rattle.osbase.specs.History.{same_core}
@@ -12,12 +12,12 @@ use Rattle.osbase.specs.declared.turns.Report.{Report}
 use Rattle.osplan.specs.declared.plans.Plan.{Plan}
 use Rattle.oscommand.specs.declared.jobs.Print.{Print}
 use Rattle.oscommand.specs.declared.jobs.Print.TheVariants.{Trace, Log, Order}
-use Rattle.osdraft.specs.Meaning.{config_of}
-use Rattle.osgiven.specs.Given.{schedule_meant, stimuli_meant}
-use Rattle.ostext.specs.Trace.{text_of}
+use Rattle.osload.specs.Meaning.{config_of}
+use Rattle.osinput.specs.Given.{schedule_of_text, stimuli_of_text}
+use Rattle.ostrace_text.specs.Trace.{text_of}
 use Rattle.ostrace.specs.Schedules.{schedule_text}
-use Rattle.osturn.specs.Ends.{have_all_ended}
-use Rattle.osturn.specs.Sound.{AreSound, unclocked}
+use Rattle.osrun.specs.Ends.{have_all_ended}
+use Rattle.osrun.specs.Sound.{AreSound, unclocked}
 use Rattle.osthreads.specs.Runs.{AreFinished}
 use Rattle.osworld.specs.Runs.{AreReports, IsDefaultRun}
 use Rattle.osjob.specs.Texts.{File, Means, text_at}
@@ -25,7 +25,7 @@ use Rattle.osjob.specs.Texts.{File, Means, text_at}
 -- The files mean this configuration and these stimuli for it. [own]
 pub record IsGiven (files : List File) (plan : Plan) (stimuli : List CoreStimuli) : Type 0 where
   pub config : Means config_of (text_at files 0) plan
-  pub listed : Means (stimuli_meant plan) (text_at files 1) stimuli
+  pub listed : Means (stimuli_of_text plan) (text_at files 1) stimuli
 
 -- No file is read after one with a fault: beyond the files that were read before, there are at most the configuration;
 -- the stimuli or the log, where the configuration has a meaning; and the schedule, where both have one. [own]
@@ -37,10 +37,10 @@ pub data StopsAtFaults (before : ℕ) (files : List File) : Type 0 where
 
 -- What was read of a source until it was let go: this came of the files, none was read behind one with a fault, and at most so
 -- many, beyond those that were read before. [own]
-pub record UsesUp {S : Type 0} (files : S → List File) (known : S → Option (List File)) (source : S) (most : ℕ)
-    (Comes : List File → Type 0) : Type 0 where
+pub record Consumes {S : Type 0} (files : S → List File) (known : S → Option (List File)) (source : S) (most : ℕ)
+    (PrintsOrFaults : List File → Type 0) : Type 0 where
   pub last : S
-  pub comes : Comes (files last)
+  pub comes : PrintsOrFaults (files last)
   pub stops : StopsAtFaults (length (files source)) (files last)
   pub named : length (files last) ≤ max (length (files source)) most
   pub known_is : known last ≡ known source
@@ -49,7 +49,7 @@ pub record UsesUp {S : Type 0} (files : S → List File) (known : S → Option (
 abbrev pub AreListed : Option (List ℕ) → List File → Plan → Option (List (CoreId × Choice)) → Type 0
 AreListed None files plan turns = turns ≡ None
 AreListed (Some path) files plan None = ⊥
-AreListed (Some path) files plan (Some turns) = Means (schedule_meant plan) (text_at files 2) turns
+AreListed (Some path) files plan (Some turns) = Means (schedule_of_text plan) (text_at files 2) turns
 
 -- The files mean these stimuli and turns for this configuration. [own]
 pub record IsInput (schedule : Option (List ℕ)) (files : List File) (plan : Plan) (stimuli : List CoreStimuli)

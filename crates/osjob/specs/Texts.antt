@@ -1,4 +1,4 @@
--- A job's files as texts, and what a text comes to: a meaning, or the least of its faults. [own]
+-- A job's files as texts, and the outcome of a text: a meaning, or the least of its faults. [own]
 use Rattle.std.specs.Prelude.{◌≡◌, ◌<◌, ◌≤◌, ◌⊎◌, ℕ, if◌then◌else◌, Option, Some, None, option_map, option_and_then, Result, Ok, Err, List, length, slice_get, Vec}
 use Rattle.std.specs.List.{Contains}
 use Rattle.std.specs.Str.{is_utf8}

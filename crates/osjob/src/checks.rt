@@ -4,9 +4,9 @@
 ghost use Rattle.std.specs.Prelude.{◌≡◌, ◌<◌, ◌≤◌, ◌^◌, ◌++◌, IfErr, IfOk, codes, length, max, string_bytes};
 ghost use Rattle.std.specs.List.{flat_map};
 ghost use Rattle.ostrace.specs.Taken.{Writes};
-ghost use Rattle.osturn.specs.Fits.{ids_of};
+ghost use Rattle.osrun.specs.Fits.{ids_of};
 ghost use Rattle.osjob.specs.Checks.{check_text, core_text, line_at, standing_line, standing_word};
-ghost use Rattle.osjob.specs.Performs.{Comes, HasNoConfig, HasNoCut, IsCheckOutput, IsCutOf, IsCutOutput, IsNotCut, NoFault};
+ghost use Rattle.osjob.specs.Performs.{PrintsOrFaults, HasNoConfig, HasNoCut, IsCheckOutput, IsCutOf, IsCutOutput, IsNotCut, NoFault};
 ghost use Rattle.osjob.specs.Texts.{IsAsked};
 
 use crate::faults::Fault;
@@ -14,7 +14,7 @@ use crate::outcomes::Outcome;
 use crate::readings::config_in;
 use crate::sources::Source;
 use osbase::{CORE_NUMBERS, CoreId};
-use osconf::{Config, Standing, config_text, cut, standing_of};
+use osconf::{Config, Coupling, config_text, coupling_of, cut};
 use ostrace::{Sink, Word, WriteFailed, write_all, write_ended_words};
 use std::alloc::Global;
 
@@ -25,7 +25,7 @@ pub fn check<S: Source, O: Sink>(
     out: &mut O,
 ) -> Result<Outcome, Fault>
     requires { O.failed out.old < 2 ^ 48 }
-    ensures comes { Comes O.taken O.failed out.old out.new (NoFault (IsCheckOutput (S.files source.new)))
+    ensures comes { PrintsOrFaults O.taken O.failed out.old out.new (NoFault (IsCheckOutput (S.files source.new)))
         (HasNoConfig (S.files source.new)) result }
     ensures ahead { length (S.files source.new) ≤ max (length (S.files source.old)) 1 }
     ensures asked { IfErr result (IsAsked (S.count source.new) (S.files source.new)) }
@@ -63,10 +63,10 @@ fn write_standing<O: Sink>(config: &Config, out: &mut O, core: CoreId) -> Result
     if config.plan().core(core).is_none() {
         return Ok(());
     }
-    write_core(out, core, standing_of(config, core))
+    write_core(out, core, coupling_of(config, core))
 }
 
-fn write_core<O: Sink>(out: &mut O, core: CoreId, standing: Standing) -> Result<(), WriteFailed>
+fn write_core<O: Sink>(out: &mut O, core: CoreId, standing: Coupling) -> Result<(), WriteFailed>
     requires { O.failed out.old < 2 ^ 48 }
     ensures { Writes O.taken O.failed out.old out.new (core_text core standing) result }
 {
@@ -74,13 +74,13 @@ fn write_core<O: Sink>(out: &mut O, core: CoreId, standing: Standing) -> Result<
     write_ended_words(out, "core", &[number, Word::Text(word_of(standing))])
 }
 
-fn word_of(standing: Standing) -> &'static str
+fn word_of(standing: Coupling) -> &'static str
     ensures { result.now ≡ standing_word standing }
 {
     match standing {
-        Standing::Separate => "separate",
-        Standing::Bound => "bound",
-        Standing::Off => "off",
+        Coupling::Separate => "separate",
+        Coupling::Bound => "bound",
+        Coupling::Off => "off",
     }
 }
 
@@ -92,7 +92,7 @@ pub fn cut_out<S: Source, O: Sink>(
     out: &mut O,
 ) -> Result<Outcome, Fault>
     requires { O.failed out.old < 2 ^ 48 }
-    ensures comes { Comes O.taken O.failed out.old out.new (NoFault (IsCutOutput core (S.files source.new)))
+    ensures comes { PrintsOrFaults O.taken O.failed out.old out.new (NoFault (IsCutOutput core (S.files source.new)))
         (HasNoCut core (S.files source.new)) result }
     ensures ahead { length (S.files source.new) ≤ max (length (S.files source.old)) 1 }
     ensures asked { IfErr result (IsAsked (S.count source.new) (S.files source.new)) }

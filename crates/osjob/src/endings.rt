@@ -12,7 +12,7 @@ use crate::outputs::Output;
 use itoa::Buffer;
 use ostrace::{Sink, Word, WriteFailed, write_ended_words};
 
-/// Sends off what was printed, also before a fault is told, and then tells the fault. Answers the exit status.
+/// Sends off what was printed, also before a fault is reported, and then reports the fault. Returns the exit status.
 pub fn close<O: Output, E: Sink>(ending: Result<Outcome, Fault>, out: &mut O, err: &mut E) -> u8
     requires out { O.failed out.old ≤ 2 ^ 48 }
     requires err { E.failed err.old < 2 ^ 48 }

@@ -10,7 +10,7 @@ use std::fs::File;
 use std::io::Read;
 use std::rt::Files;
 
-/// How many bytes are read of a file: where more follows, that is answered as want of memory.
+/// How many bytes are read of a file: where more follows, that counts as out of memory.
 pub const LARGEST: usize = 1 << 30;
 
 /// How many bytes are read at once.
@@ -23,7 +23,7 @@ pub enum Reading {
     Unreadable,
 }
 
-/// Reads a whole file. Where more follows after `LARGEST` bytes, that is answered as want of memory, so
+/// Reads a whole file. Where more follows after `LARGEST` bytes, that counts as out of memory, so
 /// that a stream without an end ends.
 pub fn read_file<R: Files + AllocGlobal>(rt: &R, path: &str) -> Result<Reading, AllocError>
     ensures { IfOk result (HasFewerThan (LARGEST + PIECE)) }
@@ -48,7 +48,7 @@ pub fn read_file<R: Files + AllocGlobal>(rt: &R, path: &str) -> Result<Reading, 
     Ok(Reading::Bytes(bytes))
 }
 
-/// The files at paths, of which none is opened before it is asked for.
+/// The files at paths. None is opened before it is needed.
 #[derive(Drop)]
 pub struct Paths<'r, 'p, R> {
     rt: &'r R,

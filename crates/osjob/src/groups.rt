@@ -1,4 +1,4 @@
-//! `groups` and `group`: the least group of each core, and the configuration of one by itself.
+//! `groups` and `group`: the least group of each core, and the configuration of one alone.
 
 ghost use Rattle.std.specs.Prelude.{◌≡◌, ◌<◌, ◌≤◌, ◌^◌, IfErr, IfOk, filter, length, max, string_bytes};
 ghost use Rattle.std.specs.List.{flat_map};
@@ -6,7 +6,7 @@ ghost use Rattle.osbase.specs.Sets.{core_ids, has_core};
 ghost use Rattle.osplan.specs.declared.faults.ConfFault.TheVariants.{NoMemory};
 ghost use Rattle.ostrace.specs.Taken.{Writes};
 ghost use Rattle.osjob.specs.Groups.{group_at, group_head, group_line, groups_text, number_at, number_word};
-ghost use Rattle.osjob.specs.Performs.{Comes, HasNoConfig, HasNoGroup, IsGroupOf, IsGroupOutput, IsGroupsOutput, NoFault};
+ghost use Rattle.osjob.specs.Performs.{PrintsOrFaults, HasNoConfig, HasNoGroup, IsGroupOf, IsGroupOutput, IsGroupsOutput, NoFault};
 ghost use Rattle.osjob.specs.Texts.{IsAsked};
 
 use crate::checks::write_line;
@@ -28,7 +28,7 @@ pub fn groups_out<S: Source, O: Sink>(
     out: &mut O,
 ) -> Result<Outcome, Fault>
     requires { O.failed out.old < 2 ^ 48 }
-    ensures comes { Comes O.taken O.failed out.old out.new (NoFault (IsGroupsOutput (S.files source.new)))
+    ensures comes { PrintsOrFaults O.taken O.failed out.old out.new (NoFault (IsGroupsOutput (S.files source.new)))
         (HasNoConfig (S.files source.new)) result }
     ensures ahead { length (S.files source.new) ≤ max (length (S.files source.old)) 1 }
     ensures asked { IfErr result (IsAsked (S.count source.new) (S.files source.new)) }
@@ -110,7 +110,7 @@ fn write_number<O: Sink>(out: &mut O, core: CoreId) -> Result<(), WriteFailed>
     write_all(out, digits.format(core.number).as_bytes())
 }
 
-/// Prints the configuration of a core's least group by itself.
+/// Prints the configuration of a core's least group alone.
 pub fn group_out<S: Source, O: Sink>(
     alloc: Global,
     core: CoreId,
@@ -118,7 +118,7 @@ pub fn group_out<S: Source, O: Sink>(
     out: &mut O,
 ) -> Result<Outcome, Fault>
     requires { O.failed out.old < 2 ^ 48 }
-    ensures comes { Comes O.taken O.failed out.old out.new (NoFault (IsGroupOutput core (S.files source.new)))
+    ensures comes { PrintsOrFaults O.taken O.failed out.old out.new (NoFault (IsGroupOutput core (S.files source.new)))
         (HasNoGroup core (S.files source.new)) result }
     ensures ahead { length (S.files source.new) ≤ max (length (S.files source.old)) 1 }
     ensures asked { IfErr result (IsAsked (S.count source.new) (S.files source.new)) }

@@ -3,8 +3,8 @@
 ghost use Rattle.std.specs.Prelude.{◌≡◌, ◌<◌, ◌^◌, IfOk, string_bytes};
 ghost use Rattle.std.specs.List.{AllByRecursion};
 ghost use Rattle.osplan.specs.Stimuli.{AreKnown};
-ghost use Rattle.osturn.specs.Sound.{IsOwn};
-ghost use Rattle.osjob.specs.Performs.{Comes, IsOrderPrinted};
+ghost use Rattle.osrun.specs.Sound.{IsOwn};
+ghost use Rattle.osjob.specs.Performs.{PrintsOrFaults, IsOrderPrinted};
 ghost use Rattle.osjob.specs.Runs.{order_line};
 
 use crate::faults::Fault;
@@ -27,7 +27,7 @@ pub fn print_order<O: Sink>(
     requires sink { O.failed out.old < 2 ^ 48 }
     requires known { AreKnown config.now stimuli.now }
     requires own { AllByRecursion (IsOwn config.now) reports.now }
-    ensures { Comes O.taken O.failed out.old out.new (IsOrderPrinted config.now stimuli.now reports.now)
+    ensures { PrintsOrFaults O.taken O.failed out.old out.new (IsOrderPrinted config.now stimuli.now reports.now)
         (λ fault. fault ≡ Fault.NoMemoryToRun) result }
 {
     let Ok(line) = order_line(alloc, order(alloc, config, stimuli, reports)) else {

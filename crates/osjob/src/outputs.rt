@@ -7,7 +7,7 @@ ghost use Rattle.osjob.specs.Outputs.{Sends};
 use ostrace::{MemorySink, Sink, WriteFailed, WriteSink};
 use std::io::{BufWriter, Write};
 
-/// A sink that may gather what it takes, and sends it off when it is told to.
+/// A sink that may gather what it takes, and sends it off at a flush.
 pub trait Output: Sink {
     // The bytes that have left it, or `None` where its type does not say.
     ghost sent: { Self → Option (List ℕ) };

@@ -3,7 +3,7 @@
 ghost use Rattle.std.specs.Prelude.{◌<◌, ◌^◌, length};
 ghost use Rattle.oscommand.specs.Jobs.{paths_of};
 ghost use Rattle.osjob.specs.Performs.{IsPrinted, Performs};
-ghost use Rattle.osjob.specs.Runs.{UsesUp};
+ghost use Rattle.osjob.specs.Runs.{Consumes};
 
 use crate::checks::{check, cut_out};
 use crate::endings::tell;
@@ -21,7 +21,7 @@ use std::sync::Wait;
 use std::thread::Threads;
 
 /// Does the job over its files' bytes, one entry for each of its paths, `None` where the file could not be
-/// read; prints to `out`, tells a fault by its line to `err`, and answers the exit status: 0 done, 1 fault,
+/// read; prints to `out`, reports a fault by its line to `err`, and returns the exit status: 0 done, 1 fault,
 /// 3 stalled. A run by threads may wait.
 pub fn perform<R: Threads + Wait + Sync, O: Sink, E: Sink>(
     rt: &R,
@@ -51,7 +51,7 @@ pub fn print_from<R: Threads + Wait + Sync, S: Source + Drop, O: Sink>(
     out: &mut O,
 ) -> Result<Outcome, Fault>
     requires { O.failed out.old < 2 ^ 48 }
-    ensures { UsesUp S.files S.known source (length (paths_of job.now))
+    ensures { Consumes S.files S.known source (length (paths_of job.now))
         (λ files. IsPrinted O.taken O.failed out.old out.new job.now files (S.count source) result) }
 {
     match job {

@@ -43,7 +43,7 @@ impl From<AllocError> for NoWords {
     }
 }
 
-/// Does the job that the words ask for, the program's name first: prints to `out` and sends that off, tells a
+/// Does the job that the words name, the program's name first: prints to `out` and sends that off, reports a
 /// fault or a mistake in the words to `err`, and answers the exit status.
 pub fn answer<R: Files + AllocGlobal + Threads + Wait + Sync, S: AsStr + Drop, O: Output, E: Sink>(
     rt: &R,
@@ -97,7 +97,7 @@ fn print_job<R: Files + AllocGlobal + Threads + Wait + Sync, O: Sink>(
     print_from(rt, rt.alloc(), job, Paths::new(rt, paths), out)
 }
 
-// Prints the help or the version that is asked for in place of a job, or tells a mistake in the words, each in
+// Prints the help or the version that the words request in place of a job, or reports a mistake in the words, each in
 // `clap`'s text.
 fn refuse<O: Output, E: Sink>(alloc: Global, error: &Error, out: &mut O, err: &mut E) -> u8
     requires out { O.failed out.old < 2 ^ 48 }
@@ -115,7 +115,7 @@ fn refuse<O: Output, E: Sink>(alloc: Global, error: &Error, out: &mut O, err: &m
     }
 }
 
-// Help or the version is asked for.
+// The words request help or the version.
 fn is_request(kind: ErrorKind) -> bool
     ensures { result ≡ is_request kind }
 {

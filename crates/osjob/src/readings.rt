@@ -4,8 +4,8 @@ ghost use Rattle.std.specs.Prelude.{◌≡◌, ◌≢◌, ◌<◌, ◌≤◌, If
 ghost use Rattle.std.specs.Result.{result_map_both};
 ghost use Rattle.osplan.specs.Stimuli.{AreKnown};
 ghost use Rattle.osplan.specs.declared.faults.ConfFault.TheVariants.{NoMemory};
-ghost use Rattle.osgiven.specs.Given.{schedule_faults, schedule_meant, stimuli_faults, stimuli_meant};
-ghost use Rattle.osdraft.specs.Meaning.{config_of, faults_of};
+ghost use Rattle.osinput.specs.Given.{schedule_faults, schedule_of_text, stimuli_faults, stimuli_of_text};
+ghost use Rattle.osload.specs.Meaning.{config_of, faults_of};
 ghost use Rattle.osjob.specs.Texts.{IsAsked, IsFaultOf, KeepsBelow, Means, bytes_at, text_at, text_or};
 ghost use Rattle.osplan.specs.View.{core_of};
 ghost use Rattle.osjob.specs.LogTexts.{IsLogFault, IsLogOf, IsUnknownCore, log_at};
@@ -43,7 +43,7 @@ pub fn stimuli_in<S: Source>(
     source: &mut S,
 ) -> Result<Stimuli, Fault>
     requires { 1 ≤ length (S.files source.old) }
-    ensures ok { IfOk result (λ stimuli. Means (stimuli_meant config.now) (text_at (S.files source.new) 1) stimuli) }
+    ensures ok { IfOk result (λ stimuli. Means (stimuli_of_text config.now) (text_at (S.files source.new) 1) stimuli) }
     ensures stimuli { IfOk result (AreKnown config.now) }
     ensures fault { IfErr result (λ fault. fault ≢ Fault.Text NoMemory
         → IsFaultOf (stimuli_faults config.now) (text_at (S.files source.new) 1) fault) }
@@ -65,7 +65,7 @@ pub fn schedule_in<S: Source>(
     source: &mut S,
 ) -> Result<Schedule, Fault>
     requires { 2 ≤ length (S.files source.old) }
-    ensures ok { IfOk result (λ schedule. Means (schedule_meant config.now) (text_at (S.files source.new) 2) schedule) }
+    ensures ok { IfOk result (λ schedule. Means (schedule_of_text config.now) (text_at (S.files source.new) 2) schedule) }
     ensures fault { IfErr result (λ fault. fault ≢ Fault.Text NoMemory
         → IsFaultOf (schedule_faults config.now) (text_at (S.files source.new) 2) fault) }
     ensures ahead { length (S.files source.new) ≤ max (length (S.files source.old)) 3 }

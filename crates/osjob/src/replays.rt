@@ -1,9 +1,9 @@
-//! Replaying a log: one core by itself, and its block.
+//! Replaying a log: one core alone, and its block.
 
 ghost use Rattle.std.specs.Prelude.{◌≡◌, ◌<◌, ◌≤◌, ◌^◌, IfErr, IsSome, Ok, Result, length, max};
-ghost use Rattle.ostext.specs.Trace.{block_of};
+ghost use Rattle.ostrace_text.specs.Trace.{block_of};
 ghost use Rattle.osplan.specs.View.{core_of};
-ghost use Rattle.osjob.specs.Performs.{Comes, Prints};
+ghost use Rattle.osjob.specs.Performs.{PrintsOrFaults, Prints};
 ghost use Rattle.osjob.specs.Replays.{HasNoReplay, IsReplayOutput, Replays};
 ghost use Rattle.osjob.specs.Runs.{StopsAtFaults};
 ghost use Rattle.osjob.specs.Texts.{IsAsked};
@@ -19,7 +19,7 @@ use ostrace::{Sink, write_reports};
 use std::alloc::Global;
 use std::slice;
 
-/// Plays the core by itself with the items of its log, the second file, and prints its block. Where an item may not be
+/// Plays the core alone with the items of its log, the second file, and prints its block. Where an item may not be
 /// taken, that is the fault behind the block of the items before.
 pub fn replay_out<S: Source, O: Sink>(
     alloc: Global,
@@ -28,7 +28,7 @@ pub fn replay_out<S: Source, O: Sink>(
     out: &mut O,
 ) -> Result<Outcome, Fault>
     requires { O.failed out.old < 2 ^ 48 }
-    ensures comes { Comes O.taken O.failed out.old out.new (IsReplayOutput core (S.files source.new))
+    ensures comes { PrintsOrFaults O.taken O.failed out.old out.new (IsReplayOutput core (S.files source.new))
         (HasNoReplay core (S.files source.new)) result }
     ensures stops { StopsAtFaults (length (S.files source.old)) (S.files source.new) }
     ensures ahead { length (S.files source.new) ≤ max (length (S.files source.old)) 2 }
@@ -52,7 +52,7 @@ fn play<O: Sink>(
 ) -> Result<Outcome, Fault>
     requires sink { O.failed out.old < 2 ^ 48 }
     requires core { IsSome (core_of config.now core) }
-    ensures { Comes O.taken O.failed out.old out.new (Replays config.now core items.now)
+    ensures { PrintsOrFaults O.taken O.failed out.old out.new (Replays config.now core items.now)
         (λ fault. fault ≡ Fault.NoMemoryToRun) result }
 {
     match replay(alloc, config, core, items) {

@@ -4,12 +4,12 @@ ghost use Rattle.std.specs.Prelude.{◌≡◌, ◌+◌, ◌<◌, ◌^◌, ◌++�
 ghost use Rattle.osbase.specs.History.{same_core};
 ghost use Rattle.osbase.specs.declared.turns.Report.{Report as ReportValue};
 ghost use Rattle.ostrace.specs.Taken.{Writes};
-ghost use Rattle.ostext.specs.Trace.{text_of};
+ghost use Rattle.ostrace_text.specs.Trace.{text_of};
 ghost use Rattle.osplan.specs.Stimuli.{AreKnown};
-ghost use Rattle.osturn.specs.Ends.{have_all_ended};
+ghost use Rattle.osrun.specs.Ends.{have_all_ended};
 ghost use Rattle.oscommand.specs.Jobs.{listed, path_in};
-ghost use Rattle.osjob.specs.Performs.{Comes, HasNoItems, IsReported, IsRunPrinted, IsRead, Prints, outcome_of};
-ghost use Rattle.osjob.specs.Runs.{AreOfTurns, UsesUp, are_items_known, items_in, last_line, run_text};
+ghost use Rattle.osjob.specs.Performs.{PrintsOrFaults, HasNoItems, IsReported, IsRunPrinted, IsRead, Prints, outcome_of};
+ghost use Rattle.osjob.specs.Runs.{AreOfTurns, Consumes, are_items_known, items_in, last_line, run_text};
 
 use crate::faults::Fault;
 use crate::outcomes::Outcome;
@@ -33,7 +33,7 @@ pub fn run<S: Source + Drop, O: Sink>(
     out: &mut O,
 ) -> Result<Outcome, Fault>
     requires { O.failed out.old < 2 ^ 48 }
-    ensures { UsesUp S.files S.known source (2 + length (listed (path_in schedule.entry)))
+    ensures { Consumes S.files S.known source (2 + length (listed (path_in schedule.entry)))
         (λ files. IsRunPrinted O.taken O.failed out.old out.new (path_in schedule.entry) items files (S.count source) result) }
 {
     let (config, stimuli, turns) = input_of(alloc, schedule, items, source)?;
@@ -52,7 +52,7 @@ pub fn input_of<S: Source + Drop>(
     items: Option<CoreId>,
     mut source: S,
 ) -> Result<Input, Fault>
-    ensures input { UsesUp S.files S.known source (2 + length (listed (path_in schedule.entry)))
+    ensures input { Consumes S.files S.known source (2 + length (listed (path_in schedule.entry)))
         (λ files. IsRead (path_in schedule.entry) items files (S.count source) result) }
     ensures known { IfOk result (λ input. AreKnown input.0 input.1) }
 {
@@ -103,7 +103,7 @@ pub fn print_reports<O: Sink>(
     reports: &[Report],
 ) -> Result<Outcome, Fault>
     requires { O.failed out.old < 2 ^ 48 }
-    ensures { Comes O.taken O.failed out.old out.new (IsReported config.now reports.now items)
+    ensures { PrintsOrFaults O.taken O.failed out.old out.new (IsReported config.now reports.now items)
         (λ fault. fault ≡ Fault.NoMemoryToRun) result }
 {
     match items {
@@ -132,7 +132,7 @@ fn print_log<O: Sink>(
     reports: &[Report],
 ) -> Result<Outcome, Fault>
     requires { O.failed out.old < 2 ^ 48 }
-    ensures { Comes O.taken O.failed out.old out.new (IsReported config.now reports.now (Some core))
+    ensures { PrintsOrFaults O.taken O.failed out.old out.new (IsReported config.now reports.now (Some core))
         (λ fault. fault ≡ Fault.NoMemoryToRun) result }
 {
     let text = items_text(alloc, config, items_of(reports, core))?;

@@ -5,7 +5,7 @@ ghost use Rattle.osjob.specs.Texts.{File, KeepsBelow, bytes_at};
 
 use std::alloc::AllocError;
 
-/// The files of a job in the order in which they are judged, each read when it is asked for.
+/// The files of a job in the order in which they are judged, each read when it is needed.
 pub trait Source {
     // The files as far as they are read.
     ghost files: { Self → List File };

@@ -2,7 +2,7 @@
 
 ghost use Rattle.std.specs.Prelude.{◌≡◌, ◌<◌, ◌^◌};
 ghost use Rattle.osjob.specs.Performs.{IsThreadsPrinted};
-ghost use Rattle.osjob.specs.Runs.{UsesUp, logged_core};
+ghost use Rattle.osjob.specs.Runs.{Consumes, logged_core};
 
 use crate::faults::Fault;
 use crate::orders::print_order;
@@ -38,7 +38,7 @@ struct Fruitless {
 }
 
 impl Yielding {
-    /// The gate of a run of so many cores. A core's round serves each other one, goes on with its own work, and looks at the
+    /// The gate of a run of so many cores. A core's round serves each other one, does its own work, and looks at the
     /// board.
     pub fn new(cores: usize) -> Self {
         Yielding {
@@ -83,7 +83,7 @@ impl Gate for Yielding {
     }
 }
 
-/// Runs each core of the source's files on a thread of its own and prints what is asked for. The cores' mail is of this
+/// Runs each core of the source's files on a thread of its own and prints what the job names. The cores' mail is of this
 /// kind. A core gives up once so many turns in a row changed nothing. The files' bytes are let go before the run begins.
 pub fn run_by_threads<R: Threads + Wait + Sync, S: Source + Drop, O: Sink>(
     rt: &R,
@@ -95,7 +95,7 @@ pub fn run_by_threads<R: Threads + Wait + Sync, S: Source + Drop, O: Sink>(
     out: &mut O,
 ) -> Result<Outcome, Fault>
     requires { O.failed out.old < 2 ^ 48 }
-    ensures { UsesUp S.files S.known source 2
+    ensures { Consumes S.files S.known source 2
         (λ files. IsThreadsPrinted O.taken O.failed out.old out.new turns print files (S.count source) result) }
 {
     let (config, stimuli, _) = input_of(alloc, None, logged_core(print), source)?;

@@ -4,7 +4,7 @@ ghost use Rattle.std.specs.Prelude.{◌≡◌, ℕ, ◌<◌, ◌≤◌, ◌^◌,
 ghost use Rattle.std.specs.List.{All, Contains};
 ghost use Rattle.osbase.specs.declared.histories.Job.{Job as JobValue};
 ghost use Rattle.osbase.specs.declared.references.Runner.{Runner as RunnerValue};
-ghost use Rattle.osbase.specs.History.{Took, Printed, Noted, Taken, Given, Locked, Unlocked, Done, giving_way_after, gives_way, job_count};
+ghost use Rattle.osbase.specs.History.{Took, Printed, Noted, ResourceOccupied, ResourceReleased, InterruptsSuspended, InterruptsResumed, Done, giving_way_after, gives_way, job_count};
 ghost use Rattle.std.specs.Int.{bit_at};
 ghost use Rattle.osbase.specs.Sets.{slot_of};
 ghost use Rattle.osbase.specs.Interrupts.{is_pending_among, oldest_entered, without_isr};
@@ -173,14 +173,14 @@ impl<const P: usize, const J: usize> Jobs<P, J> {
 
     /// The oldest job of a runner suspends interrupts once more (OSEK/VDX OS 2.2.3, section 13.3.2.4).
     pub fn lock_interrupts(&mut self, runner: Runner)
-        ensures { self.new ≡ jobs_by [] (Noted (Locked runner)) 0 self.old }
+        ensures { self.new ≡ jobs_by [] (Noted (InterruptsSuspended runner)) 0 self.old }
     {
         self.rows.lock_interrupts(runner);
     }
 
     /// The oldest job of a runner resumes interrupts once (OSEK/VDX OS 2.2.3, section 13.3.2.3).
     pub fn unlock_interrupts(&mut self, runner: Runner)
-        ensures { self.new ≡ jobs_by [] (Noted (Unlocked runner)) 0 self.old }
+        ensures { self.new ≡ jobs_by [] (Noted (InterruptsResumed runner)) 0 self.old }
     {
         self.rows.unlock_interrupts(runner);
     }
@@ -281,7 +281,7 @@ impl<const P: usize, const J: usize> Jobs<P, J> {
     pub fn raise(&mut self, runner: Runner, resource: HeldResource)
         requires place { resource.index < RESOURCES }
         requires free { is_occupied resource.index self.old.rows ≡ false }
-        ensures { self.new ≡ jobs_by [] (Noted (Taken runner resource)) 0 self.old }
+        ensures { self.new ≡ jobs_by [] (Noted (ResourceOccupied runner resource)) 0 self.old }
     {
         self.rows.raise(runner, resource);
         self.holders = with_holder(self.holders, runner);
@@ -290,7 +290,7 @@ impl<const P: usize, const J: usize> Jobs<P, J> {
     /// The oldest job of a runner gives the newest of its resources back (OSEK/VDX OS 2.2.3, section 8.2).
     pub fn lower(&mut self, runner: Runner, _index: u8)
         requires newest { IsTrue (is_newest _index (held_in runner self.old.rows)) }
-        ensures { self.new ≡ jobs_by [] (Noted (Given runner _index)) 0 self.old }
+        ensures { self.new ≡ jobs_by [] (Noted (ResourceReleased runner _index)) 0 self.old }
     {
         self.rows.lower(runner);
         self.holders = if_holder(&self.rows, self.holders, runner);

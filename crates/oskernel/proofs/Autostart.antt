@@ -1,4 +1,4 @@
--- What starts by itself: a task has a place for its first job, and an alarm's and a table's times are within their counter's.
+-- What is autostarted: a task has a place for its first job, and an alarm's and a table's times are within their counter's.
 use Rattle.std.proofs.Common.{◌≡◌, ℕ, zero, suc, ◌+◌, ◌≤◌, ◌<◌, Bool, true, false, cond, Option, Some, None, List, [], ◌∷◌, ◌++◌, length, refl, ap, sym, subst, ◌∙◌, arith, nat_le}
 use Rattle.std.specs.List.{slice_get, list_all}
 use Rattle.std.specs.Option.{option_map_or}
@@ -24,9 +24,9 @@ use Rattle.osstate.specs.State.{KernelState}
 use Rattle.osstate.proofs.JobLists.{job_count-append}
 use Rattle.osclock.specs.Clocks.{alarm_ref}
 use Rattle.ostable.specs.Tables.{table_ref}
-use Rattle.osact.specs.Acts.{does, nothing, notes}
-use Rattle.osact.proofs.Remarking.{silent-if}
-use Rattle.osalarmcall.specs.Alarms.{sets_alarm}
+use Rattle.osservice.specs.Acts.{does, nothing, notes}
+use Rattle.osservice.proofs.Remarking.{silent-if}
+use Rattle.osservice_alarms.specs.Alarms.{sets_alarm}
 use Rattle.oskernel.specs.Step.{autostarts_alarm, autostarts_table, starts_if, starts_in}
 use Rattle.oskernel.specs.Taking.{have_places}
 

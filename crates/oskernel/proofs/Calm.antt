@@ -6,7 +6,7 @@ use Rattle.osbase.specs.declared.items.Item.{Item}
 use Rattle.osbase.specs.History.{Entry, History, Took, open_call, outbox}
 use Rattle.osbase.specs.Spins.{got_spinlocks}
 use Rattle.osplan.specs.View.{View}
-use Rattle.osact.proofs.Kept.{anybody, is_local, nobody}
+use Rattle.osservice.proofs.Kept.{anybody, is_local, nobody}
 use Rattle.osstate.specs.State.{state_of}
 use Rattle.osawait.specs.Free.{is_settled}
 use Rattle.oskernel.specs.Step.{after}

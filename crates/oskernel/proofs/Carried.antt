@@ -27,16 +27,16 @@ use Rattle.osclock.specs.Clocks.{counter_ref}
 use Rattle.ostable.proofs.Asked.{dues-own}
 use Rattle.osstate.specs.Readings.{best_job, running, script_of}
 use Rattle.osstate.specs.State.{state_of}
-use Rattle.osact.specs.Acts.{Acts, does}
-use Rattle.osact.specs.Seen.{Seen, seen_of}
-use Rattle.osact.specs.Service.{answer_of}
-use Rattle.osact.proofs.Called.{locks-any}
-use Rattle.osact.proofs.Kept.{AreAllowed, IsKept, IsNamed, IsSeen, Leave, anybody, each-ok, found-ok, is_within, kept-by, replies-ok, reports-ok, returns-ok, seen_as}
-use Rattle.osact.proofs.Partners.{Partner}
-use Rattle.ostaskcall.proofs.Allowed.{ends-ok, ends_unasked-ok}
+use Rattle.osservice.specs.Acts.{Acts, does}
+use Rattle.osservice.specs.Seen.{Seen, seen_of}
+use Rattle.osservice.specs.Service.{answer_of}
+use Rattle.osservice.proofs.Called.{locks-any}
+use Rattle.osservice.proofs.Kept.{AreAllowed, IsKept, IsNamed, IsSeen, Leave, anybody, each-ok, found-ok, is_within, kept-by, replies-ok, reports-ok, returns-ok, seen_as}
+use Rattle.osservice.proofs.Partners.{Partner}
+use Rattle.osservice_tasks.proofs.Allowed.{ends-ok, ends_without_terminate-ok}
 use Rattle.oscall.specs.Border.{core_of_call, service_of}
 use Rattle.oscall.proofs.Allowed.{served-ok, service-ok}
-use Rattle.osdue.proofs.Allowed.{ActionsAllow, counts-ok}
+use Rattle.osexpiry.proofs.Allowed.{ActionsAllow, counts-ok}
 use Rattle.oskernel.proofs.Operated.{IsAllowed, operates-ok}
 use Rattle.ostick.specs.Faults.{answers_fault, fault_of, faults_with, protects}
 use Rattle.osawait.specs.Free.{may_dispatch}
@@ -123,7 +123,7 @@ module _ (l : Leave) (allowed : NamesAllow l.view l.may) where
   Allowed = AreAllowed l
 
   performs-ok : (r : Runner) → IsNamed l r → (o : Option Op) → ((op : Op) → o ≡ Some op → IsAllowed l.view l.may op) → Allowed (performs r (option_map_or Perform o End))
-  performs-ok r n None permitted = ends_unasked-ok l r n
+  performs-ok r n None permitted = ends_without_terminate-ok l r n
   performs-ok r n (Some op) permitted = operates-ok l allowed.actions op r n (permitted op refl)
 
   closes-ok : (s : Seen) → IsSeen l s → (status : Status) (value : Option ℤ) → Allowed (closes s.awaits status value)

@@ -1,15 +1,15 @@
--- Families of services that are asked in turn.
+-- Families of services that are tried in turn.
 use Rattle.std.proofs.Common.{◌≡◌, ℕ, Bool, true, false, Option, Some, None, is_some, unwrap_or, refl, sym, subst, ◌∙◌, arith, Vec, Global}
 use Rattle.std.proofs.lemmas.Bool.{false≢true}
 use Rattle.osbase.specs.declared.marks.Mark.{Mark}
 use Rattle.osstate.specs.Does.{Effects}
 use Rattle.osstate.specs.State.{KernelState}
 use Rattle.osstate.proofs.Effecting.{as_effect, unprinted}
-use Rattle.osact.specs.Acts.{Acts, does, nothing}
-use Rattle.osact.proofs.Remarking.{unmoved}
+use Rattle.osservice.specs.Acts.{Acts, does, nothing}
+use Rattle.osservice.proofs.Remarking.{unmoved}
 
 module _ {n m : ℕ} {s s' : KernelState} {x x' : Vec Mark Global} {known : Bool} (o : Option Acts) (is : known ≡ is_some o) where
-  -- A family that does not know the operation has changed nothing, and the next one is asked.
+  -- A family that does not know the operation has changed nothing, and the next one is tried.
   pub next : (rest : Acts) {t : KernelState} {y : Vec Mark Global} → known ≡ false → (t ≡ s) × (y ≡ x) → Effects n m (does rest) t s' y x' → Effects n m (does (unwrap_or o rest)) s s' x x'
   next rest {t} {y} absent same e = by o is
     where

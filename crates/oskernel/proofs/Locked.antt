@@ -20,8 +20,8 @@ use Rattle.osplan.specs.View.{View}
 use Rattle.osplan.proofs.Tests.{find-passes}
 use Rattle.osstate.specs.Readings.{phase_at}
 use Rattle.osstate.specs.State.{state_of}
-use Rattle.osact.proofs.Kept.{anybody, is_local, may_open}
-use Rattle.osact.proofs.Partners.{Partner, partner_of}
+use Rattle.osservice.proofs.Kept.{anybody, is_local, may_open}
+use Rattle.osservice.proofs.Partners.{Partner, partner_of}
 use Rattle.osadmit.specs.Admission.{admits, awaits_get, awaits_try, is_get_of, is_try_of}
 use Rattle.oskernel.specs.declared.wants.SpinWish.{SpinWish}
 use Rattle.oskernel.specs.declared.wants.Want.{Want}

@@ -11,8 +11,8 @@ use Rattle.osbase.specs.History.{Entry, History, Took, Printed, Noted, Opened, Q
 use Rattle.osplan.specs.declared.plans.Plan.{Plan}
 use Rattle.osseparate.specs.Separate.{halts_somewhere}
 use Rattle.osplan.specs.View.{View, view_of}
-use Rattle.osact.proofs.Kept.{anybody, is_local, may_open}
-use Rattle.osact.proofs.Partners.{Partner}
+use Rattle.osservice.proofs.Kept.{anybody, is_local, may_open}
+use Rattle.osservice.proofs.Partners.{Partner}
 use Rattle.oskernel.specs.Step.{after, history_from}
 use Rattle.oskernel.proofs.Carried.{NamesAllow, passes, replied-anybody}
 use Rattle.oskernel.proofs.Holding.{Holds, holds-after}

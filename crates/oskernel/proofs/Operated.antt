@@ -6,15 +6,15 @@ use Rattle.osbase.specs.declared.statuses.ServiceId.{ServiceId}
 use Rattle.osbase.specs.declared.statuses.Status.TheVariants.{EOsDisabledint}
 use Rattle.oscript.specs.declared.Op.{Op}
 use Rattle.oscript.specs.Calls.{call_of_op}
-pub use Rattle.osact.proofs.Called.{IsAllowed}
-use Rattle.osact.proofs.Kept.{AreAllowed, IsNamed, Leave, first-ok, returns-ok}
-use Rattle.ostaskcall.proofs.Allowed.{task_acts-ok}
-use Rattle.osalarmcall.proofs.Allowed.{counter_acts-ok}
-use Rattle.ostablecall.proofs.Allowed.{table_acts-ok}
-use Rattle.osspincall.proofs.Allowed.{spin_acts-ok}
+pub use Rattle.osservice.proofs.Called.{IsAllowed}
+use Rattle.osservice.proofs.Kept.{AreAllowed, IsNamed, Leave, first-ok, returns-ok}
+use Rattle.osservice_tasks.proofs.Allowed.{task_acts-ok}
+use Rattle.osservice_alarms.proofs.Allowed.{counter_acts-ok}
+use Rattle.osservice_tables.proofs.Allowed.{table_acts-ok}
+use Rattle.osservice_spins.proofs.Allowed.{spin_acts-ok}
 use Rattle.oschain.proofs.Allowed.{chain_acts-ok}
 use Rattle.oscall.proofs.Allowed.{called-ok, core_acts-ok, script_acts-ok}
-use Rattle.osdue.proofs.Allowed.{ActionsAllow, increment_acts-ok}
+use Rattle.osexpiry.proofs.Allowed.{ActionsAllow, increment_acts-ok}
 use Rattle.oskernel.specs.Operations.{operates, operates_by, operates_unless, refused_now}
 
 pub operates-ok : (l : Leave) → ActionsAllow l.view l.may → (op : Op) (r : Runner) → IsNamed l r → IsAllowed l.view l.may op → AreAllowed l (operates r op)

@@ -27,8 +27,8 @@ use Rattle.osplan.specs.View.{View}
 use Rattle.osstate.specs.Readings.{is_served, running}
 use Rattle.osstate.specs.State.{state_of}
 use Rattle.ostable.proofs.Asked.{dues-own}
-use Rattle.osact.proofs.Kept.{Leave, anybody, is_local, is_within}
-use Rattle.osact.proofs.Partners.{Partner}
+use Rattle.osservice.proofs.Kept.{Leave, anybody, is_local, is_within}
+use Rattle.osservice.proofs.Partners.{Partner}
 use Rattle.osadmit.specs.Admission.{admits}
 use Rattle.osawait.specs.Free.{may_go_on}
 use Rattle.osawait.specs.Messages.{is_awaited}

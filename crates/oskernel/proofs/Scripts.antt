@@ -24,9 +24,9 @@ use Rattle.osplan.proofs.Scripts.{no-operation}
 use Rattle.osseparate.proofs.Separating.{SeparateParts}
 use Rattle.osplan.proofs.Tests.{all-not, all-weaker, fails-at, find-fails, find-holds}
 use Rattle.osstate.specs.Readings.{script_of}
-use Rattle.osact.proofs.Called.{locks-any, locks-none, may_lock}
-use Rattle.osact.proofs.Kept.{is_within, nobody}
-use Rattle.osact.proofs.Partners.{Partner}
+use Rattle.osservice.proofs.Called.{locks-any, locks-none, may_lock}
+use Rattle.osservice.proofs.Kept.{is_within, nobody}
+use Rattle.osservice.proofs.Partners.{Partner}
 use Rattle.oskernel.proofs.Carried.{NamesAllow, allow-cores}
 
 -- Every core but this one, every spinlock, and what all cores share; but not that all shut down.
@@ -43,7 +43,7 @@ but_halt (Partner.Spinlock l) = true
 but_halt Partner.Shared = true
 but_halt Partner.Halt = false
 
--- Where no script of the core has an operation that passes a test, none that a runner comes to does.
+-- If no script of the core has an operation that passes a test, no operation that a runner reaches does.
 pub script-fails : (own : Core) (test : Op → Bool) → has_operation test own ≡ false → (r : Runner) (n : ℕ) (op : Op) → slice_get (script_of own r) n ≡ Some op → test op ≡ false
 script-fails own test none r n op e = by r e
   where
@@ -64,11 +64,11 @@ script-fails own test none r n op e = by r e
     by (Runner.Task t) g = of_task t.index (same_core t.core own.id) (slice_get own.tasks t.index) refl g
     by (Runner.Isr i) g = of_isr i.index (same_core i.core own.id) (slice_get own.isrs i.index) refl g
 
--- So none has it that a runner comes to, whatever would follow from it.
+-- So none that a runner reaches passes it, whatever would follow from it.
 pub script-none : (own : Core) (test : Op → Bool) → has_operation test own ≡ false → {A : Type 0} (r : Runner) (n : ℕ) (op : Op) → slice_get (script_of own r) n ≡ Some op → test op ≡ true → A
 script-none own test none r n op e passes = absurd (true≢false (sym passes ∙ script-fails own test none r n op e))
 
--- Objects none of which passes one test all pass another, which each does that fails the first.
+-- If each object that fails one test passes another, objects that all fail the first all pass the other.
 pub none-all : (p q : Object → Bool) → ((object : Object) → p object ≡ false → q object ≡ true) → (objects : List Object) → list_any p objects ≡ false → list_all q objects ≡ true
 none-all p q then objects none = all-weaker (λ object. not (p object)) q (λ object fails. then object (not-true (p object) fails)) objects (all-not p objects none)
 

@@ -14,9 +14,9 @@ use Rattle.osbase.specs.History.{Entry, History, Took, Printed, Noted, current_t
 use Rattle.osbase.proofs.Same.{same_core-true}
 use Rattle.osplan.specs.View.{Around, View}
 use Rattle.osstate.specs.Readings.{best_job, knows_started, running}
-use Rattle.osact.specs.Seen.{seen_of}
-use Rattle.osact.proofs.Kept.{IsKept, anybody, is_local, is_within, nobody, seen_as}
-use Rattle.osact.proofs.SeenSame.{ReadsSame, seen-same}
+use Rattle.osservice.specs.Seen.{seen_of}
+use Rattle.osservice.proofs.Kept.{IsKept, anybody, is_local, is_within, nobody, seen_as}
+use Rattle.osservice.proofs.SeenSame.{ReadsSame, seen-same}
 use Rattle.oskernel.specs.Step.{after, effect}
 use Rattle.oskernel.proofs.Among.{agreement-same, among, base_of, best-later, count-same, counts-same, course-same, current-same, delay, got-same, later, open-same, pending-same, phase-same, rows-same, running-later, settings-same, stamp-later, tables-same}
 use Rattle.oskernel.proofs.Carried.{NamesAllow, acting-anybody, after-carried, is_replied, leave_all, next_job, next_of}

@@ -9,19 +9,19 @@ use Rattle.osbase.specs.declared.references.Runner.{Runner}
 use Rattle.oscript.specs.declared.Op.{Op}
 use Rattle.oscript.specs.Calls.{call_of_op}
 use Rattle.oscript.specs.Frames.{service_of_op}
-use Rattle.osact.specs.Acts.{Acts, look, nothing, when}
-use Rattle.osact.specs.Callers.{has_suspended}
-use Rattle.osact.specs.Returning.{returns}
-use Rattle.osact.specs.Seen.{Seen}
-use Rattle.ostaskcall.specs.Tasks.{task_acts}
-use Rattle.osalarmcall.specs.Counters.{counter_acts}
-use Rattle.ostablecall.specs.Tables.{table_acts}
-use Rattle.osspincall.specs.Spinlocks.{spin_acts}
+use Rattle.osservice.specs.Acts.{Acts, look, nothing, when}
+use Rattle.osservice.specs.Callers.{has_suspended}
+use Rattle.osservice.specs.Returning.{returns}
+use Rattle.osservice.specs.Seen.{Seen}
+use Rattle.osservice_tasks.specs.Tasks.{task_acts}
+use Rattle.osservice_alarms.specs.Counters.{counter_acts}
+use Rattle.osservice_tables.specs.Tables.{table_acts}
+use Rattle.osservice_spins.specs.Spinlocks.{spin_acts}
 use Rattle.oscall.specs.Border.{calls}
 use Rattle.oschain.specs.Chaining.{chain_acts}
 use Rattle.oscall.specs.Shutdown.{core_acts, is_ignored}
 use Rattle.oscall.specs.Variables.{is_done, script_acts}
-use Rattle.osdue.specs.Incrementing.{increment_acts}
+use Rattle.osexpiry.specs.Incrementing.{increment_acts}
 
 -- An operation on what all cores share, the spinlocks, or on the cores themselves, by the table of its family.
 abbrev pub acts_on_shared : Runner → Op → Acts

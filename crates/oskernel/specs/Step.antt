@@ -1,4 +1,4 @@
--- A core's step: which item may be taken, what follows from it, and a core by itself.
+-- A core's step: which item may be taken, what follows from it, and a core alone.
 use Rattle.std.specs.Prelude.{ℕ, ℤ, pos, ◌==◌, Bool, true, false, if◌then◌else◌, Option, Some, None, List, [], ◌∷◌}
 use Rattle.std.specs.List.{list_any}
 use Rattle.std.specs.Option.{option_map_or}
@@ -36,9 +36,9 @@ use Rattle.osclock.specs.Clocks.{alarm_ref}
 use Rattle.ostable.specs.Tables.{table_ref}
 use Rattle.osstate.specs.Readings.{script_of, best_job, running, task_ref}
 use Rattle.osstate.specs.State.{state_of}
-use Rattle.osact.specs.Acts.{Acts, Sends, both, does, in_turn, look, notes, nothing, one_then, prints, when}
-use Rattle.osalarmcall.specs.Alarms.{sets_alarm}
-use Rattle.ostaskcall.specs.Tasks.{activates, ends_unasked}
+use Rattle.osservice.specs.Acts.{Acts, Sends, both, does, in_turn, look, notes, nothing, one_then, prints, when}
+use Rattle.osservice_alarms.specs.Alarms.{sets_alarm}
+use Rattle.osservice_tasks.specs.Tasks.{activates, ends_without_terminate}
 use Rattle.oscall.specs.Border.{serves_request, serves_action}
 use Rattle.oschain.specs.Chaining.{resumes}
 use Rattle.oskernel.specs.Operations.{operates}
@@ -68,7 +68,7 @@ abbrev pub starts_in : Option Agreement → List ModeId → Bool
 starts_in (Some (Agreement.Mode m)) modes = list_any (λ (n : ModeId). n.index == m.index) modes
 starts_in other modes = false
 
--- What is to start by itself, if its list names the mode.
+-- What is autostarted, if its list names the mode.
 abbrev pub starts_if : Option Agreement → List ModeId → Acts → Acts
 starts_if agreement modes x = when (starts_in agreement modes) x nothing
 
@@ -92,10 +92,10 @@ starts agreement core =
 -- The stimulus `op`: one operation of the running job, or its end; with nothing running it does nothing. [own]
 abbrev pub performs : Runner → Action → Acts
 performs r (Perform op) = operates r op
-performs r End = ends_unasked r
+performs r End = ends_without_terminate r
 
-abbrev pub goes_on : Option Runner → Acts
-goes_on running = option_map_or (λ (r : Runner). look (λ s. performs r (action_at (script_of s.core r) (s.row r).frame))) running nothing
+abbrev pub next_operation : Option Runner → Acts
+next_operation running = option_map_or (λ (r : Runner). look (λ s. performs r (action_at (script_of s.core r) (s.row r).frame))) running nothing
 
 -- The stimulus `irq`: a job of the ISR is pending from here on; if one is pending already, the interrupt is lost.
 -- [AUTOSAR SWS OS 4.x, section 7.6; that one is pending at most: own]
@@ -104,7 +104,7 @@ raises i = look (λ s. when (s.is_pending i) (prints (Mark.InterruptLost i)) (pr
 
 -- A stimulus.
 abbrev pub stimulates : Stimulus → Acts
-stimulates Stimulus.Op = look (λ s. goes_on s.running)
+stimulates Stimulus.Op = look (λ s. next_operation s.running)
 stimulates Stimulus.Tick = ticks
 stimulates (Stimulus.Irq isr) = raises isr
 
@@ -117,7 +117,7 @@ service_awaiting (Awaited.Try l) = Some Service.TryToGetSpinlock
 service_awaiting (Awaited.Release l) = Some Service.ReleaseSpinlock
 service_awaiting (Awaited.Halt status) = None
 
--- The job whose call is open goes on with its answer; where none is, as when an owed spinlock is freed, nothing happens. [own]
+-- The job whose call is open gets its answer; if no call is open, as when an owed spinlock is freed, nothing happens. [own]
 abbrev pub resumes_with : Runner → Awaited → Status → Option ℤ → Acts
 resumes_with r awaited status value = option_map_or (λ (service : ServiceId). resumes r service status value) (service_awaiting awaited) nothing
 
@@ -139,11 +139,11 @@ receives from (Message.Reply status) = look (λ s. closes s.awaits status None)
 receives from (Message.Value status n) = look (λ s. closes s.awaits status (Some n))
 
 -- ShutdownHook is called at the end, but not by a core that is down: it has called it already.
--- [AUTOSAR SWS OS 4.x, SWS_Os_00588; that a core which went down by itself calls it once: own]
+-- [AUTOSAR SWS OS 4.x, SWS_Os_00588; that a core which is down already calls it once: own]
 abbrev pub calls_shutdown_hook : Status → Acts
 calls_shutdown_hook status = look (λ s. when (is_down s.course) nothing (prints (Mark.ShutdownHook status)))
 
--- The end of a core: if a shutdown of all cores was asked for, ShutdownHook is called with its status. [own]
+-- The end of a core: if a shutdown of all cores was requested, ShutdownHook is called with its status. [own]
 abbrev pub ends_core : Option (CoreId × Status) → Acts
 ends_core None = nothing
 ends_core (Some asked) = calls_shutdown_hook asked.1
@@ -193,7 +193,7 @@ after v h item = dispatches v (does (effect item) v (Took item ∷ h))
 abbrev pub outbox_size : ℕ
 outbox_size = OUTBOX
 
--- A core by itself: the items applied in order, where each in turn may be taken. Its marks are the trace. [own]
+-- A core alone: the items applied in order, if each in turn may be taken. Its marks are the trace. [own]
 abbrev pub solo_from : View → History → List Item → Option History
 solo_from v h [] = Some h
 solo_from v h (item ∷ items) = if takes outbox_size v h item then solo_from v (after v h item) items else None
@@ -201,7 +201,7 @@ solo_from v h (item ∷ items) = if takes outbox_size v h item then solo_from v 
 abbrev pub solo : View → List Item → Option History
 solo v items = solo_from v [] items
 
--- The history that items lead to, whether each may be taken or not.
+-- The history after items, whether each may be taken or not.
 abbrev pub history_from : View → History → List Item → History
 history_from v h [] = h
 history_from v h (item ∷ items) = history_from v (after v h item) items

@@ -21,7 +21,7 @@ abbrev pub is_second_gate : Item → Bool
 is_second_gate (Item.Pass2 cores) = true
 is_second_gate item = false
 
--- What the first gate came to where it gave this mode, or none.
+-- The result of the first gate that gave this mode, or none.
 -- [AUTOSAR SWS OS 4.x, SWS_Os_00608 to SWS_Os_00610; that all may say DONOTCARE is this project's own]
 abbrev pub agreement_on : Option ModeId → Agreement
 agreement_on (Some m) = Agreement.Mode m
@@ -60,7 +60,7 @@ is_filling (Item.Stim stimulus) = true
 is_filling (Item.Received from number message) = is_request message
 is_filling item = false
 
--- A core goes on with nothing in its outbox.
+-- A core runs on with nothing in its outbox.
 abbrev pub is_going_on : Item → Bool
 is_going_on (Item.Stim stimulus) = true
 is_going_on item = false

@@ -48,7 +48,7 @@ abbrev pub want_call : Option OpenCall → Want → Want
 want_call None want = want
 want_call (Some call) want = want_for call.awaits
 
--- What is owed is freed before the core does anything without being asked, the newest first.
+-- What is owed is freed before the core's next step, the newest first.
 abbrev pub want_owed : List GotSpinlock → Want → Want
 want_owed got want = option_map_or (λ l. Spin (Wish.Free l)) (newest_owed got) want
 
@@ -73,7 +73,7 @@ want_from Phase.Ended s = Nothing
 abbrev pub want_in : KernelState → Want
 want_in s = want_from s.progress.phase s
 
--- The same of a history: it is asked of its state.
+-- The same query of a history's state.
 abbrev pub want_of : View → History → Want
 want_of v h = want_in (state_of v h)
 
@@ -107,7 +107,7 @@ watch_from Phase.Ended s = Watch.Nothing
 abbrev pub watch_in : KernelState → Watch
 watch_in s = watch_from s.progress.phase s
 
--- The same of a history: it is asked of its state.
+-- The same query of a history's state.
 abbrev pub watch_of : View → History → Watch
 watch_of v h = watch_in (state_of v h)
 

@@ -6,7 +6,7 @@ ghost use Rattle.osbase.specs.History.{current_task, same_job};
 ghost use Rattle.osjobs.specs.Priorities.{is_own_runner};
 ghost use Rattle.osstate.specs.Does.{Effects, HasRoom};
 ghost use Rattle.osstate.specs.Queries.{running_in};
-ghost use Rattle.osact.specs.Terms.{MayAct};
+ghost use Rattle.osservice.specs.Terms.{MayAct};
 ghost use Rattle.oskernel.specs.Step.{dispatches, enters, goes_to, leaves};
 
 use osawait::may_dispatch;

@@ -4,27 +4,27 @@ ghost use Rattle.std.specs.Prelude.{◌≡◌, ◌+◌, ◌<◌, ◌≤◌, ◌�
 ghost use Rattle.osbase.specs.declared.limits.TheConstants.{CORES};
 ghost use Rattle.osbase.specs.History.{Took, outbox_after, phase_after};
 ghost use Rattle.osbase.specs.Phases.{is_before_live, is_past_first_gate};
-ghost use Rattle.osplan.specs.Objects.{posted_at_once, outbox_needed};
+ghost use Rattle.osplan.specs.Objects.{most_posts_per_tick, outbox_needed};
 ghost use Rattle.osplan.specs.Stimuli.{knows_stimulus};
 ghost use Rattle.osjobs.specs.Jobs.{is_plain};
 ghost use Rattle.osstate.specs.Does.{Adds, Does, Effects, HasRoom, item_entries, item_marks, service_entries, service_marks};
 ghost use Rattle.osstate.specs.Sound.{is_first_gate, is_grant_known, is_posted, is_sender_known};
-ghost use Rattle.osact.specs.Terms.{MayBegin, MayPost, MayServe};
-ghost use Rattle.osact.specs.Acts.{does, look, prints};
+ghost use Rattle.osservice.specs.Terms.{MayBegin, MayPost, MayServe};
+ghost use Rattle.osservice.specs.Acts.{does, look, prints};
 ghost use Rattle.osstate.specs.Readings.{is_served};
 ghost use Rattle.osadmit.specs.Admission.{admits};
 ghost use Rattle.oskernel.specs.Bounded.{step_entries};
-ghost use Rattle.oskernel.specs.Step.{calls_shutdown_hook, closes, effect, ends_core, gate_mark, goes_on, receives, service_awaiting, stimulates, success_value};
+ghost use Rattle.oskernel.specs.Step.{calls_shutdown_hook, closes, effect, ends_core, gate_mark, next_operation, receives, service_awaiting, stimulates, success_value};
 ghost use Rattle.oskernel.specs.Taking.{TakesItem, is_acting, is_filling, is_for_core, is_going_on, is_known, is_request, is_second_gate};
 
 use crate::interrupts::raise;
 use crate::starting::start;
-use osact::{Answer, Step};
 use osbase::{
     Agreement, Awaited, CoreId, Item, Mark, Message, RemoteCall, Runner, ServiceId, Status,
     Stimulus,
 };
 use oscript::Action;
+use osservice::{ServiceResult, Step};
 use osstate::CoreState;
 use ostick::tick;
 
@@ -99,7 +99,7 @@ fn follow<const P: usize, const J: usize, const OUT: usize>(
         }
         Item::Pass1(agreement) => state.print(first_gate_mark(*agreement), marks),
         Item::Pass2(_) => start(state, marks),
-        Item::Stim(stimulus) => go_on(state, *stimulus, marks),
+        Item::Stim(stimulus) => dispatch_stimulus(state, *stimulus, marks),
         Item::Received {
             from,
             number: _,
@@ -124,7 +124,7 @@ fn success_value(taken: bool) -> i64
     if taken { 1 } else { 0 }
 }
 
-// The core is halted, as this core asked first with this status.
+// The core is halted by the request of this core, with this status.
 fn print_halt<const P: usize, const J: usize, const OUT: usize>(
     state: &mut CoreState<'_, P, J, OUT>,
     core: CoreId,
@@ -138,7 +138,7 @@ fn print_halt<const P: usize, const J: usize, const OUT: usize>(
     state.print(mark, marks);
 }
 
-// The end of a core: if a shutdown of all cores was asked for, ShutdownHook is called with its status.
+// The end of a core: if a shutdown of all cores was requested, ShutdownHook is called with its status.
 fn end<const P: usize, const J: usize, const OUT: usize>(
     state: &mut CoreState<'_, P, J, OUT>,
     shutdown: Option<(CoreId, Status)>,
@@ -179,46 +179,46 @@ fn first_gate_mark(agreement: Agreement) -> Mark
 
 // A stimulus: one operation of the running job or its end, a tick, or an interrupt.
 #[inline(always)]
-fn go_on<const P: usize, const J: usize, const OUT: usize>(
+fn dispatch_stimulus<const P: usize, const J: usize, const OUT: usize>(
     state: &mut CoreState<'_, P, J, OUT>,
     stimulus: Stimulus,
     marks: &mut Vec<Mark>,
 )
     requires known { IsTrue (knows_stimulus state.old.view.own stimulus) }
-    requires posts { MayPost (1 + posted_at_once state.old.view.own) OUT service_entries service_marks state.old marks.old }
+    requires posts { MayPost (1 + most_posts_per_tick state.old.view.own) OUT service_entries service_marks state.old marks.old }
     ensures { Effects service_entries service_marks (does (stimulates stimulus)) state.old state.new marks.old marks.new }
 {
     match stimulus {
-        Stimulus::Op => go_on_by_one(state, marks),
+        Stimulus::Op => do_next_operation(state, marks),
         Stimulus::Tick => tick(state, marks),
         Stimulus::Irq(isr) => raise(state, isr, marks),
     }
 }
 
 // With nothing running it does nothing.
-fn go_on_by_one<const P: usize, const J: usize, const OUT: usize>(
+fn do_next_operation<const P: usize, const J: usize, const OUT: usize>(
     state: &mut CoreState<'_, P, J, OUT>,
     marks: &mut Vec<Mark>,
 )
-    requires { MayPost (1 + posted_at_once state.old.view.own) OUT service_entries service_marks state.old marks.old }
-    ensures { Effects service_entries service_marks (does (look (λ s. goes_on s.running))) state.old state.new marks.old marks.new }
+    requires { MayPost (1 + most_posts_per_tick state.old.view.own) OUT service_entries service_marks state.old marks.old }
+    ensures { Effects service_entries service_marks (does (look (λ s. next_operation s.running))) state.old state.new marks.old marks.new }
 {
     if let Some(job) = state.running_job() {
-        perform(state, job.runner, marks);
+        do_next_action(state, job.runner, marks);
     }
 }
 
-fn perform<const P: usize, const J: usize, const OUT: usize>(
+fn do_next_action<const P: usize, const J: usize, const OUT: usize>(
     state: &mut CoreState<'_, P, J, OUT>,
     runner: Runner,
     marks: &mut Vec<Mark>,
 )
-    requires { MayServe (1 + posted_at_once state.old.view.own) OUT state.old runner marks.old }
-    ensures { Effects service_entries service_marks (does (goes_on (Some runner))) state.old state.new marks.old marks.new }
+    requires { MayServe (1 + most_posts_per_tick state.old.view.own) OUT state.old runner marks.old }
+    ensures { Effects service_entries service_marks (does (next_operation (Some runner))) state.old state.new marks.old marks.new }
 {
     match state.next_action(runner) {
         Action::Perform(op) => crate::operations::operate(state, Step { runner, op }, marks),
-        Action::End => ostaskcall::end_unasked(state, runner, marks),
+        Action::End => osservice_tasks::end_without_terminate(state, runner, marks),
     }
 }
 
@@ -290,7 +290,7 @@ fn service_awaiting(awaits: Awaited) -> Option<ServiceId>
     }
 }
 
-// The job whose call is open goes on with its answer; where none is, as when an owed spinlock is freed, nothing happens.
+// The job whose call is open gets its answer; if no call is open, as when an owed spinlock is freed, nothing happens.
 fn close<const P: usize, const J: usize, const OUT: usize>(
     state: &mut CoreState<'_, P, J, OUT>,
     status: Status,
@@ -304,7 +304,7 @@ fn close<const P: usize, const J: usize, const OUT: usize>(
         return;
     };
     if let Some(service) = service_awaiting(call.awaits) {
-        let answer = Answer { status, value };
+        let answer = ServiceResult { status, value };
         oschain::resume(state, call.runner, service, answer, marks);
     }
 }

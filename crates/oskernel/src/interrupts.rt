@@ -4,7 +4,7 @@ ghost use Rattle.std.specs.Prelude.{IsTrue};
 ghost use Rattle.osjobs.specs.Priorities.{is_own_runner};
 ghost use Rattle.osstate.specs.Does.{Effects, HasRoom};
 ghost use Rattle.osbase.specs.declared.references.Runner.{Runner as RunnerValue};
-ghost use Rattle.osact.specs.Acts.{does};
+ghost use Rattle.osservice.specs.Acts.{does};
 ghost use Rattle.oskernel.specs.Step.{raises};
 
 use osbase::{IsrRef, Mark};

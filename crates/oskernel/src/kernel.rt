@@ -106,7 +106,7 @@ impl<'a, const P: usize, const J: usize, const OUT: usize> Kernel<'a, P, J, OUT>
         }
     }
 
-    // An open call goes before what is owed, and this before what the core would do by itself.
+    // An open call goes before what is owed, and this before the core's next step.
     #[inline(always)]
     fn live_want(&self) -> Want
         ensures value { result ≡ call_or_want self.now.border.open_call (owed_or_want self.now.border.spins (go_on_want self.now.progress.course)) }

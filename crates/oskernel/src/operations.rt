@@ -2,17 +2,17 @@
 
 ghost use Rattle.std.specs.Prelude.{◌≡◌, ◌+◌};
 ghost use Rattle.osstate.specs.Does.{Effects, Reads, service_entries, service_marks};
-ghost use Rattle.osplan.specs.Objects.{posted_at_once};
-ghost use Rattle.osact.specs.Terms.{MayAct, MayOperate};
+ghost use Rattle.osplan.specs.Objects.{most_posts_per_tick};
+ghost use Rattle.osservice.specs.Terms.{MayAct, MayOperate};
 ghost use Rattle.oscript.specs.Calls.{call_of_op};
-ghost use Rattle.osact.specs.Acts.{does};
-ghost use Rattle.osact.specs.Seen.{seen_of};
+ghost use Rattle.osservice.specs.Acts.{does};
+ghost use Rattle.osservice.specs.Seen.{seen_of};
 ghost use Rattle.oskernel.specs.Operations.{acts_alone, acts_on_shared, acts_suspended, is_ignored_now, operates, operates_by, refused_now, refused_of};
 
-use osact::{Step, refuse};
 use osbase::{Mark, ServiceId, Status};
 use oscall::{call, shutdown, variables};
 use oscript::call_of_op;
+use osservice::{Step, refuse};
 use osstate::CoreState;
 
 /// One operation of the running job of one of the core's tasks or ISRs. While the job has suspended interrupts, nearly all
@@ -23,7 +23,7 @@ pub(crate) fn operate<const P: usize, const J: usize, const OUT: usize>(
     step: Step,
     marks: &mut Vec<Mark>,
 )
-    requires { MayOperate (1 + posted_at_once state.old.view.own) OUT state.old step.runner step.op marks.old }
+    requires { MayOperate (1 + most_posts_per_tick state.old.view.own) OUT state.old step.runner step.op marks.old }
     ensures { Effects service_entries service_marks (does (operates step.runner step.op)) state.old state.new marks.old marks.new }
 {
     if is_ignored_now(state, step) {
@@ -31,7 +31,7 @@ pub(crate) fn operate<const P: usize, const J: usize, const OUT: usize>(
     }
     match refused_now(state, step) {
         Some(service) => refuse(state, step.runner, service, Status::EOsDisabledint, marks),
-        None => perform(state, step, marks),
+        None => do_operation(state, step, marks),
     }
 }
 
@@ -79,12 +79,12 @@ fn acts_suspended(service: ServiceId) -> bool
 }
 
 // The call that the operation is, or what its family does.
-fn perform<const P: usize, const J: usize, const OUT: usize>(
+fn do_operation<const P: usize, const J: usize, const OUT: usize>(
     state: &mut CoreState<'_, P, J, OUT>,
     step: Step,
     marks: &mut Vec<Mark>,
 )
-    requires { MayOperate (1 + posted_at_once state.old.view.own) OUT state.old step.runner step.op marks.old }
+    requires { MayOperate (1 + most_posts_per_tick state.old.view.own) OUT state.old step.runner step.op marks.old }
     ensures { Effects service_entries service_marks (does (operates_by step.runner step.op (call_of_op step.op))) state.old state.new marks.old marks.new }
 {
     match call_of_op(step.op) {
@@ -93,31 +93,31 @@ fn perform<const P: usize, const J: usize, const OUT: usize>(
     }
 }
 
-// An operation of the core alone: the families of services are asked in turn, those first that scripts use most.
+// An operation of the core alone: the families of services are tried in turn, those first that scripts use most.
 fn act_alone<const P: usize, const J: usize, const OUT: usize>(
     state: &mut CoreState<'_, P, J, OUT>,
     step: Step,
     marks: &mut Vec<Mark>,
 )
-    requires { MayOperate (1 + posted_at_once state.old.view.own) OUT state.old step.runner step.op marks.old }
+    requires { MayOperate (1 + most_posts_per_tick state.old.view.own) OUT state.old step.runner step.op marks.old }
     ensures { Effects service_entries service_marks (does (acts_alone step.runner step.op)) state.old state.new marks.old marks.new }
 {
     if variables::operate(state, step, marks) {
         return;
     }
-    if ostaskcall::operate(state, step, marks) {
+    if osservice_tasks::operate(state, step, marks) {
         return;
     }
     if oschain::operate(state, step, marks) {
         return;
     }
-    if osalarmcall::operate(state, step, marks) {
+    if osservice_alarms::operate(state, step, marks) {
         return;
     }
-    if osdue::operate(state, step, marks) {
+    if osexpiry::operate(state, step, marks) {
         return;
     }
-    if ostablecall::operate(state, step, marks) {
+    if osservice_tables::operate(state, step, marks) {
         return;
     }
     act_on_shared(state, step, marks);
@@ -132,7 +132,7 @@ fn act_on_shared<const P: usize, const J: usize, const OUT: usize>(
     requires { MayAct service_entries service_marks state.old step.runner marks.old }
     ensures { Effects service_entries service_marks (does (acts_on_shared step.runner step.op)) state.old state.new marks.old marks.new }
 {
-    if osspincall::operate(state, step, marks) {
+    if osservice_spins::operate(state, step, marks) {
         return;
     }
     shutdown::operate(state, step, marks);

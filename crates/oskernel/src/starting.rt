@@ -6,7 +6,7 @@ ghost use Rattle.osbase.specs.Phases.{is_before_live, is_past_first_gate};
 ghost use Rattle.osplan.specs.Clocked.{are_clocks_within};
 ghost use Rattle.osstate.specs.Does.{Effects, HasRoom, Remarks, item_entries, item_marks};
 ghost use Rattle.osstate.specs.Sound.{is_agreed};
-ghost use Rattle.osact.specs.Acts.{does, in_turn, look};
+ghost use Rattle.osservice.specs.Acts.{does, in_turn, look};
 ghost use Rattle.oskernel.specs.Step.{autostarts_alarm, autostarts_table, autostarts_task, starts, starts_in};
 ghost use Rattle.oskernel.specs.Taking.{agreement_on, have_places};
 
@@ -143,7 +143,7 @@ fn autostart_table<const P: usize, const J: usize, const OUT: usize>(
     }
 }
 
-// The mode that the cores came to, or none where all of them say DONOTCARE.
+// The mode on which the cores agreed; none if all of them say DONOTCARE.
 fn agreed_mode(agreement: Option<Agreement>) -> Option<ModeId>
     requires { IsTrue (is_agreed agreement) }
     ensures { agreement ≡ Some (agreement_on result) }
@@ -156,7 +156,7 @@ fn agreed_mode(agreement: Option<Agreement>) -> Option<ModeId>
     }
 }
 
-// Whether the list names the mode; nothing starts by itself where there is no mode.
+// Whether the list names the mode; nothing is autostarted without a mode.
 fn is_started_in(mode: Option<ModeId>, modes: &List<ModeId>) -> bool
     ensures { result ≡ starts_in (Some (agreement_on mode)) modes.now }
 {

@@ -11,9 +11,9 @@ use osbase::{Awaited, CoreId, CoreSet, Course, OpenCall, SpinlockId, Status};
 /// What a core wants of a spinlock.
 #[derive(Clone, Copy, Debug, PartialEq, Eq)]
 pub enum SpinWish {
-    /// GetSpinlock tries to take it, once more: it goes on once it took the spinlock.
+    /// GetSpinlock tries to take it, once more: it returns once it took the spinlock.
     Get(SpinlockId),
-    /// TryToGetSpinlock tries to take it: it goes on by either answer.
+    /// TryToGetSpinlock tries to take it: it returns by either answer.
     Try(SpinlockId),
     /// The spinlock is given back.
     Free(SpinlockId),
@@ -51,11 +51,11 @@ pub enum Watch {
     FirstGate,
     /// That all started cores are ready.
     SecondGate,
-    /// That a shutdown of all cores is asked for.
+    /// A shutdown of all cores.
     Halt,
     /// That these have drained: the cores that were started when the second gate opened.
     PassEnd(CoreSet),
-    /// The end, and who asked for a shutdown of all cores.
+    /// The end, and which core requested a shutdown of all cores.
     Last,
     /// Nothing.
     Nothing,
@@ -80,7 +80,7 @@ pub(crate) fn want_call(open_call: Option<OpenCall>, want: Want) -> Want
     }
 }
 
-// Spinlocks are asked for and given back, ShutdownAllCores asks for the shutdown of all cores, and what waits for a reply only waits.
+// A spinlock is requested or given back, ShutdownAllCores requests the shutdown of all cores, and a call that awaits a reply only waits.
 fn want_for(awaits: Awaited) -> Want
     ensures { result ≡ want_for awaits }
 {

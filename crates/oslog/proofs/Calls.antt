@@ -21,27 +21,27 @@ use Rattle.oscript.specs.declared.rows.Kind.{Kind}
 use Rattle.oscript.specs.declared.rows.TheConstants.{VERBS}
 use Rattle.oscript.specs.declared.rows.Verb.{Verb}
 use Rattle.oscript.specs.Calls.{named_call, op_of_call}
-use Rattle.oscript.specs.Rows.{are_of, form_of_op, has_event, has_masks, is_in_form, kinds_of, objects_in, objects_of, op_of, word_of}
+use Rattle.oscript.specs.Rows.{are_of, parsed_op_of, has_event, has_masks, is_in_form, kinds_of, objects_in, objects_of, op_of, word_of}
 use Rattle.oscript.proofs.Acting.{call-back as table-back, call-objects}
 use Rattle.oscript.proofs.Homes.{args-home}
-use Rattle.osforms.specs.Call.{call_words, form_words}
-use Rattle.osforms.specs.Form.{arg_of, arg_text, args_of, form_of_verb, form_of_words, verb_of, words_of}
-use Rattle.osforms.specs.Operation.{named, op_text, resolve_arg, resolve_args, resolved}
-use Rattle.osforms.specs.Word.{core_numbered, core_of, is_decimal, mask_of, number_in, target_of, variable_of, int_of}
-use Rattle.osforms.proofs.Fitting.{args-fit, formed-args}
-use Rattle.osforms.proofs.Joining.{has_none}
-use Rattle.osforms.proofs.KindTexts.{cond-some, either, is_kind, mapped}
-use Rattle.osforms.proofs.Operations.{IsNamed, text-meant, text-none}
-use Rattle.osforms.proofs.RoundTrip.{both, chained}
-use Rattle.osforms.proofs.Rows.{is-row}
+use Rattle.ossyntax.specs.Call.{call_words, form_words}
+use Rattle.ossyntax.specs.ParsedOp.{arg_of, arg_text, args_of, form_of_verb, form_of_words, verb_of, words_of}
+use Rattle.ossyntax.specs.Operation.{named, op_text, resolve_arg, resolve_args, resolved}
+use Rattle.ossyntax.specs.Word.{core_numbered, core_of, is_decimal, mask_of, number_in, target_of, variable_of, int_of}
+use Rattle.ossyntax.proofs.Fitting.{args-fit, formed-args}
+use Rattle.ossyntax.proofs.Joining.{has_none}
+use Rattle.ossyntax.proofs.KindTexts.{cond-some, either, is_kind, mapped}
+use Rattle.ossyntax.proofs.Operations.{IsNamed, text-meant, text-none}
+use Rattle.ossyntax.proofs.RoundTrip.{both, chained}
+use Rattle.ossyntax.proofs.Rows.{is-row}
 use Rattle.osplan.proofs.SpinlockObjects.{stays}
 use Rattle.osplan.proofs.Tests.{find-holds}
-use Rattle.osplan.specs.Expressible.{is_expressible}
+use Rattle.osplan.specs.Representable.{is_representable}
 use Rattle.osplan.specs.Limits.{is_object, is_within_limits}
 use Rattle.osplan.specs.Names.{name_of}
 use Rattle.osplan.specs.declared.plans.Plan.{Plan}
 use Rattle.oslog.specs.Naming.{if_object, named_by, place_named}
-use Rattle.oslog.specs.Words.{call_in, call_of, op_said}
+use Rattle.oslog.specs.Words.{call_in, call_of, op_of_words}
 use Rattle.oslog.specs.Logs.{is_call_representable}
 use Rattle.oslog.proofs.WordKinds.{int-word, number-word, place-spells, place-there}
 use Rattle.oslog.proofs.Joining.{end-apart, joined-parts, split-none}
@@ -92,7 +92,7 @@ core-word w target e =
           ap (λ (o : Option CoreId). arg_text (Core o)) (sym m.2) ∙ number-word 0 255 w m.0 (omega arith) m.1
     ]
 
-module _ (plan : Plan) (limits : IsTrue (is_within_limits plan)) (expressible : IsTrue (is_expressible plan)) where
+module _ (plan : Plan) (limits : IsTrue (is_within_limits plan)) (config_representable : IsTrue (is_representable plan)) where
   target-word : (k : ObjectKind) (w : List ℕ) (t : Option (List ℕ)) (b : Arg Place) → target_of w ≡ Some t → resolve_arg (place_named plan) (Object k t) ≡ Some b → arg_text (named (name_of plan) b) ≡ w
   target-word k w t b e r =
       elim (either (bytes_eq w (codes "?")) (Some None) (cond (is_name w) (Some (Some w)) None) t e) as (λ _. arg_text (named (name_of plan) b) ≡ w) [
@@ -106,7 +106,7 @@ module _ (plan : Plan) (limits : IsTrue (is_within_limits plan)) (expressible : 
             let some : Some w ≡ t = cc in
             let found : resolve_arg (place_named plan) (Object k (Some w)) ≡ Some b = subst (λ (t : Option (List ℕ)). resolve_arg (place_named plan) (Object k t) ≡ Some b) (sym some) r in
             let m = mapped (λ at. Object k (Some at)) (place_named plan k w) b found in
-            ap (λ (b : Arg Place). arg_text (named (name_of plan) b)) (sym m.2) ∙ place-spells plan limits expressible k w m.0 m.1
+            ap (λ (b : Arg Place). arg_text (named (name_of plan) b)) (sym m.2) ∙ place-spells plan limits config_representable k w m.0 m.1
       ]
 
   arg-word : (k : Kind) (w : List ℕ) (a : Arg (List ℕ)) (b : Arg Place) → is_kind k ≡ true → arg_of k w ≡ Some a → resolve_arg (place_named plan) a ≡ Some b → has_event b ≡ true → arg_text (named (name_of plan) b) ≡ w
@@ -163,7 +163,7 @@ module _ (plan : Plan) (limits : IsTrue (is_within_limits plan)) (expressible : 
   arg-there (Object kind None) arg args e all = let is : Object kind None ≡ arg = cc in rw (← is) all
   arg-there (Object kind (Some name)) arg args e all =
       let m = mapped (λ found. Object kind (Some found)) (place_named plan kind name) arg e in
-      rw (← m.2) (and_from _ _ (place-there plan limits expressible kind name m.0 m.1) all)
+      rw (← m.2) (and_from _ _ (place-there plan limits config_representable kind name m.0 m.1) all)
   arg-there (Mask mask) arg args e all = let is : Mask mask ≡ arg = cc in rw (← is) all
   arg-there (Number n) arg args e all = let is : Number n ≡ arg = cc in rw (← is) all
   arg-there (Int z) arg args e all = let is : Int z ≡ arg = cc in rw (← is) all
@@ -192,11 +192,11 @@ module _ (plan : Plan) (limits : IsTrue (is_within_limits plan)) (expressible : 
 
   -- What words say of an operation whose masks have events.
   record OpBack (words : List (List ℕ)) (op : Op) : Type 0 where
-    words_are : form_words (name_of plan) (form_of_op op) ≡ words
+    words_are : form_words (name_of plan) (parsed_op_of op) ≡ words
     in_form : is_in_form op ≡ true
     there : list_all (is_object plan) (objects_of op) ≡ true
 
-  op-back : (words : List (List ℕ)) (op : Op) → op_said plan words ≡ Some op → has_masks op ≡ true → OpBack words op
+  op-back : (words : List (List ℕ)) (op : Op) → op_of_words plan words ≡ Some op → has_masks op ≡ true → OpBack words op
   op-back words op e masks =
       let m = mapped op_of (option_and_then (resolved (place_named plan)) (form_of_words words)) op e in
       let c = chained (resolved (place_named plan)) (form_of_words words) m.0 m.1 in
@@ -204,11 +204,11 @@ module _ (plan : Plan) (limits : IsTrue (is_within_limits plan)) (expressible : 
       let f = formed-args words c.0 c.1 in
       let fit : are_of (kinds_of c.0.0) r.0 ≡ true = args-fit (place_named plan) (kinds_of c.0.0) f.0 c.0.1 r.0 f.1 r.1 in
       let back : op ≡ op_of (c.0.0, r.0) = sym m.2 ∙ ap op_of (sym r.2) in
-      let verb : (form_of_op op).0 ≡ c.0.0 = ap (λ (o : Op). (form_of_op o).0) back ∙ (is-row c.0.0).3 r.0 in
-      let args : (form_of_op op).1 ≡ r.0 = ap (λ (o : Op). (form_of_op o).1) back ∙ (is-row c.0.0).4 r.0 fit ∙ args-home (is_object plan) (stays plan) r.0 (args-there c.0.1 r.0 r.1) in
+      let verb : (parsed_op_of op).0 ≡ c.0.0 = ap (λ (o : Op). (parsed_op_of o).0) back ∙ (is-row c.0.0).3 r.0 in
+      let args : (parsed_op_of op).1 ≡ r.0 = ap (λ (o : Op). (parsed_op_of o).1) back ∙ (is-row c.0.0).4 r.0 fit ∙ args-home (is_object plan) (stays plan) r.0 (args-there c.0.1 r.0 r.1) in
       record {
         words_are =
-            ap (λ (v : Verb). form_words (name_of plan) (v, (form_of_op op).1)) verb
+            ap (λ (v : Verb). form_words (name_of plan) (v, (parsed_op_of op).1)) verb
             ∙ ap (λ (as_ : List (Arg Place)). form_words (name_of plan) (c.0.0, as_)) args
             ∙ form-said words c.0 r.0 c.1 r.1 (ap (list_all has_event) (sym args) ∙ masks);
         in_form = rw (verb, args) fit;
@@ -218,12 +218,12 @@ module _ (plan : Plan) (limits : IsTrue (is_within_limits plan)) (expressible : 
   -- a call that is read has these words, and is representable
   pub call-back : (words : List (List ℕ)) (call : RemoteCall) → call_of plan words ≡ Some call → (call_words (name_of plan) call ≡ words) × (is_call_representable plan call ≡ true)
   call-back words call e =
-      let c = chained call_in (op_said plan words) call e in
+      let c = chained call_in (op_of_words plan words) call e in
       let m = cond-some (has_masks c.0) (named_call c.0) call c.2 in
       let op = call-op c.0 call m.1 in
       let back = op-back words c.0 c.1 m.0 in
       let object : list_all (is_object plan) (object_of_call call ∷ []) ≡ true = ap (list_all (is_object plan)) (sym (call-objects call)) ∙ ap (λ (o : Op). list_all (is_object plan) (objects_of o)) (sym op) ∙ back.there in (
-        ap (λ (o : Op). form_words (name_of plan) (form_of_op o)) (sym op) ∙ back.words_are,
+        ap (λ (o : Op). form_words (name_of plan) (parsed_op_of o)) (sym op) ∙ back.words_are,
         and_from _ _ (and_from _ _ (ap is_in_form (sym op) ∙ back.in_form) (ap has_masks (sym op) ∙ m.0)) (and_parts (is_object plan (object_of_call call)) true object).0,
       )
 
@@ -231,9 +231,9 @@ module _ (plan : Plan) (limits : IsTrue (is_within_limits plan)) (expressible : 
 
   named-back : (object : ObjectOf) → is_object plan object ≡ true → IsNamed (place_named plan) (name_of plan) object
   named-back object is =
-      let found = place-found plan limits expressible object is in
+      let found = place-found plan limits config_representable object is in
       let c = chained (if_object object.kind) (named_by plan (name_of plan object.kind object.place)) object.place found in
-      record { in_form = named-formed plan limits expressible (name_of plan object.kind object.place) c.0 c.1; found = found }
+      record { in_form = named-formed plan limits config_representable (name_of plan object.kind object.place) c.0 c.1; found = found }
 
   -- A representable call is what its words say; none of these has a space or a line end.
   pub record CallRead (call : RemoteCall) : Type 0 where

@@ -18,19 +18,19 @@ use Rattle.osbase.specs.declared.statuses.Status.TheVariants.{EOk}
 use Rattle.oscript.specs.Rows.{is_int}
 use Rattle.oscript.specs.declared.rows.Arg.TheVariants.{Int, Number, Object}
 use Rattle.oscript.specs.declared.rows.Kind as operation
-use Rattle.osforms.specs.Form.{words_of}
-use Rattle.osforms.specs.Word.{int_of, number_in}
-use Rattle.osforms.proofs.Joining.{all-none, has_none, joined-none, some-more, split-joined}
-use Rattle.osforms.proofs.KindTexts.{IsApart, arg_of-none, int-back, mapped, name-back, number-back}
-use Rattle.osforms.proofs.RoundTrip.{space-apart}
+use Rattle.ossyntax.specs.ParsedOp.{words_of}
+use Rattle.ossyntax.specs.Word.{int_of, number_in}
+use Rattle.ossyntax.proofs.Joining.{all-none, has_none, joined-none, some-more, split-joined}
+use Rattle.ossyntax.proofs.KindTexts.{IsApart, arg_of-none, int-back, mapped, name-back, number-back}
+use Rattle.ossyntax.proofs.RoundTrip.{space-apart}
 use Rattle.osplan.proofs.Tests.{all-append}
-use Rattle.osplan.specs.Expressible.{is_expressible}
+use Rattle.osplan.specs.Representable.{is_representable}
 use Rattle.osplan.specs.Limits.{is_within_limits}
 use Rattle.osplan.specs.Names.{isr_name, name_of_mode, spinlock_name}
 use Rattle.osplan.specs.declared.plans.Plan.{Plan}
 use Rattle.oslog.specs.Forms.{form_of}
-use Rattle.oslog.specs.Items.{first_item, item_as, item_meant, later_words, led, line_of}
-use Rattle.oslog.specs.Logs.{is_core_number, is_message_representable, is_representable}
+use Rattle.oslog.specs.Items.{first_item, item_as, item_of_text, later_words, led, line_of}
+use Rattle.oslog.specs.Logs.{is_core_number, is_message_representable, is_item_representable}
 use Rattle.oslog.specs.Naming.{isr_named}
 use Rattle.oslog.specs.Rows.{keyword_text, row_of}
 use Rattle.oslog.specs.Words.{core_of, irq_prefix, status_of, tail_words, word_text}
@@ -90,19 +90,19 @@ module _ (byte : ℕ) (apart : IsApart byte) where
   name-none : (name : List ℕ) → is_name name ≡ true → has_none byte name ≡ true
   name-none name formed = arg_of-none byte (operation.Kind.Object ObjectKind.Isr) name (Object ObjectKind.Isr (Some name)) apart (name-back ObjectKind.Isr name formed)
 
-module _ (plan : Plan) (limits : IsTrue (is_within_limits plan)) (expressible : IsTrue (is_expressible plan)) where
+module _ (plan : Plan) (limits : IsTrue (is_within_limits plan)) (config_representable : IsTrue (is_representable plan)) where
   part-none : (byte : ℕ) → IsApart byte → (byte ≡ 32) ⊎ (byte ≡ 10) → (k : Kind) (q : Parts) → is_part_representable plan q k ≡ true → has_none byte (word_text plan q k) ≡ true
   part-none byte apart which (K.Keyword word) q representable = all-none is_name_part byte (keyword_text word) apart.part (word-parts word)
   part-none byte apart which K.Core q representable = number-none byte apart 255 q.core.number (leb-true q.core.number 255 representable) (omega arith)
   part-none byte apart which K.Count q representable = number-none byte apart 18446744073709551615 q.count (leb-true q.count 18446744073709551615 representable) (omega arith)
   part-none byte apart which K.Status q representable = all-none is_name_part byte (status_name q.status) apart.part (status-parts q.status)
   part-none byte apart which K.Value q representable = arg_of-none byte operation.Kind.Int (signed_decimal q.value) (Int q.value) apart (int-back q.value representable)
-  part-none byte apart which K.Mode q representable = name-none byte apart (name_of_mode plan q.mode) (mode-said plan expressible q.mode representable).in_form
+  part-none byte apart which K.Mode q representable = name-none byte apart (name_of_mode plan q.mode) (mode-said plan config_representable q.mode representable).in_form
   part-none byte apart which K.Irq q representable =
       let name = isr_name plan q.isr in
-      let formed : is_name name ≡ true = object-formed plan limits expressible (isr_object q.isr) representable in
+      let formed : is_name name ≡ true = object-formed plan limits config_representable (isr_object q.isr) representable in
       list_all-append (λ b. not (b == byte)) irq_prefix name ∙ and_from _ _ (prefix-none byte which) (name-none byte apart name formed)
-  part-none byte apart which K.Spinlock q representable = name-none byte apart (spinlock_name plan q.spinlock) (spinlock-formed plan limits expressible q.spinlock representable)
+  part-none byte apart which K.Spinlock q representable = name-none byte apart (spinlock_name plan q.spinlock) (spinlock-formed plan limits config_representable q.spinlock representable)
 
   parts-none : (byte : ℕ) → IsApart byte → (byte ≡ 32) ⊎ (byte ≡ 10) → (ks : List Kind) (q : Parts) → list_all (is_part_representable plan q) ks ≡ true → list_all (has_none byte) (map (word_text plan q) ks) ≡ true
   parts-none byte apart which [] q representable = refl
@@ -113,7 +113,7 @@ module _ (plan : Plan) (limits : IsTrue (is_within_limits plan)) (expressible : 
   -- ---- an item's words
 
   -- Its parts are representable. The first clause is only there to make a case of each item.
-  item-parts : (item : Item) → is_representable plan item ≡ true
+  item-parts : (item : Item) → is_item_representable plan item ≡ true
       → (list_all (is_part_representable plan (form_of item).1) (row_of (form_of item).0).1 ≡ true) × (is_tail_representable plan (form_of item).1 (row_of (form_of item).0).2 ≡ true)
   item-parts Item.On representable = (refl, refl)
   item-parts (Item.Pass1 Agreement.Conflict) representable = (refl, refl)
@@ -126,14 +126,14 @@ module _ (plan : Plan) (limits : IsTrue (is_within_limits plan)) (expressible : 
 
   tail-none : (byte : ℕ) → IsApart byte → (byte ≡ 32) ⊎ (byte ≡ 10) → (tail : Tail) (q : Parts) → is_tail_representable plan q tail ≡ true → list_all (has_none byte) (tail_words plan q tail) ≡ true
   tail-none byte apart which T.Nothing q representable = refl
-  tail-none byte apart (inl is) T.Call q representable = ap (λ b. list_all (has_none b) (tail_words plan q T.Call)) is ∙ (call-read plan limits expressible q.call representable).no_space
-  tail-none byte apart (inr is) T.Call q representable = ap (λ b. list_all (has_none b) (tail_words plan q T.Call)) is ∙ (call-read plan limits expressible q.call representable).no_end
+  tail-none byte apart (inl is) T.Call q representable = ap (λ b. list_all (has_none b) (tail_words plan q T.Call)) is ∙ (call-read plan limits config_representable q.call representable).no_space
+  tail-none byte apart (inr is) T.Call q representable = ap (λ b. list_all (has_none b) (tail_words plan q T.Call)) is ∙ (call-read plan limits config_representable q.call representable).no_end
   tail-none byte apart which T.Cores q representable = cores-none byte q.cores apart.digit
 
   abbrev words : Item → List (List ℕ)
   words item = keyword_text (row_of (form_of item).0).0 ∷ later_words plan (form_of item)
 
-  words-none : (byte : ℕ) → IsApart byte → (byte ≡ 32) ⊎ (byte ≡ 10) → (item : Item) → is_representable plan item ≡ true → list_all (has_none byte) (words item) ≡ true
+  words-none : (byte : ℕ) → IsApart byte → (byte ≡ 32) ⊎ (byte ≡ 10) → (item : Item) → is_item_representable plan item ≡ true → list_all (has_none byte) (words item) ≡ true
   words-none byte apart which item representable =
       let form = form_of item in
       let parts = item-parts item representable in
@@ -143,20 +143,20 @@ module _ (plan : Plan) (limits : IsTrue (is_within_limits plan)) (expressible : 
 
   -- ---- an item by its words, one case for each
 
-  words-read : (item : Item) → is_representable plan item ≡ true → first_item (item_as plan (words item)) LINES ≡ Some item
+  words-read : (item : Item) → is_item_representable plan item ≡ true → first_item (item_as plan (words item)) LINES ≡ Some item
   words-read Item.On representable = refl
   words-read (Item.Began core status) representable = rw (core-read core representable, status-read status) refl
   words-read Item.Entered representable = refl
   words-read (Item.Pass1 Agreement.Conflict) representable = refl
   words-read (Item.Pass1 (Agreement.Mode mode)) representable =
-      let named = mode-said plan expressible mode representable in
-      rw (named.not_conflict, named.not_none, mode-found plan limits expressible mode representable) refl
+      let named = mode-said plan config_representable mode representable in
+      rw (named.not_conflict, named.not_none, mode-found plan limits config_representable mode representable) refl
   words-read (Item.Pass1 Agreement.NoMode) representable = refl
   words-read Item.Readied representable = refl
   words-read (Item.Pass2 cores) representable = rw (cores-read cores (eqb-true (length cores.members) 16 representable)) refl
   words-read (Item.Stim Stimulus.Op) representable = refl
   words-read (Item.Stim Stimulus.Tick) representable = refl
-  words-read (Item.Stim (Stimulus.Irq isr)) representable = let found : isr_named plan (isr_name plan isr) ≡ Some isr = ap (option_map isr_of) (place-found plan limits expressible (isr_object isr) representable) in rw found refl
+  words-read (Item.Stim (Stimulus.Irq isr)) representable = let found : isr_named plan (isr_name plan isr) ≡ Some isr = ap (option_map isr_of) (place-found plan limits config_representable (isr_object isr) representable) in rw found refl
   words-read (Item.Posted core) representable = rw (core-read core representable) refl
   words-read (Item.Received from number message) representable =
       let parts = and_parts (is_core_number from && nat_le number 18446744073709551615) (is_message_representable plan message) representable in
@@ -165,14 +165,14 @@ module _ (plan : Plan) (limits : IsTrue (is_within_limits plan)) (expressible : 
     where
       by : (message : Message) → is_message_representable plan message ≡ true → core_of (decimal from.number) ≡ Some from → number_in 0 18446744073709551615 (decimal number) ≡ Some number
           → first_item (item_as plan (words (Item.Received from number message))) LINES ≡ Some (Item.Received from number message)
-      by (Message.Request call) representable core count = rw (core, count, (call-read plan limits expressible call representable).read) refl
-      by (Message.Action call) representable core count = rw (core, count, (call-read plan limits expressible call representable).read) refl
+      by (Message.Request call) representable core count = rw (core, count, (call-read plan limits config_representable call representable).read) refl
+      by (Message.Action call) representable core count = rw (core, count, (call-read plan limits config_representable call representable).read) refl
       by (Message.Reply status) representable core count = rw (core, count, status-read status) refl
       by (Message.Value status value) representable core count = rw (core, count, status-read status, int-read value representable) refl
-  words-read (Item.Granted spinlock) representable = rw (spinlock-found plan limits expressible spinlock representable) refl
-  words-read (Item.Tried spinlock true) representable = rw (spinlock-found plan limits expressible spinlock representable) refl
-  words-read (Item.Tried spinlock false) representable = rw (spinlock-found plan limits expressible spinlock representable) refl
-  words-read (Item.Freed spinlock) representable = rw (spinlock-found plan limits expressible spinlock representable) refl
+  words-read (Item.Granted spinlock) representable = rw (spinlock-found plan limits config_representable spinlock representable) refl
+  words-read (Item.Tried spinlock true) representable = rw (spinlock-found plan limits config_representable spinlock representable) refl
+  words-read (Item.Tried spinlock false) representable = rw (spinlock-found plan limits config_representable spinlock representable) refl
+  words-read (Item.Freed spinlock) representable = rw (spinlock-found plan limits config_representable spinlock representable) refl
   words-read (Item.Halt core status) representable = rw (core-read core representable, status-read status) refl
   words-read Item.Drained representable = refl
   words-read Item.PassEnd representable = refl
@@ -184,13 +184,13 @@ module _ (plan : Plan) (limits : IsTrue (is_within_limits plan)) (expressible : 
   line-joined : (item : Item) → line_of plan item ≡ join_with_byte 32 (words item)
   line-joined item = led-joined (keyword_text (row_of (form_of item).0).0) (later_words plan (form_of item))
 
-  pub line-read : (item : Item) → is_representable plan item ≡ true → item_meant plan (line_of plan item) ≡ Some item
+  pub line-read : (item : Item) → is_item_representable plan item ≡ true → item_of_text plan (line_of plan item) ≡ Some item
   line-read item representable =
       ap (λ (ws : List (List ℕ)). first_item (item_as plan ws) LINES)
       (ap words_of (line-joined item) ∙ split-joined 32 (keyword_text (row_of (form_of item).0).0) (later_words plan (form_of item)) refl (words-none 32 space-apart (inl refl) item representable))
       ∙ words-read item representable
 
-  pub line-none : (item : Item) → is_representable plan item ≡ true → has_none 10 (line_of plan item) ≡ true
+  pub line-none : (item : Item) → is_item_representable plan item ≡ true → has_none 10 (line_of plan item) ≡ true
   line-none item representable =
       ap (has_none 10) (line-joined item) ∙ joined-none 10 (keyword_text (row_of (form_of item).0).0) (later_words plan (form_of item)) refl (words-none 10 end-apart (inr refl) item representable)
 

@@ -12,11 +12,11 @@ use Rattle.osbase.specs.declared.limits.TheConstants.{CORES}
 use Rattle.osbase.specs.declared.references.CoreId.{CoreId}
 use Rattle.osbase.specs.History.{no_cores}
 use Rattle.osbase.specs.Sets.{core_ids, has_core, numbers_from}
-use Rattle.osforms.specs.Word.{number_in}
-use Rattle.osforms.proofs.Joining.{all-none, has_none}
-use Rattle.osforms.proofs.KindTexts.{number-back}
-use Rattle.osforms.proofs.Numerals.{own}
-use Rattle.osforms.proofs.RoundTrip.{chained}
+use Rattle.ossyntax.specs.Word.{number_in}
+use Rattle.ossyntax.proofs.Joining.{all-none, has_none}
+use Rattle.ossyntax.proofs.KindTexts.{number-back}
+use Rattle.ossyntax.proofs.Numerals.{own}
+use Rattle.ossyntax.proofs.RoundTrip.{chained}
 use Rattle.osbase.proofs.Sets.{flag-read, has_core-flag, no-flag}
 use Rattle.osplan.proofs.Tests.{all-filter, all-weaker}
 use Rattle.oslog.specs.Items.{led}

@@ -5,9 +5,9 @@ use Rattle.std.proofs.lemmas.Bool.{and_from, and_parts, not_from_false}
 use Rattle.std.proofs.lemmas.List.Folds.{list_all-append}
 use Rattle.std.proofs.lemmas.List.{append-nil, append_assoc, map-append, take_more}
 use Rattle.std.proofs.lemmas.List.Splits.{join_with_byte-slice_split}
-use Rattle.osforms.specs.Form.{words_of}
-use Rattle.osforms.proofs.Joining.{has_none}
-use Rattle.osforms.proofs.KindTexts.{IsApart}
+use Rattle.ossyntax.specs.ParsedOp.{words_of}
+use Rattle.ossyntax.proofs.Joining.{has_none}
+use Rattle.ossyntax.proofs.KindTexts.{IsApart}
 use Rattle.oslog.specs.Items.{led}
 
 pub led-append : (xs ys : List (List ℕ)) → led (xs ++ ys) ≡ led xs ++ led ys

@@ -21,13 +21,13 @@ use Rattle.osbase.specs.declared.objects.ObjectKind.{ObjectKind}
 use Rattle.osbase.specs.declared.references.CoreId.{CoreId}
 use Rattle.osbase.specs.declared.references.ModeId.{ModeId}
 use Rattle.osbase.specs.declared.references.SpinlockId.{SpinlockId}
-use Rattle.osforms.proofs.RoundTrip.{chained}
+use Rattle.ossyntax.proofs.RoundTrip.{chained}
 use Rattle.osplan.proofs.Found.{IsFound, each-found}
 use Rattle.osplan.proofs.ModeObjects.{mode-named, nobody, there-mode}
 use Rattle.osplan.proofs.SpinlockObjects.{there-spinlock}
 use Rattle.osplan.proofs.Tests.{all-append, all-flat, all-weaker, any-mapped, find-holds, find-passes}
 use Rattle.osplan.proofs.Within.{core-text-parts, few-modes, few-objects, few-spinlocks, fits, limit-parts, names-formed, text-parts}
-use Rattle.osplan.specs.Expressible.{all_common_names, are_distinct, declared_names, is_core_expressible, is_expressible, is_mode_expressible, object_names}
+use Rattle.osplan.specs.Representable.{all_common_names, are_distinct, declared_names, is_core_representable, is_representable, is_mode_representable, object_names}
 use Rattle.osplan.specs.Limits.{core_sizes, is_core_within, is_mode, is_object, is_spinlock, is_within_limits, sizes_of}
 use Rattle.osplan.specs.Names.{common_name, name_in, name_of, name_of_mode, spinlock_name}
 use Rattle.osplan.specs.Objects.{common_names, is_common, names_in, object_count}
@@ -187,7 +187,7 @@ few-common plan limits kind = omega arith
 
 -- ---- all that has a name
 
-module _ (plan : Plan) (limits : IsTrue (is_within_limits plan)) (said : IsTrue (is_expressible plan)) where
+module _ (plan : Plan) (limits : IsTrue (is_within_limits plan)) (said : IsTrue (is_representable plan)) where
   found : AllByRecursion (IsFound plan.cores) plan.cores
   found = each-found plan.cores (limit-parts plan limits).distinct
 
@@ -206,14 +206,14 @@ module _ (plan : Plan) (limits : IsTrue (is_within_limits plan)) (said : IsTrue 
       (all-flat is_name object_names plan.cores (by plan.cores (text-parts plan said).cores))
     where
       common : (kind : ObjectKind) → list_all is_name (common_names kind plan) ≡ true
-      common ObjectKind.Mode = all-weaker is_mode_expressible is_name (λ name h. (and_parts (is_name name) _ h).0) plan.modes (text-parts plan said).modes
+      common ObjectKind.Mode = all-weaker is_mode_representable is_name (λ name h. (and_parts (is_name name) _ h).0) plan.modes (text-parts plan said).modes
       common ObjectKind.Spinlock = list_all-map is_name (λ (spinlock : Spinlock). spinlock.name) plan.spinlocks ∙ (text-parts plan said).spinlocks
       common kind = refl
 
-      by : (cores : List Core) → list_all is_core_expressible cores ≡ true → list_all (λ (core : Core). list_all is_name (object_names core)) cores ≡ true
+      by : (cores : List Core) → list_all is_core_representable cores ≡ true → list_all (λ (core : Core). list_all is_name (object_names core)) cores ≡ true
       by [] each = refl
       by (core ∷ cores) each =
-          let parts = and_parts (is_core_expressible core) (list_all is_core_expressible cores) each in
+          let parts = and_parts (is_core_representable core) (list_all is_core_representable cores) each in
           and_from _ _ (all-flat is_name (λ (kind : ObjectKind). names_in kind core) KINDS (every (λ (kind : ObjectKind). list_all is_name (names_in kind core)) (names-formed core (core-text-parts core parts.0)) KINDS)) (by cores parts.1)
 
   all-there : list_all (is_object plan) (all_named plan) ≡ true
@@ -224,7 +224,7 @@ module _ (plan : Plan) (limits : IsTrue (is_within_limits plan)) (said : IsTrue 
       (cores-pass plan (is_object plan) plan.cores
       (λ core is kind i lt. ap (λ (o : Option Core). option_map_or (λ (c : Core). nat_lt i (object_count kind c)) o (is_common plan (object_under core.id kind i))) is ∙ lt-ltb i (object_count kind core) lt) found)
 
-  -- What a name stands for is there, and the name is in form.
+  -- What a name refers to is there, and the name is in form.
   pub named-there : (w : List ℕ) (n : Object) → named_by plan w ≡ Some n → is_object plan n ≡ true
   named-there w n e = find-passes (λ (n : Object). bytes_eq (name_of_object plan n) w) (is_object plan) (all_named plan) n all-there e
 
@@ -234,7 +234,7 @@ module _ (plan : Plan) (limits : IsTrue (is_within_limits plan)) (said : IsTrue 
       ∙ find-passes (λ (n : Object). bytes_eq (name_of_object plan n) w) (λ (n : Object). is_name (name_of_object plan n)) (all_named plan) n
       (sym (list_all-map is_name (name_of_object plan) (all_named plan)) ∙ ap (list_all is_name) names-are ∙ all-formed) e
 
-  -- And what is there is what its name stands for:
+  -- And what is there is what its name refers to:
   by-name : (n : Object) → Stands (all_named plan) n → named_by plan (name_of_object plan n) ≡ Some n
   by-name n among = stands-found (name_of_object plan) (all_named plan) n (ap are_distinct names-are ∙ (text-parts plan said).names) among
 

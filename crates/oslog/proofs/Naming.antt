@@ -6,7 +6,7 @@ use Rattle.std.specs.Map.{update}
 use Rattle.std.specs.Str.{bytes_eq}
 use Rattle.std.proofs.lemmas.List.{get_or_default}
 use Rattle.osbase.specs.Sets.{numbers_from}
-use Rattle.osread.proofs.Each.{drop-here}
+use Rattle.osjson.proofs.Each.{drop-here}
 use Rattle.osbase.specs.declared.objects.Object.{Object}
 use Rattle.osplan.specs.declared.plans.Plan.{Plan}
 use Rattle.oslog.specs.Naming.{Indexes, index_in, name_of_object}

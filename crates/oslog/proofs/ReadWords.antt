@@ -2,8 +2,8 @@
 use Rattle.std.proofs.Common.{◌≡◌, ◌&&◌, Bool, true, Option, Some, List, [], ◌∷◌, ◌++◌, map, ℕ, IsTrue, refl, sym, ap, ◌∙◌}
 use Rattle.std.specs.List.{list_all}
 use Rattle.std.proofs.lemmas.Bool.{and_parts, and_from}
-use Rattle.osforms.proofs.RoundTrip.{chained}
-use Rattle.osplan.specs.Expressible.{is_expressible}
+use Rattle.ossyntax.proofs.RoundTrip.{chained}
+use Rattle.osplan.specs.Representable.{is_representable}
 use Rattle.osplan.specs.Limits.{is_within_limits}
 use Rattle.osplan.specs.declared.plans.Plan.{Plan}
 use Rattle.oslog.specs.Words.{read_words, with_word, word_text}
@@ -25,7 +25,7 @@ pub record ReadsBack (plan : Plan) (kinds : List Kind) (words : List (List ℕ))
   pub representable : list_all (is_part_representable plan q) kinds ≡ true
   pub stays : (other : Kind) → list_all (λ k. apart k other) kinds ≡ true → part_view plan q other ≡ part_view plan p other
 
-module _ (plan : Plan) (limits : IsTrue (is_within_limits plan)) (expressible : IsTrue (is_expressible plan)) where
+module _ (plan : Plan) (limits : IsTrue (is_within_limits plan)) (config_representable : IsTrue (is_representable plan)) where
   pub reads-back : (kinds : List Kind) (words : List (List ℕ)) (p q : Parts) (rest : List (List ℕ)) → are_apart kinds ≡ true → read_words plan kinds words p ≡ Some (q, rest) → ReadsBack plan kinds words p q rest
   reads-back [] words p q rest away e =
       let same = some-pair p q words rest e in
@@ -35,7 +35,7 @@ module _ (plan : Plan) (limits : IsTrue (is_within_limits plan)) (expressible : 
       let c = chained (read_words plan kinds words) (with_word plan k w p) (q, rest) e in
       let parts = and_parts (list_all (λ later. apart later k) kinds) (are_apart kinds) away in
       let later = reads-back kinds words c.0 q rest parts.1 c.2 in
-      let here : ◌≡◌ {A = List ℕ × Bool} (part_view plan q k) (w, true) = later.stays k parts.0 ∙ word-back plan limits expressible k w p c.0 c.1 in
+      let here : ◌≡◌ {A = List ℕ × Bool} (part_view plan q k) (w, true) = later.stays k parts.0 ∙ word-back plan limits config_representable k w p c.0 c.1 in
       record {
         words_are = ap (λ (s : List ℕ × Bool). s.0 ∷ (map (word_text plan q) kinds ++ rest)) here ∙ ap (λ (ws : List (List ℕ)). w ∷ ws) later.words_are;
         representable = and_from _ _ (ap (λ (s : List ℕ × Bool). s.1) here) later.representable;

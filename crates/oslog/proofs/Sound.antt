@@ -10,15 +10,15 @@ use Rattle.osbase.specs.declared.items.CoreSet.{CoreSet}
 use Rattle.osbase.specs.declared.items.Item.{Item}
 use Rattle.osbase.specs.declared.limits.TheConstants.{CORES}
 use Rattle.osbase.specs.declared.messages.RemoteCall.{RemoteCall}
-use Rattle.osforms.specs.Form.{words_of}
-use Rattle.osforms.proofs.KindTexts.{cond-some, mapped}
-use Rattle.osforms.proofs.RoundTrip.{chained}
-use Rattle.osplan.specs.Expressible.{is_expressible}
+use Rattle.ossyntax.specs.ParsedOp.{words_of}
+use Rattle.ossyntax.proofs.KindTexts.{cond-some, mapped}
+use Rattle.ossyntax.proofs.RoundTrip.{chained}
+use Rattle.osplan.specs.Representable.{is_representable}
 use Rattle.osplan.specs.Limits.{is_within_limits}
 use Rattle.osplan.specs.declared.plans.Plan.{Plan}
 use Rattle.oslog.specs.Forms.{form_of, item_of, no_parts}
-use Rattle.oslog.specs.Items.{first_item, item_as, item_behind, item_meant, later_words, led, line_of}
-use Rattle.oslog.specs.Logs.{is_call_representable, is_representable}
+use Rattle.oslog.specs.Items.{first_item, item_as, item_behind, item_of_text, later_words, led, line_of}
+use Rattle.oslog.specs.Logs.{is_call_representable, is_item_representable}
 use Rattle.oslog.specs.Rows.{keyword_text, row_of}
 use Rattle.oslog.specs.Words.{call_of, cores_from, read_words, tail_words, with_tail, word_text}
 use Rattle.oslog.specs.declared.forms.Parts.{Parts}
@@ -83,17 +83,17 @@ all-same p q each (k ∷ ks) = ap (λ (b : Bool). b && list_all p ks) (each k) �
 -- ---- what is read is representable
 
 -- the first clause is only there to make a case of each form
-item-representable : (plan : Plan) (l : Line) (q : Parts) → list_all (is_part_representable plan q) (row_of l).1 ≡ true → is_tail_representable plan q (row_of l).2 ≡ true → is_representable plan (item_of l q) ≡ true
+item-representable : (plan : Plan) (l : Line) (q : Parts) → list_all (is_part_representable plan q) (row_of l).1 ≡ true → is_tail_representable plan q (row_of l).2 ≡ true → is_item_representable plan (item_of l q) ≡ true
 item-representable plan L.Op q parts tail = refl
 item-representable plan l q parts tail = grind arith
 
-module _ (plan : Plan) (limits : IsTrue (is_within_limits plan)) (expressible : IsTrue (is_expressible plan)) where
+module _ (plan : Plan) (limits : IsTrue (is_within_limits plan)) (config_representable : IsTrue (is_representable plan)) where
   tail-back : (tail : Tail) (words : List (List ℕ)) (p q : Parts) → with_tail plan tail words p ≡ Some q → TailBack plan tail words p q
   tail-back T.Nothing [] p q e = let same : p ≡ q = cc in record { words_are = refl; representable = refl; stays = λ k. ap (λ (r : Parts). part_view plan r k) (sym same) }
   tail-back T.Nothing (w ∷ words) p q e = cc
   tail-back T.Call words p q e =
       let m = mapped (λ call. record p { call = call }) (call_of plan words) q e in
-      let back = call-back plan limits expressible words m.0 m.1 in
+      let back = call-back plan limits config_representable words m.0 m.1 in
       record {
         words_are = ap (λ (r : Parts). tail_words plan r T.Call) (sym m.2) ∙ back.0;
         representable = ap (λ (r : Parts). is_tail_representable plan r T.Call) (sym m.2) ∙ back.1;
@@ -115,13 +115,13 @@ module _ (plan : Plan) (limits : IsTrue (is_within_limits plan)) (expressible : 
     parts : Parts
     item_is : item_of l parts ≡ item
     words_are : map (word_text plan parts) (row_of l).1 ++ tail_words plan parts (row_of l).2 ≡ words
-    representable : is_representable plan item ≡ true
+    representable : is_item_representable plan item ≡ true
 
   behind-words : (words : List (List ℕ)) (l : Line) (item : Item) → item_behind plan words l ≡ Some item → LineBack words l item
   behind-words words l item e =
       let m = mapped (item_of l) (option_and_then (λ (p : Parts × List (List ℕ)). with_tail plan (row_of l).2 p.1 p.0) (read_words plan (row_of l).1 words no_parts)) item e in
       let c = chained (λ (p : Parts × List (List ℕ)). with_tail plan (row_of l).2 p.1 p.0) (read_words plan (row_of l).1 words no_parts) m.0 m.1 in
-      let read = reads-back plan limits expressible (row_of l).1 words no_parts c.0.0 c.0.1 (row-apart l) c.1 in
+      let read = reads-back plan limits config_representable (row_of l).1 words no_parts c.0.0 c.0.1 (row-apart l) c.1 in
       let tail = tail-back (row_of l).2 c.0.1 c.0.0 m.0 c.2 in
       let parts = all-same (is_part_representable plan m.0) (is_part_representable plan c.0.0) (λ k. ap (λ (s : List ℕ × Bool). s.1) (tail.stays k)) (row_of l).1 ∙ read.representable in
       record {
@@ -131,10 +131,10 @@ module _ (plan : Plan) (limits : IsTrue (is_within_limits plan)) (expressible : 
             ap (λ (ws : List (List ℕ)). ws ++ tail_words plan m.0 (row_of l).2) (map-same (word_text plan m.0) (word_text plan c.0.0) (λ k. ap (λ (s : List ℕ × Bool). s.0) (tail.stays k)) (row_of l).1)
             ∙ ap (λ (ws : List (List ℕ)). map (word_text plan c.0.0) (row_of l).1 ++ ws) tail.words_are
             ∙ read.words_are;
-        representable = ap (is_representable plan) (sym m.2) ∙ item-representable plan l m.0 parts tail.representable;
+        representable = ap (is_item_representable plan) (sym m.2) ∙ item-representable plan l m.0 parts tail.representable;
       }
 
-  as-line : (first : List ℕ) (words : List (List ℕ)) (l : Line) (item : Item) → item_as plan (first ∷ words) l ≡ Some item → (line_of plan item ≡ first ++ led words) × (is_representable plan item ≡ true)
+  as-line : (first : List ℕ) (words : List (List ℕ)) (l : Line) (item : Item) → item_as plan (first ∷ words) l ≡ Some item → (line_of plan item ≡ first ++ led words) × (is_item_representable plan item ≡ true)
   as-line first words l item e =
       let c = cond-some (bytes_eq first (keyword_text (row_of l).0)) (item_behind plan words l) item e in
       let here : first ≡ keyword_text (row_of l).0 = (bytes_eq-Decides first (keyword_text (row_of l).0)).0 c.0 in
@@ -155,9 +155,9 @@ first-found f (l ∷ ls) item e = by (f l) refl e (λ later. first-found f ls it
     by (Some x) is e rest = (l, is ∙ e)
 
 -- The item that a line says has this line, and is representable.
-pub line-back : (plan : Plan) → IsTrue (is_within_limits plan) → IsTrue (is_expressible plan) → (text : List ℕ) (item : Item) → item_meant plan text ≡ Some item → (line_of plan item ≡ text) × (is_representable plan item ≡ true)
-line-back plan limits expressible text item e = by (words_of text) refl (first-found (item_as plan (words_of text)) LINES item e)
+pub line-back : (plan : Plan) → IsTrue (is_within_limits plan) → IsTrue (is_representable plan) → (text : List ℕ) (item : Item) → item_of_text plan text ≡ Some item → (line_of plan item ≡ text) × (is_item_representable plan item ≡ true)
+line-back plan limits config_representable text item e = by (words_of text) refl (first-found (item_as plan (words_of text)) LINES item e)
   where
-    by : (words : List (List ℕ)) → words_of text ≡ words → (l : Line) × (item_as plan words l ≡ Some item) → (line_of plan item ≡ text) × (is_representable plan item ≡ true)
+    by : (words : List (List ℕ)) → words_of text ≡ words → (l : Line) × (item_as plan words l ≡ Some item) → (line_of plan item ≡ text) × (is_item_representable plan item ≡ true)
     by [] is found = let none = found.1 in cc
-    by (first ∷ words) is found = let back = as-line plan limits expressible first words found.0 item found.1 in (back.0 ∙ text-of-words text first words is, back.1)
+    by (first ∷ words) is found = let back = as-line plan limits config_representable first words found.0 item found.1 in (back.0 ∙ text-of-words text first words is, back.1)

@@ -1,8 +1,8 @@
 -- What is left to read gives the whole, a step further.
 use Rattle.std.proofs.Common.{◌≡◌, ℕ, zero, suc, ◌<◌, false, Option, Some, None, is_none, List, [], ◌∷◌, length, drop, refl, sym, ap, ◌∙◌, arith}
 use Rattle.std.specs.Borrow.{Bor}
-use Rattle.osforms.specs.Form.{rest_words, words_of}
-use Rattle.osforms.proofs.Wording.{some-word}
+use Rattle.ossyntax.specs.ParsedOp.{rest_words, words_of}
+use Rattle.ossyntax.proofs.Wording.{some-word}
 use Rattle.osplan.specs.declared.plans.Plan.{Plan}
 use Rattle.oslog.specs.Words.{read_words, with_tail}
 use Rattle.oslog.specs.declared.forms.Parts.{Parts}
@@ -12,7 +12,7 @@ use Rattle.oslog.specs.declared.rows.Tail.TheVariants as T
 
 -- ---- the words of a row
 
--- a row that goes on wants a word
+-- a row with more parts needs a word
 pub no-word : (plan : Plan) (kinds : List Kind) (i : ℕ) (parts : Parts) → i < length kinds → read_words plan (drop i kinds) [] parts ≡ None
 no-word plan [] i parts within = absurd (omega (arith, within))
 no-word plan (k ∷ kinds) zero parts within = refl

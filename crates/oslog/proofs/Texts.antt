@@ -9,15 +9,15 @@ use Rattle.std.proofs.lemmas.List.Folds.{flat_map-map}
 use Rattle.std.proofs.lemmas.List.Splits.{join_with_byte-slice_split, length-slice_split}
 use Rattle.std.proofs.lemmas.List.Sums.{count_by-le-length}
 use Rattle.osbase.specs.declared.items.Item.{Item}
-use Rattle.osforms.proofs.Joining.{has_none, some-more as more-of, split-joined}
-use Rattle.osforms.proofs.KindTexts.{mapped}
-use Rattle.osforms.proofs.RoundTrip.{chained}
-use Rattle.osplan.specs.Expressible.{is_expressible}
+use Rattle.ossyntax.proofs.Joining.{has_none, some-more as more-of, split-joined}
+use Rattle.ossyntax.proofs.KindTexts.{mapped}
+use Rattle.ossyntax.proofs.RoundTrip.{chained}
+use Rattle.osplan.specs.Representable.{is_representable}
 use Rattle.osplan.specs.Limits.{is_within_limits}
 use Rattle.osplan.specs.declared.plans.Plan.{Plan}
-use Rattle.osread.specs.Reading.{each, each_of_few, parts_of}
-use Rattle.oslog.specs.Items.{item_meant, line_of}
-use Rattle.oslog.specs.Logs.{IsLog, IsTextOf, before_end, is_representable, log_meant, log_text, without_last_end}
+use Rattle.osjson.specs.Reading.{each, each_of_few, parts_of}
+use Rattle.oslog.specs.Items.{item_of_text, line_of}
+use Rattle.oslog.specs.Logs.{IsLog, IsTextOf, before_end, is_item_representable, log_of_text, log_text, without_last_end}
 use Rattle.oslog.specs.declared.faults.LogFault.{LogFault}
 use Rattle.oslog.proofs.Complete.{line-none, line-read, line-some}
 use Rattle.oslog.proofs.Sound.{line-back}
@@ -129,23 +129,23 @@ few-lines byte [] = omega arith
 few-lines byte (c ∷ text) = omega (arith, ap length (some-parts byte (c ∷ text) (some-more c text)), length-slice_split (λ b. b == byte) (c ∷ text), count_by-le-length (λ b. b == byte) (c ∷ text))
 
 -- where the lines are no items, the text means none
-pub none-meant : (plan : Plan) (text body : List ℕ) → body ≡ without_last_end text → each_of_few (length body + 1) (item_meant plan) (parts_of 10 body) ≡ None → log_meant plan text ≡ None
+pub none-meant : (plan : Plan) (text body : List ℕ) → body ≡ without_last_end text → each_of_few (length body + 1) (item_of_text plan) (parts_of 10 body) ≡ None → log_of_text plan text ≡ None
 none-meant plan text body is none =
     let few : nat_le (length (parts_of 10 body)) (length body + 1) ≡ true = le-leb (length (parts_of 10 body)) (length body + 1) (few-lines 10 body) in
-    ap (λ (b : List ℕ). each (item_meant plan) (parts_of 10 b)) (sym is) ∙ sym (ap (λ (b : Bool). cond b (each (item_meant plan) (parts_of 10 body)) None) few) ∙ none
+    ap (λ (b : List ℕ). each (item_of_text plan) (parts_of 10 b)) (sym is) ∙ sym (ap (λ (b : Bool). cond b (each (item_of_text plan) (parts_of 10 body)) None) few) ∙ none
 
 -- ---- from a text to its items
 
-module _ (plan : Plan) (limits : IsTrue (is_within_limits plan)) (expressible : IsTrue (is_expressible plan)) where
-  lines-back : (lines : List (List ℕ)) (items : List Item) → each (item_meant plan) lines ≡ Some items → (map (line_of plan) items ≡ lines) × (list_all (is_representable plan) items ≡ true)
-  lines-back [] items e = let none : [] ≡ items = cc in (ap (map (line_of plan)) (sym none), ap (list_all (is_representable plan)) (sym none))
+module _ (plan : Plan) (limits : IsTrue (is_within_limits plan)) (config_representable : IsTrue (is_representable plan)) where
+  lines-back : (lines : List (List ℕ)) (items : List Item) → each (item_of_text plan) lines ≡ Some items → (map (line_of plan) items ≡ lines) × (list_all (is_item_representable plan) items ≡ true)
+  lines-back [] items e = let none : [] ≡ items = cc in (ap (map (line_of plan)) (sym none), ap (list_all (is_item_representable plan)) (sym none))
   lines-back (line ∷ lines) items e =
-      let c = chained (λ (item : Item). option_map (λ (rest : List Item). item ∷ rest) (each (item_meant plan) lines)) (item_meant plan line) items e in
-      let m = mapped (λ (rest : List Item). c.0 ∷ rest) (each (item_meant plan) lines) items c.2 in
-      let here = line-back plan limits expressible line c.0 c.1 in
+      let c = chained (λ (item : Item). option_map (λ (rest : List Item). item ∷ rest) (each (item_of_text plan) lines)) (item_of_text plan line) items e in
+      let m = mapped (λ (rest : List Item). c.0 ∷ rest) (each (item_of_text plan) lines) items c.2 in
+      let here = line-back plan limits config_representable line c.0 c.1 in
       let later = lines-back lines m.0 m.1 in (
         ap (map (line_of plan)) (sym m.2) ∙ ap (λ (text : List ℕ). text ∷ map (line_of plan) m.0) here.0 ∙ ap (λ (texts : List (List ℕ)). line ∷ texts) later.0,
-        ap (list_all (is_representable plan)) (sym m.2) ∙ and_from _ _ here.1 later.1,
+        ap (list_all (is_item_representable plan)) (sym m.2) ∙ and_from _ _ here.1 later.1,
       )
 
   body-text : (body : List ℕ) (items : List Item) → not (length body == 0) ≡ true → map (line_of plan) items ≡ slice_split (λ b. b == 10) body → log_text plan items ≡ body ++ 10 ∷ []
@@ -155,13 +155,13 @@ module _ (plan : Plan) (limits : IsTrue (is_within_limits plan)) (expressible : 
       text-joined plan item items ∙ ap (λ (texts : List (List ℕ)). join_with_byte 10 texts ++ 10 ∷ []) lines ∙ ap (λ (text : List ℕ). text ++ 10 ∷ []) (join_with_byte-slice_split 10 (c ∷ body))
 
   -- The items that a text means are those whose log it is.
-  pub log-back : (text : List ℕ) (items : List Item) → log_meant plan text ≡ Some items → IsLog plan text items
+  pub log-back : (text : List ℕ) (items : List Item) → log_of_text plan text ≡ Some items → IsLog plan text items
   log-back [] items e =
       let none : [] ≡ items = cc in
-      record { representable = ap (list_all (is_representable plan)) (sym none); text_is = inl (ap (log_text plan) none) }
+      record { representable = ap (list_all (is_item_representable plan)) (sym none); text_is = inl (ap (log_text plan) none) }
   log-back (c ∷ text) items e =
       let body = body-of c text in
-      let parts : each (item_meant plan) (slice_split (λ b. b == 10) body.0) ≡ Some items = ap (each (item_meant plan)) (sym (ap (parts_of 10) body.1.is ∙ some-parts 10 body.0 body.1.some)) ∙ e in
+      let parts : each (item_of_text plan) (slice_split (λ b. b == 10) body.0) ≡ Some items = ap (each (item_of_text plan)) (sym (ap (parts_of 10) body.1.is ∙ some-parts 10 body.0 body.1.some)) ∙ e in
       let back = lines-back (slice_split (λ b. b == 10) body.0) items parts in
       let said = body-text body.0 items body.1.some back.0 in
       record { representable = back.1; text_is = by body.0 said body.1.whole }
@@ -172,24 +172,24 @@ module _ (plan : Plan) (limits : IsTrue (is_within_limits plan)) (expressible : 
 
   -- ---- from items to their text and back
 
-  lines-read : (items : List Item) → list_all (is_representable plan) items ≡ true → each (item_meant plan) (map (line_of plan) items) ≡ Some items
+  lines-read : (items : List Item) → list_all (is_item_representable plan) items ≡ true → each (item_of_text plan) (map (line_of plan) items) ≡ Some items
   lines-read [] representable = refl
   lines-read (item ∷ items) representable =
-      let parts = and_parts (is_representable plan item) (list_all (is_representable plan) items) representable in
-      ap (option_and_then (λ (first : Item). option_map (λ (rest : List Item). first ∷ rest) (each (item_meant plan) (map (line_of plan) items)))) (line-read plan limits expressible item parts.0)
+      let parts = and_parts (is_item_representable plan item) (list_all (is_item_representable plan) items) representable in
+      ap (option_and_then (λ (first : Item). option_map (λ (rest : List Item). first ∷ rest) (each (item_of_text plan) (map (line_of plan) items)))) (line-read plan limits config_representable item parts.0)
       ∙ ap (option_map (λ (rest : List Item). item ∷ rest)) (lines-read items parts.1)
 
-  lines-none : (items : List Item) → list_all (is_representable plan) items ≡ true → list_all (has_none 10) (map (line_of plan) items) ≡ true
+  lines-none : (items : List Item) → list_all (is_item_representable plan) items ≡ true → list_all (has_none 10) (map (line_of plan) items) ≡ true
   lines-none [] representable = refl
   lines-none (item ∷ items) representable =
-      let parts = and_parts (is_representable plan item) (list_all (is_representable plan) items) representable in
-      and_from _ _ (line-none plan limits expressible item parts.0) (lines-none items parts.1)
+      let parts = and_parts (is_item_representable plan item) (list_all (is_item_representable plan) items) representable in
+      and_from _ _ (line-none plan limits config_representable item parts.0) (lines-none items parts.1)
 
   lines-some : (items : List Item) → list_all (λ (text : List ℕ). not (length text == 0)) (map (line_of plan) items) ≡ true
   lines-some [] = refl
   lines-some (item ∷ items) = and_from _ _ (line-some plan item) (lines-some items)
 
-  body-read : (text : List ℕ) (item : Item) (items : List Item) → list_all (is_representable plan) (item ∷ items) ≡ true → IsTextOf plan text (item ∷ items) → without_last_end text ≡ join_with_byte 10 (map (line_of plan) (item ∷ items))
+  body-read : (text : List ℕ) (item : Item) (items : List Item) → list_all (is_item_representable plan) (item ∷ items) ≡ true → IsTextOf plan text (item ∷ items) → without_last_end text ≡ join_with_byte 10 (map (line_of plan) (item ∷ items))
   body-read text item items representable (inl is) = ap without_last_end (is ∙ text-joined plan item items) ∙ last-goes (join_with_byte 10 (map (line_of plan) (item ∷ items))) (joined-some (line_of plan item) (map (line_of plan) items) (line-some plan item))
   body-read text item items representable (inr is) =
       let whole = join_with_byte 10 (map (line_of plan) (item ∷ items)) in
@@ -197,26 +197,26 @@ module _ (plan : Plan) (limits : IsTrue (is_within_limits plan)) (expressible : 
       ap without_last_end same ∙ last-kept whole (joined-goes (line_of plan item) (map (line_of plan) items) (lines-none (item ∷ items) representable) (lines-some (item ∷ items)))
 
   -- A log of items means them.
-  pub log-read : (text : List ℕ) (items : List Item) → IsLog plan text items → log_meant plan text ≡ Some items
+  pub log-read : (text : List ℕ) (items : List Item) → IsLog plan text items → log_of_text plan text ≡ Some items
   log-read text [] log = by text log.text_is
     where
-      by : (text : List ℕ) → IsTextOf plan text [] → log_meant plan text ≡ Some []
+      by : (text : List ℕ) → IsTextOf plan text [] → log_of_text plan text ≡ Some []
       by [] is = refl
       by (c ∷ text) (inl is) = cc
       by (c ∷ text) (inr is) = cc
   log-read text (item ∷ items) log =
       let lines = map (line_of plan) (item ∷ items) in
-      ap (λ (body : List ℕ). each (item_meant plan) (parts_of 10 body)) (body-read text item items log.representable log.text_is)
-      ∙ ap (each (item_meant plan)) (some-parts 10 (join_with_byte 10 lines) (joined-some (line_of plan item) (map (line_of plan) items) (line-some plan item)) ∙ split-joined 10 (line_of plan item) (map (line_of plan) items) refl (lines-none (item ∷ items) log.representable))
+      ap (λ (body : List ℕ). each (item_of_text plan) (parts_of 10 body)) (body-read text item items log.representable log.text_is)
+      ∙ ap (each (item_of_text plan)) (some-parts 10 (join_with_byte 10 lines) (joined-some (line_of plan item) (map (line_of plan) items) (line-some plan item)) ∙ split-joined 10 (line_of plan item) (map (line_of plan) items) refl (lines-none (item ∷ items) log.representable))
       ∙ lines-read (item ∷ items) log.representable
 
-pub if-log : (plan : Plan) → IsTrue (is_within_limits plan) → IsTrue (is_expressible plan) → (text : List ℕ) (result : Result (List Item) LogFault) → IfOk result (λ items. log_meant plan text ≡ Some items) → IfOk result (IsLog plan text)
-if-log plan limits expressible text (Ok items) e = log-back plan limits expressible text items e
-if-log plan limits expressible text (Err fault) e = e
+pub if-log : (plan : Plan) → IsTrue (is_within_limits plan) → IsTrue (is_representable plan) → (text : List ℕ) (result : Result (List Item) LogFault) → IfOk result (λ items. log_of_text plan text ≡ Some items) → IfOk result (IsLog plan text)
+if-log plan limits config_representable text (Ok items) e = log-back plan limits config_representable text items e
+if-log plan limits config_representable text (Err fault) e = e
 
-pub no-log : (plan : Plan) → IsTrue (is_within_limits plan) → IsTrue (is_expressible plan) → (text : List ℕ) → log_meant plan text ≡ None → (items : List Item) → IsLog plan text items → ⊥
-no-log plan limits expressible text none items log = let both : Some items ≡ None = sym (log-read plan limits expressible text items log) ∙ none in cc
+pub no-log : (plan : Plan) → IsTrue (is_within_limits plan) → IsTrue (is_representable plan) → (text : List ℕ) → log_of_text plan text ≡ None → (items : List Item) → IsLog plan text items → ⊥
+no-log plan limits config_representable text none items log = let both : Some items ≡ None = sym (log-read plan limits config_representable text items log) ∙ none in cc
 
-pub only-log : (plan : Plan) → IsTrue (is_within_limits plan) → IsTrue (is_expressible plan) → (text : List ℕ) (result : Result (List Item) LogFault) → IfOk result (λ items. log_meant plan text ≡ Some items) → IfOk result (λ items. (others : List Item) → IsLog plan text others → others ≡ items)
-only-log plan limits expressible text (Ok items) e = λ others log. same_Some _ _ (sym (log-read plan limits expressible text others log) ∙ e)
-only-log plan limits expressible text (Err fault) e = e
+pub only-log : (plan : Plan) → IsTrue (is_within_limits plan) → IsTrue (is_representable plan) → (text : List ℕ) (result : Result (List Item) LogFault) → IfOk result (λ items. log_of_text plan text ≡ Some items) → IfOk result (λ items. (others : List Item) → IsLog plan text others → others ≡ items)
+only-log plan limits config_representable text (Ok items) e = λ others log. same_Some _ _ (sym (log-read plan limits config_representable text others log) ∙ e)
+only-log plan limits config_representable text (Err fault) e = e

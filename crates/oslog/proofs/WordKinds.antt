@@ -18,12 +18,12 @@ use Rattle.osbase.specs.declared.references.ModeId.{ModeId}
 use Rattle.osbase.specs.declared.references.SpinlockId.{SpinlockId}
 use Rattle.osbase.specs.declared.statuses.Status.{Status}
 use Rattle.oscript.specs.Rows.{is_int}
-use Rattle.osforms.specs.Word.{bounded, int_of, is_decimal, is_unpadded, number_in}
-use Rattle.osforms.proofs.KindTexts.{cond-some, either, mapped}
-use Rattle.osforms.proofs.Numerals.{decimal-digits, decimal-some, own}
-use Rattle.osforms.proofs.RoundTrip.{chained}
+use Rattle.ossyntax.specs.Word.{bounded, int_of, is_decimal, is_unpadded, number_in}
+use Rattle.ossyntax.proofs.KindTexts.{cond-some, either, mapped}
+use Rattle.ossyntax.proofs.Numerals.{decimal-digits, decimal-some, own}
+use Rattle.ossyntax.proofs.RoundTrip.{chained}
 use Rattle.osplan.proofs.Tests.{find-holds}
-use Rattle.osplan.specs.Expressible.{is_expressible}
+use Rattle.osplan.specs.Representable.{is_representable}
 use Rattle.osplan.specs.Limits.{is_mode, is_object, is_spinlock, is_within_limits}
 use Rattle.osplan.specs.Names.{isr_name, name_of, name_of_mode, spinlock_name}
 use Rattle.osplan.specs.declared.plans.Plan.{Plan}
@@ -137,12 +137,12 @@ part_view plan q k = (word_text plan q k, is_part_representable plan q k)
 pair : (text w : List ℕ) (b : Bool) → text ≡ w → b ≡ true → ◌≡◌ {A = List ℕ × Bool} (text, b) (w, true)
 pair text w b is passes = ap (λ (t : List ℕ). (t, b)) is ∙ ap (λ (p : Bool). (w, p)) passes
 
-module _ (plan : Plan) (limits : IsTrue (is_within_limits plan)) (expressible : IsTrue (is_expressible plan)) where
+module _ (plan : Plan) (limits : IsTrue (is_within_limits plan)) (config_representable : IsTrue (is_representable plan)) where
   pub place-spells : (kind : ObjectKind) (name : List ℕ) (found : Place) → place_named plan kind name ≡ Some found → name_of plan kind found ≡ name
   place-spells kind name found e = let c = chained (if_object kind) (named_by plan name) found e in ap (name_of_object plan) (sym (object-is kind c.0 found c.2)) ∙ named-is plan name c.0 c.1
 
   pub place-there : (kind : ObjectKind) (name : List ℕ) (found : Place) → place_named plan kind name ≡ Some found → is_object plan (record { kind = kind; place = found }) ≡ true
-  place-there kind name found e = let c = chained (if_object kind) (named_by plan name) found e in ap (is_object plan) (sym (object-is kind c.0 found c.2)) ∙ named-there plan limits expressible name c.0 c.1
+  place-there kind name found e = let c = chained (if_object kind) (named_by plan name) found e in ap (is_object plan) (sym (object-is kind c.0 found c.2)) ∙ named-there plan limits config_representable name c.0 c.1
 
   mode-back : (w : List ℕ) (m : ModeId) → mode_named plan w ≡ Some m → (name_of_mode plan m ≡ w) × (is_mode plan m ≡ true)
   mode-back w m e =

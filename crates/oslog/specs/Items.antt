@@ -3,7 +3,7 @@ use Rattle.std.specs.Prelude.{ℕ, ◌++◌, Option, None, option_map, option_an
 use Rattle.std.specs.Option.{option_or}
 use Rattle.std.specs.Str.{bytes_eq}
 use Rattle.osbase.specs.declared.items.Item.{Item}
-use Rattle.osforms.specs.Form.{words_of}
+use Rattle.ossyntax.specs.ParsedOp.{words_of}
 use Rattle.osplan.specs.declared.plans.Plan.{Plan}
 use Rattle.oslog.specs.Forms.{form_of, item_of, no_parts}
 use Rattle.oslog.specs.Rows.{keyword_text, row_of}
@@ -45,5 +45,5 @@ first_item read [] = None
 first_item read (line ∷ lines) = option_or (read line) (first_item read lines)
 
 -- The item of a line, without its end: that of the first form which the line has.
-abbrev pub item_meant : Plan → List ℕ → Option Item
-item_meant plan text = first_item (item_as plan (words_of text)) LINES
+abbrev pub item_of_text : Plan → List ℕ → Option Item
+item_of_text plan text = first_item (item_as plan (words_of text)) LINES

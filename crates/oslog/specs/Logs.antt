@@ -13,8 +13,8 @@ use Rattle.oscript.specs.Calls.{op_of_call}
 use Rattle.oscript.specs.Rows.{has_masks, is_in_form, is_int}
 use Rattle.osplan.specs.Limits.{is_mode, is_object, is_spinlock}
 use Rattle.osplan.specs.declared.plans.Plan.{Plan}
-use Rattle.osread.specs.Reading.{each, parts_of}
-use Rattle.oslog.specs.Items.{item_meant, line_of}
+use Rattle.osjson.specs.Reading.{each, parts_of}
+use Rattle.oslog.specs.Items.{item_of_text, line_of}
 
 -- A line end.
 abbrev pub line_end : List ℕ
@@ -39,19 +39,19 @@ is_message_representable plan (Message.Action call) = is_call_representable plan
 is_message_representable plan (Message.Reply status) = true
 is_message_representable plan (Message.Value status value) = is_int value
 
-abbrev pub is_representable : Plan → Item → Bool
-is_representable plan (Item.Began core status) = is_core_number core
-is_representable plan (Item.Pass1 (Agreement.Mode mode)) = is_mode plan mode
-is_representable plan (Item.Pass2 cores) = length cores.members == CORES
-is_representable plan (Item.Stim (Stimulus.Irq isr)) = is_object plan (isr_object isr)
-is_representable plan (Item.Posted core) = is_core_number core
-is_representable plan (Item.Received from number message) = is_core_number from && nat_le number 18446744073709551615 && is_message_representable plan message
-is_representable plan (Item.Granted spinlock) = is_spinlock plan spinlock
-is_representable plan (Item.Tried spinlock taken) = is_spinlock plan spinlock
-is_representable plan (Item.Freed spinlock) = is_spinlock plan spinlock
-is_representable plan (Item.Halt core status) = is_core_number core
-is_representable plan (Item.Last (Some p)) = is_core_number p.0
-is_representable plan item = true
+abbrev pub is_item_representable : Plan → Item → Bool
+is_item_representable plan (Item.Began core status) = is_core_number core
+is_item_representable plan (Item.Pass1 (Agreement.Mode mode)) = is_mode plan mode
+is_item_representable plan (Item.Pass2 cores) = length cores.members == CORES
+is_item_representable plan (Item.Stim (Stimulus.Irq isr)) = is_object plan (isr_object isr)
+is_item_representable plan (Item.Posted core) = is_core_number core
+is_item_representable plan (Item.Received from number message) = is_core_number from && nat_le number 18446744073709551615 && is_message_representable plan message
+is_item_representable plan (Item.Granted spinlock) = is_spinlock plan spinlock
+is_item_representable plan (Item.Tried spinlock taken) = is_spinlock plan spinlock
+is_item_representable plan (Item.Freed spinlock) = is_spinlock plan spinlock
+is_item_representable plan (Item.Halt core status) = is_core_number core
+is_item_representable plan (Item.Last (Some p)) = is_core_number p.0
+is_item_representable plan item = true
 
 -- ---- which items a log has
 
@@ -61,7 +61,7 @@ IsTextOf plan text items = (text ≡ log_text plan items) ⊎ (text ++ line_end 
 
 -- A log says these items. [own]
 pub record IsLog (plan : Plan) (text : List ℕ) (items : List Item) : Type 0 where
-  pub representable : list_all (is_representable plan) items ≡ true
+  pub representable : list_all (is_item_representable plan) items ≡ true
   pub text_is : IsTextOf plan text items
 
 -- ---- reading
@@ -79,5 +79,5 @@ without_last_end (c ∷ []) = c ∷ []
 without_last_end (c ∷ d ∷ text) = c ∷ before_end (d ∷ text)
 
 -- The items of a log, line by line.
-abbrev pub log_meant : Plan → List ℕ → Option (List Item)
-log_meant plan text = each (item_meant plan) (parts_of 10 (without_last_end text))
+abbrev pub log_of_text : Plan → List ℕ → Option (List Item)
+log_of_text plan text = each (item_of_text plan) (parts_of 10 (without_last_end text))

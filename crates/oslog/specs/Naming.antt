@@ -1,4 +1,4 @@
--- What the names of a configuration stand for: its application modes, its spinlocks and its objects. All of them differ. [own]
+-- What the names of a configuration refer to: its application modes, its spinlocks and its objects. All of them differ. [own]
 use Rattle.std.specs.Prelude.{◌≡◌, ℕ, ◌≤◌, ◌++◌, Option, Some, None, option_and_then, option_map, if◌then◌else◌, List, map, find, length}
 use Rattle.std.specs.Borrow.{Bor}
 use Rattle.std.specs.HashMap.{HashMap, get_by}
@@ -52,7 +52,7 @@ HasFew core = (kind : ObjectKind) → object_count kind core ≤ 255
 abbrev pub HasFewCommon : Plan → Type 0
 HasFewCommon plan = (kind : ObjectKind) → length (common_names kind plan) ≤ 255
 
--- ---- what a name stands for
+-- ---- what a name refers to
 
 abbrev pub named_among : Plan → List Object → List ℕ → Option Object
 named_among plan all name = find (λ (object : Object). bytes_eq (name_of_object plan object) name) all

@@ -13,10 +13,10 @@ use Rattle.osbase.specs.declared.statuses.Status.{Status}
 use Rattle.oscript.specs.Calls.{named_call}
 use Rattle.oscript.specs.Rows.{has_masks}
 use Rattle.oscript.specs.declared.Op.{Op}
-use Rattle.osforms.specs.Call.{call_words}
-use Rattle.osforms.specs.Form.{form_of_words}
-use Rattle.osforms.specs.Operation.{resolved}
-use Rattle.osforms.specs.Word.{int_of, number_in}
+use Rattle.ossyntax.specs.Call.{call_words}
+use Rattle.ossyntax.specs.ParsedOp.{form_of_words}
+use Rattle.ossyntax.specs.Operation.{resolved}
+use Rattle.ossyntax.specs.Word.{int_of, number_in}
 use Rattle.osplan.specs.Names.{isr_name, name_of, name_of_mode, spinlock_name}
 use Rattle.osplan.specs.declared.plans.Plan.{Plan}
 use Rattle.oscript.specs.Rows as rows
@@ -98,15 +98,15 @@ cores_from least cores [] = Some cores
 cores_from least cores (word ∷ words) = option_and_then (λ n. cores_from (n + 1) (with_core n cores) words) (number_in least 15 word)
 
 -- The operation that words say, where its names have places.
-abbrev pub op_said : Plan → List (List ℕ) → Option Op
-op_said plan words = option_map rows.op_of (option_and_then (resolved (place_named plan)) (form_of_words words))
+abbrev pub op_of_words : Plan → List (List ℕ) → Option Op
+op_of_words plan words = option_map rows.op_of (option_and_then (resolved (place_named plan)) (form_of_words words))
 
 -- The call of an operation whose masks are in their range, if it goes across cores and refers to an object.
 abbrev pub call_in : Op → Option RemoteCall
 call_in op = if has_masks op then named_call op else None
 
 abbrev pub call_of : Plan → List (List ℕ) → Option RemoteCall
-call_of plan words = option_and_then call_in (op_said plan words)
+call_of plan words = option_and_then call_in (op_of_words plan words)
 
 -- The parts with what stands behind the words of a row.
 abbrev pub with_tail : Plan → Tail → List (List ℕ) → Parts → Option Parts

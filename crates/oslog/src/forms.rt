@@ -11,7 +11,7 @@ use osbase::{
     Status, Stimulus, TaskRef,
 };
 
-/// What the parts of a line say, one of each kind. What the row of a form does not have is not asked.
+/// What the parts of a line say, one of each kind. A part that the row of a form does not have is not looked at.
 #[derive(Clone, Copy, PartialEq, Eq)]
 pub struct Parts {
     pub core: CoreId,

@@ -3,15 +3,15 @@
 ghost use Rattle.std.specs.Prelude.{◌≡◌, List as ListOf, Err, IfOk, IsSome, None, Some};
 ghost use Rattle.osbase.specs.declared.items.Item.{Item as ItemValue};
 ghost use Rattle.osplan.specs.View.{core_of};
-ghost use Rattle.oslog.specs.Items.{item_meant};
-ghost use Rattle.oslog.specs.Logs.{IsLog, log_meant, without_last_end};
+ghost use Rattle.oslog.specs.Items.{item_of_text};
+ghost use Rattle.oslog.specs.Logs.{IsLog, log_of_text, without_last_end};
 
 use crate::faults::LogFault;
 use crate::names::NameIndex;
-use crate::reading::item_meant;
+use crate::reading::item_of_text;
 use osbase::{CoreId, Item, List};
+use osjson::{PartReader, Refusal, read_parts};
 use osplan::Config;
-use osread::{PartReader, Refusal, read_parts};
 use std::alloc::Global;
 
 // Reads a line.
@@ -21,10 +21,10 @@ struct LineReader<'n, 'p> {
 }
 
 impl PartReader<Item> for LineReader<'_, '_> {
-    ghost shape = { λ reader. item_meant reader.names.now.config.now };
+    ghost shape = { λ reader. item_of_text reader.names.now.config.now };
 
     fn read(&self, part: &str) -> Option<Item> {
-        item_meant(self.names, part)
+        item_of_text(self.names, part)
     }
 }
 
@@ -39,9 +39,9 @@ fn without_last_end(text: &str) -> &str
 }
 
 // The items of a log, line by line.
-fn items_meant(alloc: Global, names: &NameIndex, text: &str) -> Result<List<Item>, LogFault>
-    ensures ok { IfOk result (λ items. log_meant names.now.config.now text.now ≡ Some items) }
-    ensures bad { result ≡ Err LogFault.BadLog → log_meant names.now.config.now text.now ≡ None }
+fn items_of_text(alloc: Global, names: &NameIndex, text: &str) -> Result<List<Item>, LogFault>
+    ensures ok { IfOk result (λ items. log_of_text names.now.config.now text.now ≡ Some items) }
+    ensures bad { result ≡ Err LogFault.BadLog → log_of_text names.now.config.now text.now ≡ None }
 {
     let reader = LineReader { names };
     let body = without_last_end(text);
@@ -68,5 +68,5 @@ pub fn read_log(
     ensures bad { result ≡ Err LogFault.BadLog → (items : ListOf ItemValue) → IsLog config.now text.now items → ⊥ }
 {
     let names = NameIndex::new(alloc, config)?;
-    items_meant(alloc, &names, text)
+    items_of_text(alloc, &names, text)
 }

@@ -1,7 +1,7 @@
-//! What the names of a configuration stand for, by an index.
+//! What the names of a configuration refer to, by an index.
 
 ghost use Rattle.std.specs.Prelude.{◌≡◌, ◌≤◌, ◌++◌, IfOk, IsTrue, OnOk};
-ghost use Rattle.osplan.specs.Expressible.{is_expressible};
+ghost use Rattle.osplan.specs.Representable.{is_representable};
 ghost use Rattle.osplan.specs.Limits.{is_within_limits};
 ghost use Rattle.oslog.specs.Naming.{HasFew, HasFewCommon, Indexes, all_named, common_in, isr_named, mode_named, name_of_object, named_in, object_under, objects_under, spinlock_named};
 ghost use Rattle.osplan.specs.declared.plans.TheConstants.{COMMON};
@@ -10,8 +10,8 @@ ghost use Rattle.std.specs.List.{flat_map};
 use osbase::{
     CoreId, IsrRef, List, ModeId, NOBODY, Object, ObjectKind, Place, Reference, SpinlockId,
 };
-use osforms::{Names, Places};
 use osplan::{COMMON, Config, Core, KINDS, Plan};
+use ossyntax::{Names, Places};
 use std::alloc::{AllocError, Global};
 use std::collections::HashMap;
 
@@ -115,13 +115,13 @@ fn index_of<'p>(
     Ok(index)
 }
 
-/// What the names of a configuration stand for.
+/// What the names of a configuration refer to.
 #[derive(Drop)]
 pub struct NameIndex<'p> {
     config: &'p Config,
     index: HashMap<&'p str, Object>,
     ghost limits: { IsTrue (is_within_limits config.now) },
-    ghost expressible: { IsTrue (is_expressible config.now) },
+    ghost config_representable: { IsTrue (is_representable config.now) },
     ghost indexed: { Indexes config.now index (all_named config.now) },
 }
 

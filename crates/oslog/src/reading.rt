@@ -2,8 +2,8 @@
 
 ghost use Rattle.std.specs.Prelude.{◌≡◌, ◌∷◌, List, Option, option_map, ℕ};
 ghost use Rattle.std.specs.Borrow.{Bor};
-ghost use Rattle.osforms.specs.Form.{rest_words, words_of};
-ghost use Rattle.oslog.specs.Items.{first_item, item_as, item_behind, item_meant};
+ghost use Rattle.ossyntax.specs.ParsedOp.{rest_words, words_of};
+ghost use Rattle.oslog.specs.Items.{first_item, item_as, item_behind, item_of_text};
 ghost use Rattle.oslog.specs.Words.{call_of, irq_of, read_words, with_tail, with_word};
 ghost use Rattle.oslog.specs.Forms.{no_parts};
 ghost use Rattle.oslog.specs.declared.forms.Parts.{Parts as PartsValue};
@@ -14,7 +14,7 @@ use crate::rows::{Kind, LINES, Line, Tail, row_of};
 use crate::words::{core_of, cores_of, status_of};
 use osbase::{IsrRef, Item, RemoteCall};
 use oscript::call_of_op;
-use osforms::{cut, int_of, number_in, op_meant};
+use ossyntax::{cut, int_of, number_in, op_of_text};
 
 // The ISR of a word that says an interrupt of it.
 fn irq_of(names: &NameIndex, word: &str) -> Option<IsrRef>
@@ -89,7 +89,7 @@ fn read_words<'t>(
 fn call_of(names: &NameIndex, text: &str) -> Option<RemoteCall>
     ensures { result ≡ call_of names.now.config.now (words_of text.now) }
 {
-    let op = op_meant(names, text)?;
+    let op = op_of_text(names, text)?;
     if !op.has_masks() {
         return None;
     }
@@ -142,8 +142,8 @@ fn first_item(names: &NameIndex, lines: &[Line], first: &str, rest: Option<&str>
 }
 
 /// The item of a line: that of the first form which the line has.
-pub fn item_meant(names: &NameIndex, text: &str) -> Option<Item>
-    ensures { result ≡ item_meant names.now.config.now text.now }
+pub fn item_of_text(names: &NameIndex, text: &str) -> Option<Item>
+    ensures { result ≡ item_of_text names.now.config.now text.now }
 {
     let (first, rest) = cut(text);
     first_item(names, &LINES, first, rest)

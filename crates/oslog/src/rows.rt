@@ -33,7 +33,7 @@ pub enum Line {
     Drained,
     PassEnd,
     Last,
-    /// The end, where a shutdown of all cores was asked for.
+    /// The end, after a request for a shutdown of all cores.
     LastHalted,
 }
 

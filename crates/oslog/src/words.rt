@@ -2,12 +2,12 @@
 
 ghost use Rattle.std.specs.Prelude.{◌≡◌};
 ghost use Rattle.osbase.specs.History.{no_cores};
-ghost use Rattle.osforms.specs.Form.{rest_words};
+ghost use Rattle.ossyntax.specs.ParsedOp.{rest_words};
 ghost use Rattle.oslog.specs.Words.{core_of, cores_from, status_of};
 
 use crate::forms::no_cores;
 use osbase::{CORES, CoreId, CoreSet, STATUS_LIST, Status};
-use osforms::{cut, number_in};
+use ossyntax::{cut, number_in};
 
 /// The status of this name.
 pub fn status_of(word: &str) -> Option<Status>

@@ -5,7 +5,7 @@ ghost use Rattle.std.specs.Fmt.{decimal};
 ghost use Rattle.oslog.specs.Items.{led, line_of};
 ghost use Rattle.oslog.specs.Logs.{log_text};
 ghost use Rattle.oslog.specs.Words.{core_words, word_text};
-ghost use Rattle.osforms.specs.Call.{call_words};
+ghost use Rattle.ossyntax.specs.Call.{call_words};
 ghost use Rattle.osplan.specs.Names.{name_of};
 
 use crate::faults::LogFault;
@@ -15,8 +15,8 @@ use crate::rows::{Kind, Tail, row_of};
 use itoa::Buffer;
 use osbase::{CORE_NUMBERS, CoreId, CoreSet, Item, RemoteCall};
 use oscript::op_of_call;
-use osforms::op_text;
 use osplan::{Config, Plan};
+use ossyntax::op_text;
 use std::alloc::{AllocError, Global};
 
 // Adds a space and a word of this kind.

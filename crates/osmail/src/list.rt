@@ -29,7 +29,7 @@ impl<const CAP: usize> Model for ListMail<CAP> {
 }
 
 impl<const CAP: usize> ListMail<CAP> {
-    /// Empty mailboxes, in each of which at most `cap` envelopes may stand. All the memory that the
+    /// Empty mailboxes, each with room for `cap` envelopes. All the memory that the
     /// mailboxes ever need is taken here.
     pub fn new(alloc: Global, cap: usize) -> Result<Self, AllocError>
         requires some { 1 ≤ cap }

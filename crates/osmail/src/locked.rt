@@ -24,7 +24,7 @@ pub struct LockedMail<const CAP: usize> {
 }
 
 impl<const CAP: usize> LockedMail<CAP> {
-    /// Empty mailboxes between these cores, in each of which at most `cap` envelopes may stand. All the memory that the
+    /// Empty mailboxes between these cores, each with room for `cap` envelopes. All the memory that the
     /// mailboxes ever need is taken here.
     pub fn new(alloc: Global, cores: &[CoreId], cap: usize) -> Result<Self, AllocError>
         requires { cap ≤ CAP }

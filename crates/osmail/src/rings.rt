@@ -120,7 +120,7 @@ fn take_through(place: &mut Option<Consumer<Envelope>>) -> Option<Envelope>
 }
 
 impl<const CAP: usize> RingMail<CAP> {
-    /// A ring for each ordered pair of these cores, and for each of them one to itself, in each of which at most `cap`
+    /// A ring for each ordered pair of these cores, and for each of them one to itself, each with room for `cap`
     /// envelopes may stand; and the cores' ends, in their order. All the memory that the rings ever need is taken here.
     #[tactic(auto, using(crate::proofs::Making::all_unused))]
     pub fn new(

@@ -6,7 +6,7 @@ use Rattle.osbase.specs.{declared.references.CounterRef.CounterRef, declared.obj
 use Rattle.osbase.proofs.Same.{same_core-true}
 use Rattle.osplan.specs.{declared.plans.Alarm.Alarm, declared.plans.Core.Core, declared.plans.Plan.Plan, declared.plans.Table.Table, Clocked.is_alarm_attached, Clocked.is_table_attached}
 use Rattle.osbase.specs.declared.messages.RemoteCall.{RemoteCall}
-use Rattle.osplan.specs.Limits.{alarm_sizes, is_action_known, is_alarm_known, is_alarm_near, is_core_known, is_core_timed, is_object, is_table_known, is_table_near, is_table_timed, is_script_known, is_task_known, table_sizes}
+use Rattle.osplan.specs.Limits.{alarm_sizes, is_action_known, is_alarm_known, is_alarm_local, is_core_known, is_core_timed, is_object, is_table_known, is_table_local, is_table_timed, is_script_known, is_task_known, table_sizes}
 use Rattle.osplan.specs.Objects.{core_actions, core_scripts, has_index, is_common, may_act, may_name, table_actions}
 use Rattle.osplan.specs.View.{core_of, counter_in, own_counter}
 use Rattle.osplan.proofs.Tests.{all-append, all-both, all-flat, all-weaker, map-where}
@@ -45,9 +45,9 @@ module _ (plan : Plan) (core : Core) (found : core_of plan core.id ≡ Some core
       (list_all-map (is_action_known plan) (λ (alarm : Alarm). alarm.action) core.alarms ∙ alarms) (all-flat (is_action_known plan) table_actions core.tables tables))
 
   -- Each alarm is attached to a counter of the core, where that counter is there and no other core's.
-  pub attached : list_all (is_alarm_known plan) core.alarms ≡ true → list_all (is_alarm_near core.id) core.alarms ≡ true → list_all (is_alarm_attached core) core.alarms ≡ true
+  pub attached : list_all (is_alarm_known plan) core.alarms ≡ true → list_all (is_alarm_local core.id) core.alarms ≡ true → list_all (is_alarm_attached core) core.alarms ≡ true
   attached known near =
-      all-weaker (λ (alarm : Alarm). is_alarm_known plan alarm && is_alarm_near core.id alarm) (is_alarm_attached core)
+      all-weaker (λ (alarm : Alarm). is_alarm_known plan alarm && is_alarm_local core.id alarm) (is_alarm_attached core)
       (λ alarm h. grind (arith, own-index (counter_object alarm.counter))) core.alarms (all-both _ _ core.alarms known near)
 
   own-is : (c : CounterRef) → same_core c.core core.id ≡ true → counter_in plan c ≡ own_counter core c
@@ -56,19 +56,19 @@ module _ (plan : Plan) (core : Core) (found : core_of plan core.id ≡ Some core
       ∙ rw here refl
 
   -- The sizes of such alarms are seen on the core itself.
-  pub own-sizes : list_all (is_alarm_near core.id) core.alarms ≡ true → map (alarm_sizes (counter_in plan)) core.alarms ≡ map (alarm_sizes (own_counter core)) core.alarms
-  own-sizes near = map-where (alarm_sizes (counter_in plan)) (alarm_sizes (own_counter core)) (is_alarm_near core.id) (λ alarm h. rw (own-is alarm.counter h) refl) core.alarms near
+  pub own-sizes : list_all (is_alarm_local core.id) core.alarms ≡ true → map (alarm_sizes (counter_in plan)) core.alarms ≡ map (alarm_sizes (own_counter core)) core.alarms
+  own-sizes near = map-where (alarm_sizes (counter_in plan)) (alarm_sizes (own_counter core)) (is_alarm_local core.id) (λ alarm h. rw (own-is alarm.counter h) refl) core.alarms near
 
   -- So it is with tables.
-  pub tables-attached : list_all (is_table_known plan) core.tables ≡ true → list_all (is_table_near core.id) core.tables ≡ true → list_all (is_table_attached core) core.tables ≡ true
+  pub tables-attached : list_all (is_table_known plan) core.tables ≡ true → list_all (is_table_local core.id) core.tables ≡ true → list_all (is_table_attached core) core.tables ≡ true
   tables-attached known near =
-      all-weaker (λ (table : Table). is_table_known plan table && is_table_near core.id table) (is_table_attached core)
+      all-weaker (λ (table : Table). is_table_known plan table && is_table_local core.id table) (is_table_attached core)
       (λ table h. grind (arith, own-index (counter_object table.counter))) core.tables (all-both _ _ core.tables known near)
 
-  pub own-tables : list_all (is_table_near core.id) core.tables ≡ true → map (table_sizes (counter_in plan)) core.tables ≡ map (table_sizes (own_counter core)) core.tables
-  own-tables near = map-where (table_sizes (counter_in plan)) (table_sizes (own_counter core)) (is_table_near core.id) (λ table h. rw (own-is table.counter h) refl) core.tables near
+  pub own-tables : list_all (is_table_local core.id) core.tables ≡ true → map (table_sizes (counter_in plan)) core.tables ≡ map (table_sizes (own_counter core)) core.tables
+  own-tables near = map-where (table_sizes (counter_in plan)) (table_sizes (own_counter core)) (is_table_local core.id) (λ table h. rw (own-is table.counter h) refl) core.tables near
 
-  pub own-timed : list_all (is_table_near core.id) core.tables ≡ true → is_core_timed plan core ≡ list_all (λ (table : Table). is_table_timed (table_sizes (own_counter core) table)) core.tables
+  pub own-timed : list_all (is_table_local core.id) core.tables ≡ true → is_core_timed plan core ≡ list_all (λ (table : Table). is_table_timed (table_sizes (own_counter core) table)) core.tables
   own-timed near =
       sym (list_all-map is_table_timed (table_sizes (counter_in plan)) core.tables) ∙ ap (list_all is_table_timed) (own-tables near)
       ∙ list_all-map is_table_timed (table_sizes (own_counter core)) core.tables

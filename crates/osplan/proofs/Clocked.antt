@@ -6,7 +6,7 @@ use Rattle.osbase.specs.{declared.references.CoreId.CoreId, History.same_core}
 use Rattle.osbase.proofs.Same.{same_core-true}
 use Rattle.osplan.specs.{declared.plans.Alarm.Alarm, declared.plans.AlarmStart.AlarmStart, declared.plans.Core.Core, declared.plans.Counter.Counter, declared.plans.Plan.Plan}
 use Rattle.osplan.specs.{declared.plans.Table.Table, Clocked.are_clocks_within, Clocked.is_alarm_attached, Clocked.is_table_attached, Clocked.own_table_sizes, View.core_of, View.own_counter}
-use Rattle.osplan.specs.Limits.{CoreSizes, alarm_sizes, are_alarms_within, are_counters_within, are_tables_within, is_core_timed, is_table_timed, is_table_within, is_cycle, core_sizes, counter_sizes, is_alarm_within, is_core_known, is_core_near, is_core_within, is_counter_within, is_within_limits}
+use Rattle.osplan.specs.Limits.{CoreSizes, alarm_sizes, are_alarms_within, are_counters_within, are_tables_within, is_core_timed, is_table_timed, is_table_within, is_cycle, core_sizes, counter_sizes, is_alarm_within, is_core_known, has_local_references, is_core_within, is_counter_within, is_within_limits}
 use Rattle.osplan.proofs.{Alarming.attached, Alarming.known-parts, Alarming.own-sizes, Alarming.own-tables, Alarming.own-timed, Alarming.tables-attached, Within.limit-parts, Within.near-parts}
 use Rattle.osplan.proofs.Tests.{all-weaker, find-holds, find-passes}
 
@@ -22,7 +22,7 @@ clocks_within plan id core limits found =
     let pick : (q : Core → Bool) → list_all q plan.cores ≡ true → q core ≡ true = λ q a. find-passes (λ (c : Core). same_core c.id id) q plan.cores core a found in
     let inside = limit-parts plan limits in
     let mine : core_of plan core.id ≡ Some core = ap (core_of plan) (same_core-true core.id id (find-holds (λ (c : Core). same_core c.id id) plan.cores core found)) ∙ found in
-    let near = near-parts core (pick is_core_near inside.near) in
+    let near = near-parts core (pick has_local_references inside.near) in
     let known = known-parts plan core mine (pick (is_core_known plan) inside.known) in
     let limited : is_core_within (core_sizes plan core) ≡ true = pick (λ (c : Core). is_core_within (core_sizes plan c)) inside.cores in
     let held = parts-within (core_sizes plan core) limited in

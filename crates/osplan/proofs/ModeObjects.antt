@@ -5,7 +5,7 @@ use Rattle.std.proofs.lemmas.Bool.{and_parts, eqb-true, ltb-true}
 use Rattle.osbase.specs.{History.same_core, Names.is_name, Objects.mode_object, Objects.mode_of, Objects.mode_place, Objects.object_at, declared.objects.ObjectKind.ObjectKind}
 use Rattle.osbase.specs.{declared.objects.Place.Place, declared.objects.TheConstants.NOBODY, declared.references.ModeId.ModeId}
 use Rattle.osbase.proofs.Same.{same_core-true}
-use Rattle.osplan.specs.{declared.plans.Core.Core, declared.plans.Plan.Plan, Expressible.dont_care, Expressible.is_expressible, Expressible.is_mode_expressible, Names.name_of, Names.name_of_mode}
+use Rattle.osplan.specs.{declared.plans.Core.Core, declared.plans.Plan.Plan, Representable.dont_care, Representable.is_representable, Representable.is_mode_representable, Names.name_of, Names.name_of_mode}
 use Rattle.osplan.specs.{Limits.core_sizes, Limits.is_core_within, Limits.is_mode, Limits.is_object, Objects.common_names, Objects.has_index, Objects.is_common, Objects.object_count, View.core_of}
 use Rattle.osplan.proofs.{Tests.find-holds, Tests.find-passes, Within.fits, Within.text-parts}
 
@@ -18,7 +18,7 @@ nobody plan within = by (core_of plan NOBODY) refl
         let low : core.id.number < 16 = ltb-true core.id.number 16 (fits plan core (find-passes (λ (c : Core). same_core c.id NOBODY) (λ (c : Core). is_core_within (core_sizes plan c)) plan.cores core within e)).number in
         absurd (omega (arith, low, eqb-true core.id.number 255 (find-holds (λ (c : Core). same_core c.id NOBODY) plan.cores core e)))
 
--- An object of the configuration, of a kind of which no core has one, has no core's number, and is one of those that all cores have in common.
+-- An object of the configuration whose kind no core has is on no core, and is one of those that all cores have in common.
 pub common-there : (plan : Plan) (kind : ObjectKind) (place : Place) → ((core : Core) → object_count kind core ≡ 0) → is_object plan (object_at kind place) ≡ true
     → (place.core ≡ NOBODY) × (nat_lt place.index (length (common_names kind plan)) ≡ true)
 common-there plan kind place none is = by (core_of plan place.core) is
@@ -39,7 +39,7 @@ module _ (plan : Plan) (alone : core_of plan NOBODY ≡ None) where
   pub mode-named : (mode : ModeId) → name_of plan ObjectKind.Mode (mode_place mode) ≡ name_of_mode plan mode
   mode-named mode = rw alone refl
 
--- ---- the name of a mode is in form, and stands for nothing else
+-- ---- the name of a mode is in form, and refers to nothing else
 
 pub record ModeNamed (name : List ℕ) : Type 0 where
   pub in_form : is_name name ≡ true
@@ -47,12 +47,12 @@ pub record ModeNamed (name : List ℕ) : Type 0 where
   pub not_conflict : bytes_eq name (codes "conflict") ≡ false
   pub not_none : bytes_eq name (codes "none") ≡ false
 
-name-at : (names : List (List ℕ)) (i : ℕ) → list_all is_mode_expressible names ≡ true → i < length names → is_mode_expressible (unwrap_or (slice_get names i) []) ≡ true
+name-at : (names : List (List ℕ)) (i : ℕ) → list_all is_mode_representable names ≡ true → i < length names → is_mode_representable (unwrap_or (slice_get names i) []) ≡ true
 name-at [] i all lt = absurd (omega (arith, lt))
-name-at (name ∷ names) zero all lt = (and_parts (is_mode_expressible name) _ all).0
-name-at (name ∷ names) (suc i) all lt = name-at names i (and_parts (is_mode_expressible name) _ all).1 (omega (arith, lt))
+name-at (name ∷ names) zero all lt = (and_parts (is_mode_representable name) _ all).0
+name-at (name ∷ names) (suc i) all lt = name-at names i (and_parts (is_mode_representable name) _ all).1 (omega (arith, lt))
 
-pub mode-said : (plan : Plan) → IsTrue (is_expressible plan) → (mode : ModeId) → is_mode plan mode ≡ true → ModeNamed (name_of_mode plan mode)
+pub mode-said : (plan : Plan) → IsTrue (is_representable plan) → (mode : ModeId) → is_mode plan mode ≡ true → ModeNamed (name_of_mode plan mode)
 mode-said plan said mode is =
     let told = name-at plan.modes mode.index (text-parts plan said).modes (ltb-true mode.index (length plan.modes) is) in
     grind arith

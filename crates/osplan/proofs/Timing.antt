@@ -1,4 +1,4 @@
--- What the limits say of the tables of a core, by name: their numbers, their points, and what their counter admits.
+-- The limits of a core's tables, by name: their numbers, their points, and what their counter admits.
 use Rattle.std.proofs.Common.{◌≡◌, ℕ, is_some, ◌-◌, ◌≤◌, Bool, true, not, ◌&&◌, ◌||◌, nat_le, nat_lt, List, [], ◌∷◌, length, map, Option, Some, None, refl, sym, ap, subst, ◌∙◌, arith}
 use Rattle.std.specs.List.{list_all, slice_get}
 use Rattle.std.proofs.{lemmas.Bool.and_parts, lemmas.Bool.and_from, lemmas.Bool.false≢true, lemmas.Bool.leb-true, lemmas.Bool.le-leb, lemmas.Bool.ltb-true, lemmas.List.length-map}
@@ -34,7 +34,7 @@ points-within most (point ∷ next ∷ points) up last =
     let second = leb-true next.offset most (and_parts (nat_le next.offset most) _ later).0 in
     and_from _ _ (le-leb point.offset most (omega (arith, second, ltb-true point.offset next.offset parts.0))) later
 
--- ---- what holds of a table by itself
+-- ---- what holds of one table
 
 pub record TableParts (table : Table) : Type 0 where
   pub lasting : 1 ≤ table.duration

@@ -4,10 +4,10 @@ use Rattle.std.specs.List.{list_all}
 use Rattle.std.proofs.{lemmas.Bool.and_parts, lemmas.Bool.leb-true, lemmas.Bool.Decides.nat_tests, lemmas.List.length-map, lemmas.List.Folds.fold-map, lemmas.List.Folds.list_all-map}
 use Rattle.osbase.specs.{declared.references.CoreId.CoreId, declared.objects.ObjectKind.ObjectKind, History.same_core, Names.is_name}
 use Rattle.osplan.specs.{declared.plans.Plan.Plan, declared.plans.Alarm.Alarm, declared.plans.Core.Core, declared.plans.Counter.Counter, declared.plans.Isr.Isr, declared.plans.Resource.Resource}
-use Rattle.osplan.specs.{declared.plans.Table.Table, declared.plans.Task.Task, Objects.core_scripts, Objects.names_in, Objects.object_count, Objects.posted_at_once, View.core_of}
+use Rattle.osplan.specs.{declared.plans.Table.Table, declared.plans.Task.Task, Objects.core_scripts, Objects.names_in, Objects.object_count, Objects.most_posts_per_tick, View.core_of}
 use Rattle.osplan.specs.Spinlocks.{are_links_ordered, links_of}
-use Rattle.osplan.specs.Limits.{CoreSizes, Sizes, count_in, most_of, is_between, is_by, is_core_numbered, is_versioned, task_sizes, core_sizes, sizes_of, is_task_within, is_alarm_near, is_core_timed, is_table_near, stays_on, is_core_within, is_within, is_resource_within, resource_sizes, is_core_known, is_core_near, is_spinlock_known, numbers_of, are_numbers_distinct, is_within_limits}
-use Rattle.osplan.specs.Expressible.{is_isr_expressible, is_mode_expressible, is_spinlock_expressible, are_distinct, declared_names, is_task_expressible, is_resource_expressible, is_counter_expressible, is_alarm_expressible, is_table_expressible, is_core_expressible, is_expressible}
+use Rattle.osplan.specs.Limits.{CoreSizes, Sizes, count_in, most_of, is_between, is_by, is_core_numbered, is_versioned, task_sizes, core_sizes, sizes_of, is_task_within, is_alarm_local, is_core_timed, is_table_local, is_local_to, is_core_within, is_within, is_resource_within, resource_sizes, is_core_known, has_local_references, is_spinlock_known, numbers_of, are_numbers_distinct, is_within_limits}
+use Rattle.osplan.specs.Representable.{is_isr_representable, is_mode_representable, is_spinlock_representable, are_distinct, declared_names, is_task_representable, is_resource_representable, is_counter_representable, is_alarm_representable, is_table_representable, is_core_representable, is_representable}
 use Rattle.osplan.proofs.Tests.{all-weaker, find-passes}
 
 -- ---- the parts of both tests
@@ -22,7 +22,7 @@ pub record LimitParts (plan : Plan) : Type 0 where
   pub distinct : are_numbers_distinct (numbers_of plan.cores) ≡ true
   pub master : is_some (core_of plan plan.master) ≡ true
   pub known : list_all (is_core_known plan) plan.cores ≡ true
-  pub near : list_all is_core_near plan.cores ≡ true
+  pub near : list_all has_local_references plan.cores ≡ true
   pub timed : list_all (is_core_timed plan) plan.cores ≡ true
   pub linked : list_all (is_spinlock_known plan) plan.spinlocks ≡ true
   pub ordered : are_links_ordered (links_of plan.spinlocks) ≡ true
@@ -32,7 +32,7 @@ limit-parts plan h =
     let ordered = and_parts _ (are_links_ordered (links_of plan.spinlocks)) h in
     let linked = and_parts _ (list_all (is_spinlock_known plan) plan.spinlocks) ordered.0 in
     let timed = and_parts _ (list_all (is_core_timed plan) plan.cores) linked.0 in
-    let near = and_parts _ (list_all is_core_near plan.cores) timed.0 in
+    let near = and_parts _ (list_all has_local_references plan.cores) timed.0 in
     let known = and_parts _ (list_all (is_core_known plan) plan.cores) near.0 in
     let master = and_parts _ (is_some (core_of plan plan.master)) known.0 in
     let sizes = and_parts (is_within (sizes_of plan)) (are_numbers_distinct (numbers_of plan.cores)) master.0 in
@@ -49,24 +49,24 @@ limit-parts plan h =
     }
 
 pub record TextParts (plan : Plan) : Type 0 where
-  pub modes : list_all is_mode_expressible plan.modes ≡ true
-  pub spinlocks : list_all is_spinlock_expressible plan.spinlocks ≡ true
-  pub cores : list_all is_core_expressible plan.cores ≡ true
+  pub modes : list_all is_mode_representable plan.modes ≡ true
+  pub spinlocks : list_all is_spinlock_representable plan.spinlocks ≡ true
+  pub cores : list_all is_core_representable plan.cores ≡ true
   pub names : are_distinct (declared_names plan) ≡ true
 
-pub text-parts : (plan : Plan) → IsTrue (is_expressible plan) → TextParts plan
+pub text-parts : (plan : Plan) → IsTrue (is_representable plan) → TextParts plan
 text-parts plan h = search arith
 
 -- Of a core that a text can say.
 pub record CoreTextParts (core : Core) : Type 0 where
-  pub tasks : list_all is_task_expressible core.tasks ≡ true
-  pub isrs : list_all is_isr_expressible core.isrs ≡ true
-  pub resources : list_all is_resource_expressible core.resources ≡ true
-  pub counters : list_all is_counter_expressible core.counters ≡ true
-  pub alarms : list_all is_alarm_expressible core.alarms ≡ true
-  pub tables : list_all is_table_expressible core.tables ≡ true
+  pub tasks : list_all is_task_representable core.tasks ≡ true
+  pub isrs : list_all is_isr_representable core.isrs ≡ true
+  pub resources : list_all is_resource_representable core.resources ≡ true
+  pub counters : list_all is_counter_representable core.counters ≡ true
+  pub alarms : list_all is_alarm_representable core.alarms ≡ true
+  pub tables : list_all is_table_representable core.tables ≡ true
 
-pub core-text-parts : (core : Core) → IsTrue (is_core_expressible core) → CoreTextParts core
+pub core-text-parts : (core : Core) → IsTrue (is_core_representable core) → CoreTextParts core
 core-text-parts core h = search arith
 
 -- An object that a text can say has a name in form,
@@ -77,12 +77,12 @@ formed name p each xs all = list_all-map is_name name xs ∙ all-weaker p (λ x.
 pub names-formed : (core : Core) → CoreTextParts core → (kind : ObjectKind) → list_all is_name (names_in kind core) ≡ true
 names-formed core said ObjectKind.Mode = refl
 names-formed core said ObjectKind.Spinlock = refl
-names-formed core said ObjectKind.Task = formed (λ (task : Task). task.name) is_task_expressible (λ task h. grind arith) core.tasks said.tasks
-names-formed core said ObjectKind.Isr = formed (λ (isr : Isr). isr.name) is_isr_expressible (λ isr h. grind arith) core.isrs said.isrs
-names-formed core said ObjectKind.Resource = formed (λ (resource : Resource). resource.name) is_resource_expressible (λ resource h. h) core.resources said.resources
-names-formed core said ObjectKind.Counter = formed (λ (counter : Counter). counter.name) is_counter_expressible (λ counter h. h) core.counters said.counters
-names-formed core said ObjectKind.Alarm = formed (λ (alarm : Alarm). alarm.name) is_alarm_expressible (λ alarm h. grind arith) core.alarms said.alarms
-names-formed core said ObjectKind.Table = formed (λ (table : Table). table.name) is_table_expressible (λ table h. grind arith) core.tables said.tables
+names-formed core said ObjectKind.Task = formed (λ (task : Task). task.name) is_task_representable (λ task h. grind arith) core.tasks said.tasks
+names-formed core said ObjectKind.Isr = formed (λ (isr : Isr). isr.name) is_isr_representable (λ isr h. grind arith) core.isrs said.isrs
+names-formed core said ObjectKind.Resource = formed (λ (resource : Resource). resource.name) is_resource_representable (λ resource h. h) core.resources said.resources
+names-formed core said ObjectKind.Counter = formed (λ (counter : Counter). counter.name) is_counter_representable (λ counter h. h) core.counters said.counters
+names-formed core said ObjectKind.Alarm = formed (λ (alarm : Alarm). alarm.name) is_alarm_representable (λ alarm h. grind arith) core.alarms said.alarms
+names-formed core said ObjectKind.Table = formed (λ (table : Table). table.name) is_table_representable (λ table h. grind arith) core.tables said.tables
 
 -- ---- what a kernel needs
 
@@ -100,7 +100,7 @@ pub record FitsKernel (core : Core) : Type 0 where
   pub counters : length core.counters ≤ 8
   pub alarms : length core.alarms ≤ 32
   pub tables : length core.tables ≤ 8
-  pub posted : posted_at_once core ≤ 56
+  pub posted : most_posts_per_tick core ≤ 56
 
 -- Of no kind are there more objects than a byte can count.
 pub few-objects : (core : Core) → FitsKernel core → (kind : ObjectKind) → object_count kind core ≤ 255
@@ -158,9 +158,9 @@ core-fits plan id core limits found =
 
 -- What each alarm and each table of a core goes by stands on the core, and so does what scripts may not name elsewhere.
 pub record NearParts (core : Core) : Type 0 where
-  pub scripts : list_all (list_all (stays_on core.id)) (core_scripts core) ≡ true
-  pub alarms : list_all (is_alarm_near core.id) core.alarms ≡ true
-  pub tables : list_all (is_table_near core.id) core.tables ≡ true
+  pub scripts : list_all (list_all (is_local_to core.id)) (core_scripts core) ≡ true
+  pub alarms : list_all (is_alarm_local core.id) core.alarms ≡ true
+  pub tables : list_all (is_table_local core.id) core.tables ≡ true
 
-pub near-parts : (core : Core) → is_core_near core ≡ true → NearParts core
+pub near-parts : (core : Core) → has_local_references core ≡ true → NearParts core
 near-parts core near = search (and_parts, arith)

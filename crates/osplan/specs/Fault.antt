@@ -38,7 +38,7 @@ fault_name BadStimulus = codes "BadStimulus"
 fault_name BadSchedule = codes "BadSchedule"
 fault_name NotSeparate = codes "NotSeparate"
 
--- A table of faults, each with its test, which is true where the fault is absent. [own]
+-- A table of faults, each with its test; the test is true if the fault is absent. [own]
 abbrev pub Tests : Type 0
 Tests = List (ConfFault × Bool)
 

@@ -6,7 +6,7 @@ pub mod Stimuli
 pub mod Clocked
 pub mod Names
 pub mod Limits
-pub mod Expressible
+pub mod Representable
 pub mod Naming
 pub mod Fault
 pub mod Counters

@@ -15,7 +15,7 @@ use Rattle.osbase.specs.declared.objects.ObjectKind.{ObjectKind}
 use Rattle.osbase.specs.Objects.{counter_object, object_of_call}
 use Rattle.oscript.specs.declared.Op.{Op}
 use Rattle.oscript.specs.Calls.{is_action}
-use Rattle.oscript.specs.Rows.{names_own_only, objects_of}
+use Rattle.oscript.specs.Rows.{refers_to_own_only, objects_of}
 use Rattle.osplan.specs.declared.plans.Alarm.{Alarm}
 use Rattle.osplan.specs.declared.plans.AlarmStart.{AlarmStart}
 use Rattle.osplan.specs.declared.plans.ExpiryPoint.{ExpiryPoint}
@@ -30,7 +30,7 @@ use Rattle.osplan.specs.declared.plans.TableStart.{TableStart}
 use Rattle.osplan.specs.declared.plans.Task.{Task}
 use Rattle.osbase.specs.declared.items.CoreMode.{CoreMode}
 use Rattle.osbase.specs.declared.items.CoreMode.TheVariants.{Named, DontCare}
-use Rattle.osplan.specs.Objects.{alarm_modes, core_scripts, has_index, is_common, posted_at_once, table_actions, table_modes}
+use Rattle.osplan.specs.Objects.{alarm_modes, core_scripts, has_index, is_common, most_posts_per_tick, table_actions, table_modes}
 use Rattle.osplan.specs.Naming.{is_on, names_other}
 use Rattle.osplan.specs.Spinlocks.{are_links_ordered, links_of}
 use Rattle.osplan.specs.View.{core_of, counter_in}
@@ -65,7 +65,7 @@ pub record PointSizes : Type 0 where
   pub offset : Option ℕ
   pub actions : ℕ
 
--- Of a schedule table, with the sizes of its counter as of an automatic alarm; of one that starts by itself, with its offset.
+-- Of a schedule table, with the sizes of its counter as of an automatic alarm; with its offset, if it is autostarted.
 pub record TableSizes : Type 0 where
   pub duration : Option ℕ
   pub repeating : Bool
@@ -136,12 +136,12 @@ abbrev pub most_activations : Bool → ℕ
 most_activations true = 1
 most_activations false = 64
 
--- A budget in ticks, of execution or of a lock, of which 0 stands for none [AUTOSAR SWS OS 4.x, OsTaskExecutionBudget and
+-- A budget in ticks, of execution or of a lock; 0 means none [AUTOSAR SWS OS 4.x, OsTaskExecutionBudget and
 -- OsTaskResourceLockBudget; the most is own].
 abbrev pub is_budget : Option ℕ → Bool
 is_budget budget = is_between 0 GREATEST_BUDGET budget
 
--- A task: priority 0 to 31, of which 0 is the lowest [OSEK/VDX OS 2.2.3, section 4.5; the highest is own], as many activations
+-- A task: priority 0 to 31, 0 the lowest [OSEK/VDX OS 2.2.3, section 4.5; the highest is own], as many activations
 -- as it may have [OSEK/VDX OS 2.2.3, section 4.3], and its budget.
 abbrev pub is_task_within : TaskSizes → Bool
 is_task_within s = is_between 0 31 s.priority && is_between 1 (most_activations s.extended) s.activations && is_budget s.budget
@@ -170,7 +170,7 @@ is_ceiling number = is_between 0 31 number
 abbrev pub is_resource_within : ResourceSizes → Bool
 is_resource_within s = is_ceiling s.ceiling && is_budget s.lock
 
--- A counter's greatest value and its least cycle, which is no greater [AUTOSAR SWS OS 4.x, OsCounterMaxAllowedValue and
+-- A counter's greatest value and its least cycle, at most that value [AUTOSAR SWS OS 4.x, OsCounterMaxAllowedValue and
 -- OsCounterMinCycle; the most is own].
 abbrev pub is_counter_within : CounterSizes → Bool
 is_counter_within s = is_between 1 GREATEST_VALUE s.max && is_between 1 (unwrap_or s.max 0) s.min
@@ -188,18 +188,18 @@ is_cycle counter cycle = is_between 0 0 cycle || is_between (unwrap_or counter.m
 abbrev pub is_start_by : StartSizes → CounterSizes → Bool
 is_start_by s counter = is_between 1 (unwrap_or counter.max 0) s.start && is_cycle counter s.cycle
 
--- Where there is no counter to go by, nothing is asked of its start.
+-- Without a counter to go by, any start is within the limits.
 abbrev pub is_start_within : StartSizes → Bool
 is_start_within s = option_map_or (is_start_by s) s.counter true
 
--- Nothing is asked of an alarm that is not automatic.
+-- An alarm that is not automatic is within the limits.
 abbrev pub is_alarm_within : Option StartSizes → Bool
 is_alarm_within auto = option_map_or is_start_within auto true
 
 abbrev pub are_alarms_within : List (Option StartSizes) → Bool
 are_alarms_within alarms = nat_le (length alarms) (most_of ObjectKind.Alarm) && list_all is_alarm_within alarms
 
--- The offset of the table's first point; 0 where it has none, or one below 0, which is out of order.
+-- The offset of the table's first point; 0 if it has none, or one below 0 (which is out of order).
 abbrev pub first_offset : List PointSizes → ℕ
 first_offset [] = 0
 first_offset (point ∷ points) = unwrap_or point.offset 0
@@ -242,7 +242,7 @@ is_core_numbered s =
 abbrev pub is_core_within : CoreSizes → Bool
 is_core_within s = is_core_numbered s && list_all is_short s.scripts
 
--- By any version: 1 to 8 application modes, at most 16 spinlocks, mailboxes of 1 to 16 envelopes, 1 to 16 cores, each of which passes the test. [own]
+-- By any version: 1 to 8 application modes, at most 16 spinlocks, mailboxes of 1 to 16 envelopes, 1 to 16 cores that all pass the test. [own]
 abbrev pub is_by : (CoreSizes → Bool) → Sizes → Bool
 is_by test s =
     is_between 1 (most_of ObjectKind.Mode) (Some s.modes) && nat_le s.spinlocks (most_of ObjectKind.Spinlock) && is_between 1 MAILBOX s.cap
@@ -303,7 +303,7 @@ is_delay counter delay = nat_le (unwrap_or counter.min 0) delay && nat_le delay 
 abbrev pub is_initial : CounterSizes → ℕ → Bool
 is_initial counter offset = (offset == 0) || is_delay counter offset
 
--- And a final delay, of which a table that does not repeat may have less than the least. [AUTOSAR SWS OS 4.x, SWS_Os_00427 and SWS_Os_00444]
+-- And a final delay; a table that does not repeat may have less than the least. [AUTOSAR SWS OS 4.x, SWS_Os_00427 and SWS_Os_00444]
 abbrev pub is_final : TableSizes → CounterSizes → Bool
 is_final s counter = nat_le (final_delay s) (unwrap_or counter.max 0) && (not s.repeating || is_delay counter (final_delay s))
 
@@ -323,7 +323,7 @@ same_number None other = false
 same_number (Some n) None = false
 same_number (Some n) (Some m) = n == m
 
--- The number is there, and is one of these. It is asked of the numbers of cores, those of a text and those of a configuration.
+-- The number is there, and is one of these: numbers of cores, of a text or of a configuration.
 abbrev pub has_number : List (Option ℕ) → Option ℕ → Bool
 has_number numbers number = list_any (λ other. same_number other number) numbers
 
@@ -384,7 +384,7 @@ core_sizes plan core = record {
   counters = map counter_sizes core.counters;
   alarms = map (alarm_sizes (counter_in plan)) core.alarms;
   tables = map (table_sizes (counter_in plan)) core.tables;
-  posted = posted_at_once core;
+  posted = most_posts_per_tick core;
   scripts = map (λ (script : List Op). length script) (core_scripts core);
 }
 
@@ -419,7 +419,7 @@ is_spinlock_known plan spinlock = option_map_or (is_spinlock plan) spinlock.next
 abbrev pub is_script_known : Plan → List Op → Bool
 is_script_known plan script = list_all (is_op_known plan) script
 
--- The modes in which a task starts by itself are there.
+-- The modes in which a task is autostarted are there.
 abbrev pub is_task_known : Plan → Task → Bool
 is_task_known plan task = list_all (is_mode plan) task.auto
 
@@ -428,12 +428,12 @@ is_task_known plan task = list_all (is_mode plan) task.auto
 abbrev pub is_action_known : Plan → RemoteCall → Bool
 is_action_known plan action = is_action action && is_object plan (object_of_call action)
 
--- An alarm's counter is there, what its action is for, and the modes in which it is set by itself.
+-- An alarm's counter is there, the object of its action, and the modes in which it is autostarted.
 abbrev pub is_alarm_known : Plan → Alarm → Bool
 is_alarm_known plan alarm =
     is_object plan (counter_object alarm.counter) && is_action_known plan alarm.action && list_all (is_mode plan) (alarm_modes alarm)
 
--- A table's counter is there, what its actions are for, and the modes in which it starts by itself.
+-- A table's counter is there, the objects of its actions, and the modes in which it is autostarted.
 abbrev pub is_table_known : Plan → Table → Bool
 is_table_known plan table =
     is_object plan (counter_object table.counter) && list_all (is_action_known plan) (table_actions table) && list_all (is_mode plan) (table_modes table)
@@ -444,23 +444,23 @@ is_core_known plan core =
     is_core_mode plan core.mode && list_all (is_script_known plan) (core_scripts core) && list_all (is_task_known plan) core.tasks && list_all (is_alarm_known plan) core.alarms
     && list_all (is_table_known plan) core.tables
 
--- On the core of this number the operation names no object of another core, where it may name its own alone.
-abbrev pub stays_on : CoreId → Op → Bool
-stays_on id op = not (names_own_only op && names_other id op)
+-- An operation that may name objects of its own core alone names no object of another core than this one.
+abbrev pub is_local_to : CoreId → Op → Bool
+is_local_to id op = not (refers_to_own_only op && names_other id op)
 
--- The alarm's counter stands on the core of this number. [own]
-abbrev pub is_alarm_near : CoreId → Alarm → Bool
-is_alarm_near id alarm = is_on id (counter_object alarm.counter)
+-- The alarm's counter is on the core of this number. [own]
+abbrev pub is_alarm_local : CoreId → Alarm → Bool
+is_alarm_local id alarm = is_on id (counter_object alarm.counter)
 
 -- And the table's.
-abbrev pub is_table_near : CoreId → Table → Bool
-is_table_near id table = is_on id (counter_object table.counter)
+abbrev pub is_table_local : CoreId → Table → Bool
+is_table_local id table = is_on id (counter_object table.counter)
 
 -- So it is with each operation of the core's scripts, and with each of its alarms and tables. [own]
-abbrev pub is_core_near : Core → Bool
-is_core_near core =
-    list_all (list_all (stays_on core.id)) (core_scripts core) && list_all (is_alarm_near core.id) core.alarms
-    && list_all (is_table_near core.id) core.tables
+abbrev pub has_local_references : Core → Bool
+has_local_references core =
+    list_all (list_all (is_local_to core.id)) (core_scripts core) && list_all (is_alarm_local core.id) core.alarms
+    && list_all (is_table_local core.id) core.tables
 
 -- The points of each of the core's tables come in order.
 abbrev pub is_core_timed : Plan → Core → Bool
@@ -471,5 +471,5 @@ is_core_timed plan core = list_all (λ (table : Table). is_table_timed (table_si
 abbrev pub is_within_limits : Plan → Bool
 is_within_limits plan =
     is_within (sizes_of plan) && are_numbers_distinct (numbers_of plan.cores) && is_some (core_of plan plan.master)
-    && list_all (is_core_known plan) plan.cores && list_all is_core_near plan.cores && list_all (is_core_timed plan) plan.cores
+    && list_all (is_core_known plan) plan.cores && list_all has_local_references plan.cores && list_all (is_core_timed plan) plan.cores
     && list_all (is_spinlock_known plan) plan.spinlocks && are_links_ordered (links_of plan.spinlocks)

@@ -29,7 +29,7 @@ is_off id object = not (is_on id object)
 abbrev pub is_that_spinlock : SpinlockId → Object → Bool
 is_that_spinlock l object = same_kind object.kind SpinlockKind && (object.place.index == l.index)
 
--- It stands on the side that is asked for, or is that spinlock.
+-- The object is on this side, or is this spinlock.
 abbrev pub is_at : Side → Object → Bool
 is_at (On id) object = is_on id object
 is_at (Off id) object = is_off id object

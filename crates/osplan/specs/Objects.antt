@@ -81,13 +81,13 @@ core_scripts core = map (λ (task : TaskValue). task.script) core.tasks ++ map (
 
 -- ---- alarms
 
--- The modes in which an alarm is set by itself: none of one that is not automatic. [AUTOSAR SWS OS 4.x, OsAlarmAutostart]
+-- The modes in which an alarm is autostarted: none, if it is not automatic. [AUTOSAR SWS OS 4.x, OsAlarmAutostart]
 abbrev pub alarm_modes : AlarmValue → List ModeId
 alarm_modes alarm = option_map_or (λ (auto : AlarmStart). auto.modes) alarm.auto []
 
 -- ---- schedule tables
 
--- The modes in which a table starts by itself. [AUTOSAR SWS OS 4.x, OsScheduleTableAutostart]
+-- The modes in which a table is autostarted. [AUTOSAR SWS OS 4.x, OsScheduleTableAutostart]
 abbrev pub table_modes : TableValue → List ModeId
 table_modes table = option_map_or (λ (auto : TableStart). auto.modes) table.auto []
 
@@ -101,7 +101,7 @@ table_actions table = flat_map (λ (point : ExpiryPoint). point.actions) table.p
 abbrev pub core_actions : Core → List RemoteCall
 core_actions core = map (λ (alarm : AlarmValue). alarm.action) core.alarms ++ flat_map table_actions core.tables
 
--- What an alarm or a table of the core may do by itself: an action, on an object that the core may name; it may be another core's.
+-- What an alarm or a table of the core may do: an action on an object that the core may name; it may be another core's.
 -- [AUTOSAR SWS OS 4.x, OsAlarmAction and OsScheduleTableExpiryPoint]
 abbrev pub may_act : Core → RemoteCall → Bool
 may_act core action = is_action action && may_name core (object_of_call action)
@@ -118,13 +118,13 @@ abbrev pub greatest_of : List ℕ → ℕ
 greatest_of [] = 0
 greatest_of (n ∷ ns) = greater n (greatest_of ns)
 
-abbrev pub greatest_posted : Core → TableValue → ℕ
-greatest_posted core table = greatest_of (map (posted_at core) table.points)
+abbrev pub most_posts_of_table : Core → TableValue → ℕ
+most_posts_of_table core table = greatest_of (map (posted_at core) table.points)
 
 -- How many letters the core's alarms and tables may add to its outbox at once: each alarm one, and each table those of one point. [own]
-abbrev pub posted_at_once : Core → ℕ
-posted_at_once core = count_by (λ (alarm : AlarmValue). is_posting core alarm.action) core.alarms + sum_by (greatest_posted core) core.tables
+abbrev pub most_posts_per_tick : Core → ℕ
+most_posts_per_tick core = count_by (λ (alarm : AlarmValue). is_posting core alarm.action) core.alarms + sum_by (most_posts_of_table core) core.tables
 
 -- How many places a core's outbox needs at least: for all that its alarms and schedule tables, and its calls, may post at once. [own]
 abbrev pub outbox_needed : Core → ℕ
-outbox_needed core = CALLS_AT_ONCE + posted_at_once core
+outbox_needed core = CALLS_AT_ONCE + most_posts_per_tick core

@@ -21,7 +21,7 @@ abbrev pub comes_after : List (Option SpinlockId) → ℕ → SpinlockId → Spi
 comes_after links zero from to = false
 comes_after links (suc n) from to = option_map_or (λ (next : SpinlockId). same_spinlock next to || comes_after links n next to) (next_in links from) false
 
--- No spinlock comes after itself. One that does is a successor, so that no others need be asked. [AUTOSAR SWS OS 4.x, SWS_Os_00660]
+-- No spinlock comes after itself. One that does is a successor, so that only successors need a test. [AUTOSAR SWS OS 4.x, SWS_Os_00660]
 abbrev pub is_link_ordered : List (Option SpinlockId) → Option SpinlockId → Bool
 is_link_ordered links next = option_map_or (λ (l : SpinlockId). not (comes_after links (length links) l l)) next true
 

@@ -4,6 +4,7 @@
 //! core, and a text can say it: the layers above test none of these again.
 #![tactic(auto)]
 
+mod copies;
 pub mod faults;
 mod modes;
 mod names;
@@ -14,6 +15,7 @@ mod protection;
 mod sides;
 pub mod spinlocks;
 
+pub use copies::{copied_core, copied_modes};
 pub use faults::ConfFault;
 pub use modes::{DONT_CARE, is_reserved};
 pub use operations::{OpTest, has_operation};
@@ -22,5 +24,5 @@ pub use plans::{
     Spinlock, Table, TableStart, Task,
 };
 pub use protection::Protection;
-pub use sides::{Side, stays_on};
+pub use sides::{Side, is_local_to};
 pub use spinlocks::order_ok;

@@ -1,7 +1,7 @@
 //! The names that application modes may have.
 
 ghost use Rattle.std.specs.Prelude.{◌≡◌};
-ghost use Rattle.osplan.specs.Expressible.{is_reserved};
+ghost use Rattle.osplan.specs.Representable.{is_reserved};
 
 /// The word for the mode of a core that goes with any (AUTOSAR SWS OS 4.x, DONOTCARE).
 pub const DONT_CARE: &str = "DONOTCARE";

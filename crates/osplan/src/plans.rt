@@ -5,14 +5,14 @@ ghost use Rattle.std.specs.List.{list_all};
 ghost use Rattle.osplan.specs.Objects.{common_names, core_scripts, is_own_object, names_in, object_count};
 ghost use Rattle.osplan.specs.Stimuli.{knows_stimulus};
 ghost use Rattle.osplan.specs.View.{core_of};
-ghost use Rattle.osplan.specs.Limits.{is_alarm_near, is_core_near, is_table_near, is_within_limits, stays_on};
-ghost use Rattle.osplan.specs.Expressible.{is_expressible};
+ghost use Rattle.osplan.specs.Limits.{is_alarm_local, has_local_references, is_table_local, is_within_limits, is_local_to};
+ghost use Rattle.osplan.specs.Representable.{is_representable};
 ghost use Rattle.osplan.specs.declared.plans.Isr.{Isr as IsrValue};
 ghost use Rattle.osplan.specs.declared.plans.Task.{Task as TaskValue};
 
 use crate::own::isr_of;
 use crate::protection::Protection;
-use crate::sides::{is_on, stays_on};
+use crate::sides::{is_local_to, is_on};
 use osbase::{
     CoreId, CoreMode, CounterRef, List, ModeId, Name, Object, ObjectKind, Reference, RemoteCall,
     SpinlockId, Stimulus,
@@ -26,11 +26,11 @@ pub struct Task {
     pub name: Name,
     /// The static priority, 0 to 31.
     pub priority: u8,
-    /// The application modes in which the task is started by itself.
+    /// The application modes in which the task is autostarted.
     pub auto: List<ModeId>,
     /// How many jobs of the task may be live at once.
     pub activations: u8,
-    /// Whether the task can wait for events, of which it has a mask (OSEK/VDX OS 2.2.3, section 4.2.1).
+    /// Whether the task can wait for events; it has a mask of them (OSEK/VDX OS 2.2.3, section 4.2.1).
     pub extended: bool,
     /// Whether a task of greater priority takes the processor before this one ends or gives way
     /// (OSEK/VDX OS 2.2.3, section 4.6).
@@ -75,7 +75,7 @@ pub struct Counter {
     pub software: bool,
 }
 
-/// How an alarm is set by itself: in these application modes, first due after so many counts, and again after each
+/// How an alarm is autostarted: in these application modes; it expires after so many counts, and again after each
 /// cycle (AUTOSAR SWS OS 4.x, OsAlarmAutostart).
 #[derive(Clone, Debug, Drop)]
 pub struct AlarmStart {
@@ -106,7 +106,7 @@ pub struct ExpiryPoint {
     pub actions: List<RemoteCall>,
 }
 
-/// How a schedule table is started by itself: in these application modes, its first period after so many counts
+/// How a schedule table is autostarted: in these application modes, its first period after so many counts
 /// (AUTOSAR SWS OS 4.x, OsScheduleTableAutostart).
 #[derive(Clone, Debug, Drop)]
 pub struct TableStart {
@@ -182,20 +182,20 @@ impl Model for Config {
     ghost use Rattle.std.specs.Prelude.{IsTrue};
     ghost use Rattle.osplan.specs.declared.plans.Plan.{Plan};
     ghost use Rattle.osplan.specs.Limits.{is_within_limits};
-    ghost use Rattle.osplan.specs.Expressible.{is_expressible};
+    ghost use Rattle.osplan.specs.Representable.{is_representable};
 
     ghost Value = { Plan };
 
     ghost view = { λ c. c.plan };
 
-    ghost invariant = { λ c. IsTrue (is_within_limits c.plan) × IsTrue (is_expressible c.plan) };
+    ghost invariant = { λ c. IsTrue (is_within_limits c.plan) × IsTrue (is_representable c.plan) };
 }
 
 impl Config {
     /// The configuration of a plan within the limits that a text can say.
     pub fn new(plan: Plan) -> Self
         requires limits { IsTrue (is_within_limits plan) }
-        requires expressible { IsTrue (is_expressible plan) }
+        requires representable { IsTrue (is_representable plan) }
         ensures { result ≡ plan }
     {
         Config { plan }
@@ -205,7 +205,7 @@ impl Config {
     pub fn plan(&self) -> &Plan
         ensures value { result.now ≡ self.now }
         ensures limits { IsTrue (is_within_limits self.now) }
-        ensures expressible { IsTrue (is_expressible self.now) }
+        ensures representable { IsTrue (is_representable self.now) }
     {
         &self.plan
     }
@@ -224,39 +224,39 @@ pub const KINDS: [ObjectKind; 6] = [
 /// The kinds of the objects that all cores have in common.
 pub const COMMON: [ObjectKind; 2] = [ObjectKind::Mode, ObjectKind::Spinlock];
 
-fn is_script_near(id: CoreId, script: &Script) -> bool
-    ensures { result ≡ list_all (stays_on id) script.now }
+fn is_script_local(id: CoreId, script: &Script) -> bool
+    ensures { result ≡ list_all (is_local_to id) script.now }
 {
-    script.as_slice().iter().all(|op| stays_on(id, *op))
+    script.as_slice().iter().all(|op| is_local_to(id, *op))
 }
 
 fn are_tasks_near(core: &Core) -> bool
-    ensures { result ≡ list_all (λ (task : TaskValue). list_all (stays_on core.now.id) task.script) core.now.tasks }
+    ensures { result ≡ list_all (λ (task : TaskValue). list_all (is_local_to core.now.id) task.script) core.now.tasks }
 {
     core.tasks
         .as_slice()
         .iter()
-        .all(|task| is_script_near(core.id, &task.script))
+        .all(|task| is_script_local(core.id, &task.script))
 }
 
 fn are_isrs_near(core: &Core) -> bool
-    ensures { result ≡ list_all (λ (isr : IsrValue). list_all (stays_on core.now.id) isr.script) core.now.isrs }
+    ensures { result ≡ list_all (λ (isr : IsrValue). list_all (is_local_to core.now.id) isr.script) core.now.isrs }
 {
     core.isrs
         .as_slice()
         .iter()
-        .all(|isr| is_script_near(core.id, &isr.script))
+        .all(|isr| is_script_local(core.id, &isr.script))
 }
 
 #[tactic(auto, using(crate::proofs::Scripts::all_scripts))]
 fn are_scripts_near(core: &Core) -> bool
-    ensures { result ≡ list_all (list_all (stays_on core.now.id)) (core_scripts core.now) }
+    ensures { result ≡ list_all (list_all (is_local_to core.now.id)) (core_scripts core.now) }
 {
     are_tasks_near(core) && are_isrs_near(core)
 }
 
 fn are_alarms_near(core: &Core) -> bool
-    ensures { result ≡ list_all (is_alarm_near core.now.id) core.now.alarms }
+    ensures { result ≡ list_all (is_alarm_local core.now.id) core.now.alarms }
 {
     core.alarms
         .as_slice()
@@ -265,7 +265,7 @@ fn are_alarms_near(core: &Core) -> bool
 }
 
 fn are_tables_near(core: &Core) -> bool
-    ensures { result ≡ list_all (is_table_near core.now.id) core.now.tables }
+    ensures { result ≡ list_all (is_table_local core.now.id) core.now.tables }
 {
     core.tables
         .as_slice()
@@ -277,7 +277,7 @@ impl Core {
     /// Whether no operation of the core's scripts names an object of another core, where it may name the
     /// core's own alone, and the counters of its alarms and tables are its own.
     pub fn is_near(&self) -> bool
-        ensures { result ≡ is_core_near self.now }
+        ensures { result ≡ has_local_references self.now }
     {
         are_scripts_near(self) && are_alarms_near(self) && are_tables_near(self)
     }

@@ -9,7 +9,7 @@ ghost use Rattle.osplan.specs.Protection.{protection_named, protection_word};
 pub enum Protection {
     /// PRO_IGNORE, which a time fault does not allow (SWS_Os_00307).
     Ignore,
-    /// PRO_TERMINATETASKISR: the job ends, and the core goes on.
+    /// PRO_TERMINATETASKISR: the job ends, and the core runs on.
     TerminateTaskIsr,
     /// PRO_TERMINATEAPPL. There are no OS-Applications.
     TerminateAppl,

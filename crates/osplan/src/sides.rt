@@ -4,7 +4,7 @@ ghost use Rattle.std.specs.Prelude.{◌≡◌, false};
 ghost use Rattle.std.specs.List.{list_any};
 ghost use Rattle.std.specs.Option.{option_map_or};
 ghost use Rattle.osbase.specs.Objects.{object_of_call};
-ghost use Rattle.osplan.specs.Limits.{stays_on};
+ghost use Rattle.osplan.specs.Limits.{is_local_to};
 ghost use Rattle.osplan.specs.declared.plans.Alarm.{Alarm as AlarmValue};
 ghost use Rattle.osplan.specs.declared.plans.ExpiryPoint.{ExpiryPoint as PointValue};
 ghost use Rattle.osplan.specs.declared.plans.Table.{Table as TableValue};
@@ -120,8 +120,8 @@ impl Side {
 }
 
 /// Whether the operation names no object of another core, where it may name the core's own alone.
-pub fn stays_on(id: CoreId, op: Op) -> bool
-    ensures { result ≡ stays_on id op }
+pub fn is_local_to(id: CoreId, op: Op) -> bool
+    ensures { result ≡ is_local_to id op }
 {
-    !(op.names_own_only() && Side::Off(id).is_named_by_op(op))
+    !(op.refers_to_own_only() && Side::Off(id).is_named_by_op(op))
 }

@@ -58,7 +58,7 @@ halt 0 E_OK
 hook Shutdown E_OK
 ended
 
-// A core that passes the second barrier after all were asked to shut down.
+// A core that passes the second barrier after a request to shut all down.
 turns "0o 1l 1o 0o 0l 1l 0o 1o 0l 0o 0o 1l 1l 0o 1o 0l 1l 0l 1l"
 run
 as before

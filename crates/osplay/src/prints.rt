@@ -1,7 +1,7 @@
 //! What jobs and reports print, each in one text, and the first line in which one is not what it is to be.
 
 ghost use Rattle.std.specs.Prelude.{◌≡◌, IfOk, OnOk, string_bytes};
-ghost use Rattle.ostext.specs.Trace.{text_of};
+ghost use Rattle.ostrace_text.specs.Trace.{text_of};
 
 use crate::differences::Difference;
 use crate::files::files_of;

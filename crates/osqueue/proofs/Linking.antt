@@ -117,7 +117,7 @@ module _ (old new : ℕ → Option Ready) (next front end marks : ℕ → ℕ) (
     ]
   ]
 
-  -- behind all of its priority, of which there are some
+  -- behind all of its priority, if there are some
   pub put-behind : (next' end' : ℕ → ℕ) → marks x.priority ≡ 1 → Sets next next' (end x.priority) n → Sets end end' x.priority n → ((i : ℕ) → is_some (old i) ≡ true → priority_of (old i) ≡ x.priority → stamp_of (old i) < x.job.stamp) → IsLinked new next' front end' marks
   put-behind next' end' m linked ended newest = record {
     marked = λ i used. elim (split old new n x puts i used) [
@@ -181,7 +181,7 @@ module _ (old new : ℕ → Option Ready) (next front end marks : ℕ → ℕ) (
             | inr apart ↦ out (e ∙ sym (ap end' o.priority ∙ ended.kept (priority_of (old i)) apart))
           ]
 
-  -- before all of its priority, of which there are some
+  -- before all of its priority, if there are some
   pub put-before : (next' front' : ℕ → ℕ) → marks x.priority ≡ 1 → Sets next next' n (front x.priority) → Sets front front' x.priority n → ((i : ℕ) → is_some (old i) ≡ true → priority_of (old i) ≡ x.priority → x.job.stamp < stamp_of (old i)) → IsLinked new next' front' end marks
   put-before next' front' m linked begun oldest = record {
     marked = λ i used. elim (split old new n x puts i used) [

@@ -6,7 +6,7 @@ ghost use Rattle.osqueue.specs.Ordered.{ordered};
 use crate::ready::Ready;
 use std::marker::Model;
 
-/// A pool of `J` places, of which each has a ready job or none.
+/// A pool of `J` places, each with a ready job or none.
 #[derive(Drop)]
 pub(crate) struct Pool<const J: usize> {
     places: [Option<Ready>; J],

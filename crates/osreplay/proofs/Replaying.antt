@@ -10,60 +10,61 @@ use Rattle.osplan.specs.declared.plans.Plan.{Plan}
 use Rattle.osplan.specs.View.{view_of}
 use Rattle.osstate.specs.Does.{Reads}
 use Rattle.oskernel.specs.Step.{outbox_size, takes}
-use Rattle.osturn.specs.declared.seats.Seat.{Seat}
-use Rattle.osturn.specs.Fits.{history_by}
-use Rattle.osturn.specs.Seats.{IsSeated, report_of}
-use Rattle.osturn.specs.Sound.{report_by}
-use Rattle.osturn.proofs.Seated.{Keeps, Took, seated-kept, seated-on, seated-own, took-kept}
+use Rattle.osrun.specs.declared.core_runs.CoreRun.{CoreRun}
+use Rattle.osrun.specs.Fits.{history_by}
+use Rattle.osrun.specs.CoreRuns.{IsCoreRun, report_of}
+use Rattle.osrun.specs.Sound.{report_by}
+use Rattle.osrun.specs.CoreRuns.{Keeps, Took}
+use Rattle.osrun.proofs.CoreRunning.{seated-kept, seated-on, seated-own, took-kept}
 use Rattle.osreplay.specs.Replays.{IsCutShort, IsRefused, IsReplayed}
 
-pub record HasTaken (plan : Plan) (id : CoreId) (items : List Item) (seat : Seat) : Type 0 where
-  pub seated : IsSeated plan [] seat
-  pub id_is : seat.id ≡ id
-  pub items_are : seat.items.items ≡ items
+pub record HasTaken (plan : Plan) (id : CoreId) (items : List Item) (core_run : CoreRun) : Type 0 where
+  pub seated : IsCoreRun plan [] core_run
+  pub id_is : core_run.id ≡ id
+  pub items_are : core_run.items.items ≡ items
 
 -- What it reports is the report of those items.
-pub reports : (plan : Plan) (id : CoreId) (items : List Item) (seat : Seat) (report : Report) → HasTaken plan id items seat → report ≡ report_of seat → IsReplayed plan id items report
-reports plan id items seat report taken is = record {
+pub reports : (plan : Plan) (id : CoreId) (items : List Item) (core_run : CoreRun) (report : Report) → HasTaken plan id items core_run → report ≡ report_of core_run → IsReplayed plan id items report
+reports plan id items core_run report taken is = record {
   alone = rw (taken.id_is, taken.items_are) at taken.seated.alone;
-  report_is = is ∙ seated-own plan [] seat taken.seated ∙ ap (λ (i : CoreId). report_by plan i seat.items.items) taken.id_is ∙ ap (report_by plan id) taken.items_are;
+  report_is = is ∙ seated-own plan [] core_run taken.seated ∙ ap (λ (i : CoreId). report_by plan i core_run.items.items) taken.id_is ∙ ap (report_by plan id) taken.items_are;
 }
 
 -- There is no room for the next item.
-pub cut-short : (plan : Plan) (id : CoreId) (items : List Item) (n : ℕ) → n < length items → (seat roomy : Seat) → HasTaken plan id (take n items) seat → Keeps seat roomy → (report : Report) → report ≡ report_of roomy → IsCutShort plan id items report
-cut-short plan id items n within seat roomy taken keeps report is = record {
+pub cut-short : (plan : Plan) (id : CoreId) (items : List Item) (n : ℕ) → n < length items → (core_run roomy : CoreRun) → HasTaken plan id (take n items) core_run → Keeps core_run roomy → (report : Report) → report ≡ report_of roomy → IsCutShort plan id items report
+cut-short plan id items n within core_run roomy taken keeps report is = record {
   before = n;
   within = within;
   replayed = reports plan id (take n items) roomy report (record {
-    seated = seated-kept plan [] seat roomy keeps taken.seated;
+    seated = seated-kept plan [] core_run roomy keeps taken.seated;
     id_is = keeps.id ∙ taken.id_is;
     items_are = keeps.items ∙ taken.items_are;
   }) is;
 }
 
 -- The seat before the next item.
-module _ (plan : Plan) (id : CoreId) (items : List Item) (n : ℕ) (seat : Seat) (taken : HasTaken plan id (take n items) seat) (item : Item) (next : slice_get items n ≡ Some item) where
+module _ (plan : Plan) (id : CoreId) (items : List Item) (n : ℕ) (core_run : CoreRun) (taken : HasTaken plan id (take n items) core_run) (item : Item) (next : slice_get items n ≡ Some item) where
   -- it may not take it
-  pub refuses : (may : Bool) → Reads (λ v h. takes outbox_size v h item) seat.kernel may → may ≡ false → (number : ℕ) → number ≡ n → (report : Report) → report ≡ report_of seat → IsRefused plan id items (number + 1) report
+  pub refuses : (may : Bool) → Reads (λ v h. takes outbox_size v h item) core_run.kernel may → may ≡ false → (number : ℕ) → number ≡ n → (report : Report) → report ≡ report_of core_run → IsRefused plan id items (number + 1) report
   refuses may reads may_not number counted report is = record {
     before = n;
     item = item;
     number_is = ap (λ (k : ℕ). k + 1) counted;
     item_is = next;
-    replayed = reports plan id (take n items) seat report taken is;
+    replayed = reports plan id (take n items) core_run report taken is;
     refused =
         ap (λ (i : CoreId). takes outbox_size (view_of plan i) (history_by plan i (take n items)) item) (sym taken.id_is)
-        ∙ ap (λ (is : List Item). takes outbox_size (view_of plan seat.id) (history_by plan seat.id is) item) (sym taken.items_are)
-        ∙ sym (reads (view_of plan seat.id) (history_by plan seat.id seat.items.items) taken.seated.tracks.stands)
+        ∙ ap (λ (is : List Item). takes outbox_size (view_of plan core_run.id) (history_by plan core_run.id is) item) (sym taken.items_are)
+        ∙ sym (reads (view_of plan core_run.id) (history_by plan core_run.id core_run.items.items) taken.seated.tracks.stands)
         ∙ may_not;
   }
 
   -- it takes it
-  pub takes-on : (may : Bool) → Reads (λ v h. takes outbox_size v h item) seat.kernel may → may ≡ true → (roomy new : Seat) → Keeps seat roomy → Took roomy new item → HasTaken plan id (take (n + 1) items) new
+  pub takes-on : (may : Bool) → Reads (λ v h. takes outbox_size v h item) core_run.kernel may → may ≡ true → (roomy new : CoreRun) → Keeps core_run roomy → Took roomy new item → HasTaken plan id (take (n + 1) items) new
   takes-on may reads may_take roomy new keeps took =
-      let on : Took seat new item = took-kept seat roomy new item keeps took in
+      let on : Took core_run new item = took-kept core_run roomy new item keeps took in
       record {
-        seated = seated-on plan [] seat new item taken.seated (sym (reads (view_of plan seat.id) (history_by plan seat.id seat.items.items) taken.seated.tracks.stands) ∙ may_take) on;
+        seated = seated-on plan [] core_run new item taken.seated (sym (reads (view_of plan core_run.id) (history_by plan core_run.id core_run.items.items) taken.seated.tracks.stands) ∙ may_take) on;
         id_is = on.id ∙ taken.id_is;
         items_are = on.items
             ∙ ap (λ (is : List Item). is ++ item ∷ []) taken.items_are

@@ -1,4 +1,4 @@
--- A core by itself with the items that another run gave it. [own]
+-- A core alone with the items that another run gave it. [own]
 use Rattle.std.specs.Prelude.{◌≡◌, ◌<◌, ℕ, ◌+◌, false, Some, List, length, slice_get, take}
 use Rattle.osbase.specs.declared.items.Item.{Item}
 use Rattle.osbase.specs.declared.references.CoreId.{CoreId}
@@ -6,8 +6,8 @@ use Rattle.osbase.specs.declared.turns.Report.{Report}
 use Rattle.osplan.specs.View.{view_of}
 use Rattle.osplan.specs.declared.plans.Plan.{Plan}
 use Rattle.oskernel.specs.Step.{outbox_size, solo, takes}
-use Rattle.osturn.specs.Fits.{history_by}
-use Rattle.osturn.specs.Sound.{report_by}
+use Rattle.osrun.specs.Fits.{history_by}
+use Rattle.osrun.specs.Sound.{report_by}
 use Rattle.osreplay.specs.declared.replays.ReplayFault.{ReplayFault}
 use Rattle.osreplay.specs.declared.replays.ReplayFault.TheVariants.{ItemRefused, NoMemory}
 

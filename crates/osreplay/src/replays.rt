@@ -6,7 +6,7 @@ ghost use Rattle.osreplay.specs.Replays.{IsReplayFault, IsReplayed};
 
 use osbase::{CoreId, Item, Report};
 use osplan::Config;
-use osturn::Seat;
+use osrun::CoreRun;
 use std::alloc::Global;
 use thiserror::Error;
 
@@ -21,7 +21,7 @@ pub enum ReplayFault {
     ItemRefused { number: u64, report: Report },
 }
 
-/// Plays a configured core by itself: it takes the items in their order, up to the first that it may not take. The
+/// Plays a configured core alone: it takes the items in their order, up to the first that it may not take. The
 /// report is that of the items taken.
 pub fn replay(
     alloc: Global,
@@ -35,22 +35,22 @@ pub fn replay(
 {
     // The configuration is within the limits, so a seat fits the core.
     let _plan = config.plan();
-    let mut seat = Seat::new(alloc, config, core, &[]);
+    let mut core_run = CoreRun::new(alloc, config, core, &[]);
     let mut taken = 0;
     for item in items {
-        if !seat.kernel.may_take(item) {
+        if !core_run.kernel.may_take(item) {
             return Err(ReplayFault::ItemRefused {
                 number: taken + 1,
-                report: seat.report(),
+                report: core_run.report(),
             });
         }
-        if seat.make_room().is_err() {
+        if core_run.make_room().is_err() {
             return Err(ReplayFault::NoMemory {
-                report: seat.report(),
+                report: core_run.report(),
             });
         }
-        seat.take(*item);
+        core_run.take(*item);
         taken += 1;
     }
-    Ok(seat.report())
+    Ok(core_run.report())
 }

@@ -37,7 +37,7 @@ impl Held {
         }
     }
 
-    /// One resource more, which is now the newest.
+    /// Adds a resource as the newest.
     pub fn raise(&mut self, resource: HeldResource)
         requires { length self.old < RESOURCES }
         ensures { self.new ≡ resource ∷ self.old }

@@ -7,7 +7,7 @@ use Rattle.osbase.specs.declared.limits.TheConstants.{RESOURCES}
 use Rattle.osbase.specs.declared.marks.Mark.{Mark}
 use Rattle.osbase.specs.declared.references.Runner.{Runner}
 use Rattle.osbase.specs.declared.histories.HeldResource.{HeldResource}
-use Rattle.osbase.specs.History.{History, Entry, Printed, Noted, Taken, Given, Locked, Unlocked, Done, same_runner}
+use Rattle.osbase.specs.History.{History, Entry, Printed, Noted, ResourceOccupied, ResourceReleased, InterruptsSuspended, InterruptsResumed, Done, same_runner}
 use Rattle.osbase.specs.Interrupts.{running_job, runner_of_job}
 use Rattle.oscript.specs.declared.Op.{Op}
 use Rattle.oscript.specs.Runners.{Row, row_after, row_by, row_of, row_step, runner_of}
@@ -22,7 +22,7 @@ long script r (e ∷ h) = by (runner_of (runner_of_job (running_job h)) e) (long
     row = row_of script r h
 
     step : (e : Entry) → length row.lock_used ≡ RESOURCES → length (row_step script e row).lock_used ≡ RESOURCES
-    step (Noted (Taken q x)) same = length-set row.lock_used x.index 0 ∙ same
+    step (Noted (ResourceOccupied q x)) same = length-set row.lock_used x.index 0 ∙ same
     step (Printed Mark.Tick) same = length-map row.lock_used suc ∙ same
     step e same = same
 
@@ -55,7 +55,7 @@ lock-used-since script r index (e ∷ h) below = of e (lock-used-since script r 
     kept false new is same = same
 
     taken : (mine : Bool) (x : HeldResource) (this : Bool) → (x.index == index) ≡ this → get_or row.lock_used index 0 ≡ ticks
-        → get_or (cond mine (row_step script (Noted (Taken r x)) row) row).lock_used index 0 ≡ cond (mine && this) 0 ticks
+        → get_or (cond mine (row_step script (Noted (ResourceOccupied r x)) row) row).lock_used index 0 ≡ cond (mine && this) 0 ticks
     taken false x this e same = same
     taken true x true e same = ap (λ (n : ℕ). get_or (set row.lock_used n 0) index 0) (eqb-true x.index index e) ∙ get_or-set_same row.lock_used index 0 0 here
     taken true x false e same = get_or-set_other row.lock_used x.index index 0 0 (λ is. both_ways (x.index == index) e (eq-eqb x.index index (sym is))) ∙ same
@@ -72,7 +72,7 @@ lock-used-since script r index (e ∷ h) below = of e (lock-used-since script r 
     of : (e : Entry) → get_or row.lock_used index 0 ≡ ticks
         → get_or (row_after script r running e row).lock_used index 0 ≡ cond (takes_lock r index e) 0 (cond (is_tick e && is_running r h) (suc ticks) ticks)
     of (Printed Mark.Tick) same = ticked running same
-    of (Noted (Taken q x)) same = taken (same_runner q r) x (x.index == index) refl same
+    of (Noted (ResourceOccupied q x)) same = taken (same_runner q r) x (x.index == index) refl same
     of (Printed (Mark.Terminated t)) same = kept (same_runner (Runner.Task t) r) (row_step script (Printed (Mark.Terminated t)) row) refl same
     of (Printed (Mark.IsrLeft i)) same = kept (same_runner (Runner.Isr i) r) (row_step script (Printed (Mark.IsrLeft i)) row) refl same
     of (Printed (Mark.EventAwaited t mask)) same = kept (same_runner (Runner.Task t) r) (row_step script (Printed (Mark.EventAwaited t mask)) row) refl same
@@ -80,8 +80,8 @@ lock-used-since script r index (e ∷ h) below = of e (lock-used-since script r 
     of (Printed (Mark.EventSet t mask)) same = kept (same_runner (Runner.Task t) r) (row_step script (Printed (Mark.EventSet t mask)) row) refl same
     of (Printed (Mark.EventCleared t mask)) same = kept (same_runner (Runner.Task t) r) (row_step script (Printed (Mark.EventCleared t mask)) row) refl same
     of (Printed (Mark.Released t)) same = kept (same_runner (Runner.Task t) r) (row_step script (Printed (Mark.Released t)) row) refl same
-    of (Noted (Given q index)) same = kept (same_runner q r) (row_step script (Noted (Given q index)) row) refl same
-    of (Noted (Locked q)) same = kept (same_runner q r) (row_step script (Noted (Locked q)) row) refl same
-    of (Noted (Unlocked q)) same = kept (same_runner q r) (row_step script (Noted (Unlocked q)) row) refl same
+    of (Noted (ResourceReleased q index)) same = kept (same_runner q r) (row_step script (Noted (ResourceReleased q index)) row) refl same
+    of (Noted (InterruptsSuspended q)) same = kept (same_runner q r) (row_step script (Noted (InterruptsSuspended q)) row) refl same
+    of (Noted (InterruptsResumed q)) same = kept (same_runner q r) (row_step script (Noted (InterruptsResumed q)) row) refl same
     of (Noted (Done q status value)) same = kept (same_runner q r) (row_step script (Noted (Done q status value)) row) refl same
     of e same = same

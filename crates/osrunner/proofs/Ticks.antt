@@ -3,7 +3,7 @@ use Rattle.std.proofs.Common.{◌≡◌, ℕ, suc, ◌+◌, ◌&&◌, Bool, true
 use Rattle.std.specs.Option.{option_map_or}
 use Rattle.osbase.specs.declared.marks.Mark.{Mark}
 use Rattle.osbase.specs.declared.references.Runner.{Runner}
-use Rattle.osbase.specs.History.{History, Entry, Printed, Noted, Taken, Given, Locked, Unlocked, Done, same_runner}
+use Rattle.osbase.specs.History.{History, Entry, Printed, Noted, ResourceOccupied, ResourceReleased, InterruptsSuspended, InterruptsResumed, Done, same_runner}
 use Rattle.osbase.specs.Interrupts.{running_job, runner_of_job}
 use Rattle.oscript.specs.declared.Op.{Op}
 use Rattle.oscript.specs.Runners.{Row, row_after, row_by, row_of, row_step}
@@ -49,9 +49,9 @@ used-since script r (e ∷ h) = of e (used-since script r h)
     of (Printed (Mark.EventSet t mask)) same = kept (same_runner (Runner.Task t) r) (row_step script (Printed (Mark.EventSet t mask)) row) refl same
     of (Printed (Mark.EventCleared t mask)) same = kept (same_runner (Runner.Task t) r) (row_step script (Printed (Mark.EventCleared t mask)) row) refl same
     of (Printed (Mark.Released t)) same = kept (same_runner (Runner.Task t) r) (row_step script (Printed (Mark.Released t)) row) refl same
-    of (Noted (Taken q x)) same = kept (same_runner q r) (row_step script (Noted (Taken q x)) row) refl same
-    of (Noted (Given q index)) same = kept (same_runner q r) (row_step script (Noted (Given q index)) row) refl same
-    of (Noted (Locked q)) same = kept (same_runner q r) (row_step script (Noted (Locked q)) row) refl same
-    of (Noted (Unlocked q)) same = kept (same_runner q r) (row_step script (Noted (Unlocked q)) row) refl same
+    of (Noted (ResourceOccupied q x)) same = kept (same_runner q r) (row_step script (Noted (ResourceOccupied q x)) row) refl same
+    of (Noted (ResourceReleased q index)) same = kept (same_runner q r) (row_step script (Noted (ResourceReleased q index)) row) refl same
+    of (Noted (InterruptsSuspended q)) same = kept (same_runner q r) (row_step script (Noted (InterruptsSuspended q)) row) refl same
+    of (Noted (InterruptsResumed q)) same = kept (same_runner q r) (row_step script (Noted (InterruptsResumed q)) row) refl same
     of (Noted (Done q status value)) same = kept (same_runner q r) (row_step script (Noted (Done q status value)) row) refl same
     of e same = same

@@ -7,7 +7,7 @@ use Rattle.std.proofs.lemmas.Nat.Bits.{bit_at-lt, bit_at-zero, bit_at_and, bit_a
 use Rattle.osbase.specs.declared.references.TaskRef.{TaskRef}
 use Rattle.osbase.specs.declared.marks.Mark.{Mark}
 use Rattle.osbase.specs.declared.references.Runner.{Runner}
-use Rattle.osbase.specs.History.{History, Entry, Printed, Noted, Taken, Given, Locked, Unlocked, Done, same_runner, same_task, with_cleared, with_none_set, with_set}
+use Rattle.osbase.specs.History.{History, Entry, Printed, Noted, ResourceOccupied, ResourceReleased, InterruptsSuspended, InterruptsResumed, Done, same_runner, same_task, with_cleared, with_none_set, with_set}
 use Rattle.osbase.specs.Interrupts.{running_job, runner_of_job}
 use Rattle.oscript.specs.declared.Op.{Op}
 use Rattle.oscript.specs.Runners.{Row, row_after, row_by, row_of, row_step}
@@ -80,10 +80,10 @@ last-said script t event (e ∷ h) below masks = of e rest.0 (last-said script t
     of (Printed (Mark.EventAwaited u m)) mask same = kept (Printed (Mark.EventAwaited u m)) (Runner.Task u) refl same
     of (Printed (Mark.Released u)) mask same = kept (Printed (Mark.Released u)) (Runner.Task u) refl same
     of (Printed (Mark.Terminated u)) mask same = kept (Printed (Mark.Terminated u)) (Runner.Task u) refl same
-    of (Noted (Taken r x)) mask same = kept (Noted (Taken r x)) r refl same
-    of (Noted (Given r index)) mask same = kept (Noted (Given r index)) r refl same
+    of (Noted (ResourceOccupied r x)) mask same = kept (Noted (ResourceOccupied r x)) r refl same
+    of (Noted (ResourceReleased r index)) mask same = kept (Noted (ResourceReleased r index)) r refl same
     of (Printed Mark.Tick) mask same = ticked running same
-    of (Noted (Locked r)) mask same = kept (Noted (Locked r)) r refl same
-    of (Noted (Unlocked r)) mask same = kept (Noted (Unlocked r)) r refl same
+    of (Noted (InterruptsSuspended r)) mask same = kept (Noted (InterruptsSuspended r)) r refl same
+    of (Noted (InterruptsResumed r)) mask same = kept (Noted (InterruptsResumed r)) r refl same
     of (Noted (Done r status value)) mask same = kept (Noted (Done r status value)) r refl same
     of e mask same = same

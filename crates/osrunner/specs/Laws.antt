@@ -6,7 +6,7 @@ use Rattle.std.specs.Option.{option_map_or}
 use Rattle.osbase.specs.declared.references.TaskRef.{TaskRef}
 use Rattle.osbase.specs.declared.marks.Mark.{Mark}
 use Rattle.osbase.specs.declared.references.Runner.{Runner}
-use Rattle.osbase.specs.History.{History, Entry, Noted, Printed, Taken, same_runner, same_task}
+use Rattle.osbase.specs.History.{History, Entry, Noted, Printed, ResourceOccupied, same_runner, same_task}
 use Rattle.osbase.specs.declared.limits.TheConstants.{RESOURCES}
 use Rattle.osbase.specs.Interrupts.{running_job, runner_of_job}
 use Rattle.oscript.specs.declared.Op.{Op}
@@ -76,7 +76,7 @@ pub record UsesTicksSince (r : Runner) (h : History) : Type 0 where
 
 -- By the entry a job of the runner takes the resource of this index.
 abbrev pub takes_lock : Runner → ℕ → Entry → Bool
-takes_lock r index (Noted (Taken q x)) = same_runner q r && (x.index == index)
+takes_lock r index (Noted (ResourceOccupied q x)) = same_runner q r && (x.index == index)
 takes_lock r index e = false
 
 -- How many ticks there were, since a job of the runner last took the resource, at which one was the running job.

@@ -44,7 +44,7 @@ with_row_at place f all = slice_set all place (f (row_at place all))
 abbrev pub with_row : Runner → (Row → Row) → List Row → List Row
 with_row r f all = with_row_at (slot_of r) f all
 
--- What an entry does to the rows: that of its runner, if it has one, goes on by its step. The script is that runner's.
+-- What an entry does to the rows: it changes that of its runner, if it has one, by its step. The script is that runner's.
 abbrev pub rows_by : List Op → Entry → Option Runner → List Row → List Row
 rows_by script e None all = all
 rows_by script e (Some r) all = with_row r (row_step script e) all

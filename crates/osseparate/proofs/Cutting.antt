@@ -10,8 +10,8 @@ use Rattle.oscript.specs.{declared.Op.Op, Calls.is_action, Rows.halts_all, Rows.
 use Rattle.osplan.specs.{declared.plans.Plan.Plan, declared.plans.Core.Core, declared.plans.Alarm.Alarm, declared.plans.Table.Table, View.core_of}
 use Rattle.osbase.specs.declared.items.CoreMode.TheVariants.{Named, DontCare}
 use Rattle.osplan.specs.Objects.{alarm_modes, common_names, core_scripts, table_actions, table_modes}
-use Rattle.osplan.specs.Limits.{CoreSizes, StartSizes, TableSizes, core_sizes, cores_by, sizes_of, is_action_known, is_alarm_known, is_alarm_near, is_by, is_core_timed, is_core_within, is_second, is_table_known, is_table_near, is_versioned, is_within, is_between, most_cores, most_of, number_of, is_object, is_op_known, is_mode, is_core_mode, is_script_known, is_core_known, is_core_near, is_within_limits}
-use Rattle.osplan.specs.Expressible.{all_common_names, is_core_expressible, is_expressible, are_distinct, object_names}
+use Rattle.osplan.specs.Limits.{CoreSizes, StartSizes, TableSizes, core_sizes, cores_by, sizes_of, is_action_known, is_alarm_known, is_alarm_local, is_by, is_core_timed, is_core_within, is_second, is_table_known, is_table_local, is_versioned, is_within, is_between, most_cores, most_of, number_of, is_object, is_op_known, is_mode, is_core_mode, is_script_known, is_core_known, has_local_references, is_within_limits}
+use Rattle.osplan.specs.Representable.{all_common_names, is_core_representable, is_representable, are_distinct, object_names}
 use Rattle.osplan.specs.Naming.{has_operation, is_off, is_on, names_other}
 use Rattle.osseparate.specs.Separate.{agree, alone_of, halts_somewhere, is_agreed_mode, is_named_elsewhere, is_separate, is_separate_core, is_started}
 use Rattle.osplan.proofs.Acting.{any-acting}
@@ -70,17 +70,17 @@ module _ (plan : Plan) (id : CoreId) (core : Core) (found : core_of plan id ≡ 
       and_from _ _ parts.0 (own-object (object_of_call action) parts.1 inward)
 
   -- an alarm names its counter, of this core, and an object that its action is for
-  own-alarm : (alarm : Alarm) → (is_alarm_known plan alarm && is_alarm_near core.id alarm) ≡ true → leaves alarm.action ≡ false → is_alarm_known alone alarm ≡ true
+  own-alarm : (alarm : Alarm) → (is_alarm_known plan alarm && is_alarm_local core.id alarm) ≡ true → leaves alarm.action ≡ false → is_alarm_known alone alarm ≡ true
   own-alarm alarm h inward =
-      let parts = and_parts (is_alarm_known plan alarm) (is_alarm_near core.id alarm) h in
+      let parts = and_parts (is_alarm_known plan alarm) (is_alarm_local core.id alarm) h in
       let known = and_parts _ (list_all (is_mode plan) (alarm_modes alarm)) parts.0 in
       let objects = and_parts (is_object plan (counter_object alarm.counter)) (is_action_known plan alarm.action) known.0 in
       and_from _ _ (and_from _ _ (own-object (counter_object alarm.counter) objects.0 (not_from_true _ parts.1)) (own-action alarm.action objects.1 inward)) known.1
 
   -- and so does a table
-  own-table : (table : Table) → (is_table_known plan table && is_table_near core.id table) ≡ true → list_any leaves (table_actions table) ≡ false → is_table_known alone table ≡ true
+  own-table : (table : Table) → (is_table_known plan table && is_table_local core.id table) ≡ true → list_any leaves (table_actions table) ≡ false → is_table_known alone table ≡ true
   own-table table h inward =
-      let parts = and_parts (is_table_known plan table) (is_table_near core.id table) h in
+      let parts = and_parts (is_table_known plan table) (is_table_local core.id table) h in
       let known = and_parts _ (list_all (is_mode plan) (table_modes table)) parts.0 in
       let objects = and_parts (is_object plan (counter_object table.counter)) (list_all (is_action_known plan) (table_actions table)) known.0 in
       let actions = all-without (is_action_known plan) leaves (is_action_known alone) own-action (table_actions table) objects.1 inward in
@@ -92,10 +92,10 @@ module _ (plan : Plan) (id : CoreId) (core : Core) (found : core_of plan id ≡ 
       let acting = or_parts _ _ (sym (any-acting (is_off core.id) core) ∙ separate.acting) in
       let mode : is_core_mode plan core.mode ≡ true = grind arith in
       let scripts = all-without (is_script_known plan) (list_any (names_other core.id)) (is_script_known alone) own-script (core_scripts core) parts.scripts separate.inward in
-      let alarms = all-without (λ (alarm : Alarm). is_alarm_known plan alarm && is_alarm_near core.id alarm) (λ (alarm : Alarm). leaves alarm.action) (is_alarm_known alone) own-alarm core.alarms
-      (all-both (is_alarm_known plan) (is_alarm_near core.id) core.alarms parts.alarms near.alarms) acting.0 in
-      let tables = all-without (λ (table : Table). is_table_known plan table && is_table_near core.id table) (λ (table : Table). list_any leaves (table_actions table)) (is_table_known alone) own-table core.tables
-      (all-both (is_table_known plan) (is_table_near core.id) core.tables parts.tables near.tables) acting.1 in
+      let alarms = all-without (λ (alarm : Alarm). is_alarm_known plan alarm && is_alarm_local core.id alarm) (λ (alarm : Alarm). leaves alarm.action) (is_alarm_known alone) own-alarm core.alarms
+      (all-both (is_alarm_known plan) (is_alarm_local core.id) core.alarms parts.alarms near.alarms) acting.0 in
+      let tables = all-without (λ (table : Table). is_table_known plan table && is_table_local core.id table) (λ (table : Table). list_any leaves (table_actions table)) (is_table_known alone) own-table core.tables
+      (all-both (is_table_known plan) (is_table_local core.id) core.tables parts.tables near.tables) acting.1 in
       and_from _ _ (and_from _ _ (and_from _ _ (and_from _ _ mode scripts) parts.tasks) alarms) tables
 
   -- its alarms' and its tables' counters are its own, in the whole as alone
@@ -132,15 +132,15 @@ module _ (plan : Plan) (id : CoreId) (core : Core) (found : core_of plan id ≡ 
       let modes = and_parts (is_between 1 (most_of ObjectKind.Mode) (Some (length plan.modes))) (nat_le (length plan.spinlocks) (most_of ObjectKind.Spinlock)) cap.0 in
       and_from _ _ (version-alone parts.0) (and_from _ _ (and_from _ _ (and_from _ _ (and_from _ _ modes.0 refl) cap.1) refl) (and_from _ _ one refl))
 
-  plan-alone : LimitParts plan → is_core_within (core_sizes plan core) ≡ true → is_core_known plan core ≡ true → is_core_near core ≡ true → is_core_timed plan core ≡ true → SeparateParts plan core → is_within_limits alone ≡ true
+  plan-alone : LimitParts plan → is_core_within (core_sizes plan core) ≡ true → is_core_known plan core ≡ true → has_local_references core ≡ true → is_core_timed plan core ≡ true → SeparateParts plan core → is_within_limits alone ≡ true
   plan-alone limits within known near timed separate =
       let parts = near-parts core near in
       let sizes = sizes-alone limits.sizes (subst (λ (s : CoreSizes). is_core_within s ≡ true) (same-sizes parts) within) in
       and_from _ _ (and_from _ _ (and_from _ _ (and_from _ _ (and_from _ _ (and_from _ _ (and_from _ _ sizes refl) (rw mine refl)) (and_from _ _ (core-alone known parts separate) refl)) (and_from _ _ near refl)) (and_from _ _ (timed-alone parts timed) refl)) refl) refl
 
   -- ---- what a text can say
-  expressible-alone : TextParts plan → is_core_expressible core ≡ true → are_distinct (object_names core) ≡ true → is_expressible alone ≡ true
-  expressible-alone said one distinct =
+  representable-alone : TextParts plan → is_core_representable core ≡ true → are_distinct (object_names core) ≡ true → is_representable alone ≡ true
+  representable-alone said one distinct =
       let spinlocks : List (List ℕ) = common_names ObjectKind.Spinlock plan ++ [] in
       let rest : List (List ℕ) = flat_map object_names plan.cores in
       let none : (p : List ℕ → Bool) → list_any p (spinlocks ++ rest) ≡ false → list_any p (object_names core) ≡ false =
@@ -175,20 +175,20 @@ module _ (plan : Plan) (id : CoreId) (core : Core) (found : core_of plan id ≡ 
 -- What a cut needs of the core's own configuration.
 pub record IsWhole (plan : Plan) (id : CoreId) (core : Core) : Type 0 where
   pub limits : is_within_limits (alone_of plan id core) ≡ true
-  pub expressible : is_expressible (alone_of plan id core) ≡ true
+  pub representable : is_representable (alone_of plan id core) ≡ true
   pub separate : is_separate (alone_of plan id core) id ≡ true
 
-pub whole-alone : (plan : Plan) (id : CoreId) (core : Core) → IsTrue (is_within_limits plan) → IsTrue (is_expressible plan) → core_of plan id ≡ Some core → is_separate_core plan core ≡ true → IsWhole plan id core
-whole-alone plan id core limits expressible found separate =
+pub whole-alone : (plan : Plan) (id : CoreId) (core : Core) → IsTrue (is_within_limits plan) → IsTrue (is_representable plan) → core_of plan id ≡ Some core → is_separate_core plan core ≡ true → IsWhole plan id core
+whole-alone plan id core limits representable found separate =
     let pick : (q : Core → Bool) → list_all q plan.cores ≡ true → q core ≡ true = λ q a. find-passes (λ (c : Core). same_core c.id id) q plan.cores core a found in
     let inside = limit-parts plan limits in
-    let said = text-parts plan expressible in
-    let mine = pick is_core_expressible said.cores in
+    let said = text-parts plan representable in
+    let mine = pick is_core_representable said.cores in
     let within = pick (λ (c : Core). is_core_within (core_sizes plan c)) inside.cores in
     let parts = separate-parts plan core separate in
     let same = same_core-true core.id id (find-holds (λ (c : Core). same_core c.id id) plan.cores core found) in
     record {
-      limits = plan-alone plan id core found same inside within (pick (is_core_known plan) inside.known) (pick is_core_near inside.near) (pick (is_core_timed plan) inside.timed) parts;
-      expressible = expressible-alone plan id core found same said mine (pick (λ (c : Core). are_distinct (object_names c)) (each-distinct plan.cores (distinct-back (all_common_names plan) (flat_map object_names plan.cores) said.names)));
+      limits = plan-alone plan id core found same inside within (pick (is_core_known plan) inside.known) (pick has_local_references inside.near) (pick (is_core_timed plan) inside.timed) parts;
+      representable = representable-alone plan id core found same said mine (pick (λ (c : Core). are_distinct (object_names c)) (each-distinct plan.cores (distinct-back (all_common_names plan) (flat_map object_names plan.cores) said.names)));
       separate = separate-alone plan id core found same parts;
     }

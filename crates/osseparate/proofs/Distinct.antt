@@ -1,8 +1,8 @@
--- Names of which each stands once.
+-- Names, each once.
 use Rattle.std.proofs.Common.{◌≡◌, ℕ, Bool, true, false, not, List, [], ◌∷◌, ◌++◌, refl, sym, ◌∙◌}
 use Rattle.std.specs.{List.list_any, Str.bytes_eq}
 use Rattle.std.proofs.{lemmas.Bool.and_parts, lemmas.Bool.and_from, lemmas.Bool.or_from, lemmas.Bool.or_parts, lemmas.Bool.not-true, lemmas.Bool.not_from_false, lemmas.List.Folds.list_any-append}
-use Rattle.osplan.specs.Expressible.{are_distinct}
+use Rattle.osplan.specs.Representable.{are_distinct}
 
 -- Names stay distinct where those at the end are replaced by distinct ones of them.
 pub distinct-kept : (front whole part : List (List ℕ)) → ((p : List ℕ → Bool) → list_any p whole ≡ false → list_any p part ≡ false) → are_distinct part ≡ true → are_distinct (front ++ whole) ≡ true → are_distinct (front ++ part) ≡ true

@@ -1,4 +1,4 @@
--- When a core is separate, so that no other core has a say in what it prints, and its configuration by itself.
+-- When a core is separate, so that no other core has a say in what it prints, and its configuration alone.
 use Rattle.std.specs.Prelude.{ℕ, zero, suc, ◌==◌, ◌&&◌, ◌||◌, not, Bool, true, false, if◌then◌else◌, List, [], ◌∷◌, length, map, filter}
 use Rattle.std.specs.List.{list_all, list_any}
 use Rattle.std.specs.Option.{option_map_or}
@@ -9,7 +9,7 @@ use Rattle.osplan.specs.declared.plans.Plan.{Plan}
 use Rattle.osplan.specs.declared.plans.Core.{Core}
 use Rattle.osbase.specs.declared.items.CoreMode.{CoreMode}
 use Rattle.osbase.specs.declared.items.CoreMode.TheVariants.{Named, DontCare}
-use Rattle.osseparate.specs.declared.separate.Standing.{Standing}
+use Rattle.osseparate.specs.declared.separate.Coupling.{Coupling}
 use Rattle.osplan.specs.Naming.{has_operation, is_off, is_on, names_object}
 use Rattle.osplan.specs.View.{core_of}
 
@@ -36,7 +36,7 @@ abbrev pub started_within : Plan → ℕ → List CoreId
 started_within plan zero = filter (λ id. same_core id plan.master) (configured_ids plan)
 started_within plan (suc n) = after_round plan (started_within plan n)
 
--- A core is started if start lists lead to it from the master. As many rounds as there are cores are
+-- A core is started if start lists reach it from the master. As many rounds as there are cores are
 -- enough: a way that visits no core twice has no more steps. A start list may also name a core that is
 -- not configured, which is never started. [AUTOSAR SWS OS 4.x, StartCore]
 -- The code keeps a flag for each core number.
@@ -92,8 +92,8 @@ abbrev pub is_separate : Plan → CoreId → Bool
 is_separate plan id = option_map_or (is_separate_core plan) (core_of plan id) false
 
 -- Separate, or else bound to others, or never started. [own]
-abbrev pub standing_of : Plan → CoreId → Standing
-standing_of plan id = if is_separate plan id then Standing.Separate else (if is_started plan id then Standing.Bound else Standing.Off)
+abbrev pub coupling_of : Plan → CoreId → Coupling
+coupling_of plan id = if is_separate plan id then Coupling.Separate else (if is_started plan id then Coupling.Bound else Coupling.Off)
 
 -- The core alone, under this number, as the master, without spinlocks; the version, the modes and the mailboxes' size stay. [own]
 abbrev pub alone_of : Plan → CoreId → Core → Plan

@@ -4,22 +4,9 @@ ghost use Rattle.std.specs.Prelude.{◌≡◌, ◌⊎◌, ◌↔◌, false, IsTr
 ghost use Rattle.osseparate.specs.Separate.{alone_of, cut_of, is_separate};
 
 use crate::separate::is_separate_core;
-use osbase::{CoreId, List, Name};
-use osplan::{ConfFault, Config, Core, Plan};
+use osbase::{CoreId, List};
+use osplan::{ConfFault, Config, Core, Plan, copied_core, copied_modes};
 use std::alloc::{AllocError, Global};
-
-// A copy is what it is a copy of, whatever parts it has.
-fn copied_core(core: &Core) -> Result<Core, AllocError>
-    ensures { IfOk result (λ copy. copy ≡ core.now) }
-{
-    core.clone()
-}
-
-fn copied_modes(plan: &Plan) -> Result<List<Name>, AllocError>
-    ensures { IfOk result (λ modes. modes ≡ plan.now.modes) }
-{
-    plan.modes.clone()
-}
 
 fn alone(alloc: Global, plan: &Plan, id: CoreId, core: &Core) -> Result<Plan, AllocError>
     ensures { IfOk result (λ alone. alone ≡ alone_of plan.now id core.now) }

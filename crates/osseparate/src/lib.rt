@@ -7,4 +7,4 @@ mod cuts;
 mod separate;
 
 pub use cuts::cut;
-pub use separate::{Standing, is_separate, standing_of};
+pub use separate::{Coupling, coupling_of, is_separate};

@@ -6,7 +6,7 @@ ghost use Rattle.osbase.specs.Sets.{has_core};
 ghost use Rattle.osbase.specs.declared.limits.TheConstants.{CORES};
 ghost use Rattle.osplan.specs.Limits.{is_within_limits};
 ghost use Rattle.osseparate.specs.Flags.{is_named_by_one_of, is_next, AreStarted};
-ghost use Rattle.osseparate.specs.Separate.{agree, halts_somewhere, is_among, is_named_elsewhere, is_agreed_mode, is_separate, is_separate_core, is_started, names_mode, standing_of};
+ghost use Rattle.osseparate.specs.Separate.{agree, halts_somewhere, is_among, is_named_elsewhere, is_agreed_mode, is_separate, is_separate_core, is_started, names_mode, coupling_of};
 
 use osbase::{CORE_NUMBERS, CORES, CoreId, CoreMode, CoreSet};
 use osplan::{Config, Core, OpTest, Plan, Side, has_operation};
@@ -128,7 +128,7 @@ pub(crate) fn is_separate_core(plan: &Plan, core: &Core) -> bool
         && !halts_somewhere(plan)
 }
 
-/// Whether the core of this number is separate: it is started, by start lists that lead to it from the
+/// Whether the core of this number is separate: it is started, by start lists that reach it from the
 /// master; it names a mode other than DONOTCARE, and no started core names another; it starts no core, also by no
 /// script, and counts none; no script, alarm or table of it names an object of another core or a spinlock, nor any of another
 /// core, started or not, an object of it; and no script of any core, started or not, holds ShutdownAllCores. A core that is
@@ -145,25 +145,25 @@ pub fn is_separate(config: &Config, core: CoreId) -> bool
 
 /// What a core is to the other cores of its configuration.
 #[derive(Clone, Copy, PartialEq, Eq)]
-pub enum Standing {
+pub enum Coupling {
     /// Started, and no other core has a say in what it prints.
     Separate,
     /// Started, and not separate.
     Bound,
-    /// Not started: no start list leads to it.
+    /// Not started: no start list reaches it.
     Off,
 }
 
 /// Whether a core is separate, else whether it is started; one that is not configured is off.
-pub fn standing_of(config: &Config, core: CoreId) -> Standing
-    ensures { result ≡ standing_of config.now core }
+pub fn coupling_of(config: &Config, core: CoreId) -> Coupling
+    ensures { result ≡ coupling_of config.now core }
 {
     let plan = config.plan();
     if is_separate(config, core) {
-        Standing::Separate
+        Coupling::Separate
     } else if is_started(plan, &started_cores(plan), core) {
-        Standing::Bound
+        Coupling::Bound
     } else {
-        Standing::Off
+        Coupling::Off
     }
 }

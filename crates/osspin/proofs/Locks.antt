@@ -7,10 +7,10 @@ use Rattle.std.proofs.lemmas.Bool.{both_ways, eq-eqb, ne_eqb, cond-true, cond-fa
 use prog.Atomic.{either}
 use Rattle.osbase.specs.declared.references.CoreId.{CoreId}
 use Rattle.osbase.specs.declared.references.SpinlockId.{SpinlockId}
-use Rattle.osseat.specs.Histories.{Continues, entry}
-use Rattle.osseat.specs.Runs.{AreIdle}
-use Rattle.osseat.specs.Views.{IsStep}
-use Rattle.osseat.proofs.Steps.{continues}
+use Rattle.osshared.specs.Histories.{Continues, entry}
+use Rattle.osshared.specs.Runs.{AreIdle}
+use Rattle.osshared.specs.Views.{IsStep}
+use Rattle.osshared.proofs.Steps.{continues}
 use Rattle.osbase.specs.declared.limits.TheConstants.{SPINLOCKS}
 use Rattle.osspin.specs.declared.calls.SpinAction.{SpinAction}
 use Rattle.osspin.specs.declared.calls.SpinAction.TheVariants.{Take, Free, Look}

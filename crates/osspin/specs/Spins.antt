@@ -3,8 +3,8 @@ use Rattle.std.specs.Prelude.{◌≡◌, ◌==◌, Bool, true, false, if◌then�
 use Rattle.osbase.specs.declared.references.CoreId.{CoreId}
 use Rattle.osbase.specs.declared.references.SpinlockId.{SpinlockId}
 use Rattle.osbase.specs.History.{same_core}
-use Rattle.osseat.specs.declared.histories.Entry.{Entry}
-use Rattle.osseat.specs.Histories.{Object, entry}
+use Rattle.osshared.specs.declared.histories.Entry.{Entry}
+use Rattle.osshared.specs.Histories.{Object, entry}
 use Rattle.osbase.specs.declared.limits.TheConstants.{SPINLOCKS}
 use Rattle.osspin.specs.declared.calls.SpinAction.{SpinAction}
 use Rattle.osspin.specs.declared.calls.SpinAction.TheVariants.{Take, Free, Look}
@@ -37,7 +37,7 @@ lock_reply core Take holder = Answered (is_free holder)
 lock_reply core Free holder = Answered (is_held_by core holder)
 lock_reply core Look holder = Seen holder
 
--- One lock by itself, free at first. [own]
+-- One lock alone, free at first. [own]
 abbrev pub one_lock : Object Unit (Option CoreId) SpinAction SpinReply
 one_lock = record { first = λ about. None; after = lock_after; reply = lock_reply }
 

@@ -1,13 +1,13 @@
 //! Spinlock words, shared by the threads of the cores.
 
 ghost use Rattle.std.specs.Prelude.{◌≡◌, ◌<◌, map, IfOk};
-ghost use Rattle.osseat.specs.Histories.{entry};
-ghost use Rattle.osseat.specs.Seats.{AllApart, AllAt, Extends, IsOneHistory, cores_of, fresh};
+ghost use Rattle.osshared.specs.Histories.{entry};
+ghost use Rattle.osshared.specs.Seats.{AllApart, AllAt, Extends, IsOneHistory, cores_of, fresh};
 ghost use Rattle.osspin.specs.Spins.{free_call, look_call, spinlocks, try_take_call};
 
 use crate::calls::{SpinAction, SpinCall, SpinReply, Spinlocks, holder_in, word_of};
 use osbase::{CoreId, List, SPINLOCKS, SpinlockId};
-use osseat::{CoreSeat, Plan, SharedWords};
+use osshared::{CoreSeat, Plan, SharedWords};
 use std::alloc::{AllocError, Global};
 use std::marker::{Brand, Model};
 
@@ -24,7 +24,7 @@ pub struct SpinBank {
 
 impl Model for SpinBank {
     ghost use Rattle.std.specs.Prelude.{◌≡◌};
-    ghost use Rattle.osseat.specs.Seats.{Place};
+    ghost use Rattle.osshared.specs.Seats.{Place};
     ghost use Rattle.osbase.specs.declared.limits.TheConstants.{SPINLOCKS};
 
     ghost Value = { Place Unit };
@@ -113,7 +113,7 @@ impl SpinBank {
         }
     }
 
-    /// All seats together show one history, which is legal and has their calls and no others.
+    /// All seats together show one legal history, with their calls and no others.
     pub fn gather(&self, seats: Vec<SpinSeat>)
         requires places { AllAt self.now seats.items }
         requires cores { cores_of seats.items ≡ self.now.plan.cores }

@@ -4,7 +4,7 @@ ghost use Rattle.std.specs.Prelude.{◌≡◌};
 ghost use Rattle.osspin.specs.Words.{holder_in, word_of};
 
 use osbase::{CoreId, SpinlockId};
-use osseat::SharedObject;
+use osshared::SharedObject;
 use std::collections::LinkedList;
 
 /// What a core does to a spinlock (AUTOSAR SWS OS 4.x, TryToGetSpinlock and ReleaseSpinlock; that one

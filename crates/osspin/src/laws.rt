@@ -1,7 +1,7 @@
 //! What holds of every history of the spinlocks.
 
 ghost use Rattle.std.specs.Prelude.{◌≡◌, ◌<◌, List, false};
-ghost use Rattle.osseat.specs.Histories.{IsLegal, calls_by, state_after};
+ghost use Rattle.osshared.specs.Histories.{IsLegal, calls_by, state_after};
 ghost use Rattle.osbase.specs.declared.references.CoreId.{CoreId};
 ghost use Rattle.osbase.specs.declared.references.SpinlockId.{SpinlockId};
 ghost use Rattle.osbase.specs.declared.limits.TheConstants.{SPINLOCKS};

@@ -1,7 +1,7 @@
 //! The spinlocks of a listed run, in which one thread plays all cores.
 
 ghost use Rattle.std.specs.Prelude.{◌≡◌, ◌<◌};
-ghost use Rattle.osseat.specs.Histories.{Continues, entry};
+ghost use Rattle.osshared.specs.Histories.{Continues, entry};
 ghost use Rattle.osspin.specs.Spins.{free_call, holder_of, holders_after, is_free, is_held_by, lock_after, lock_reply, look_call, no_holders, spin_call, spin_reply, spinlocks, try_take_call};
 
 use crate::calls::{SpinAction, SpinCall, SpinReply};

@@ -23,7 +23,7 @@ use Rattle.osplan.specs.declared.plans.Resource.{Resource}
 use Rattle.osplan.specs.declared.plans.Task.{Task}
 use Rattle.osplan.specs.View.{View, core_of, no_core, own_isr, own_task, view_from, view_of}
 use Rattle.osplan.specs.Limits.{core_sizes, is_core_within, is_task_within, is_within_limits, is_core_known, is_script_known, is_object, is_op_known, most_activations, task_sizes}
-use Rattle.osplan.specs.Expressible.{is_expressible}
+use Rattle.osplan.specs.Representable.{is_representable}
 use Rattle.osplan.specs.Objects.{core_scripts, may_name}
 use Rattle.osclock.specs.Clocks.{ClockState, clocks_of}
 use Rattle.ostable.proofs.Waiting.{waits-begun}
@@ -110,7 +110,7 @@ single-jobs plan core h =
     all-weaker _ _ single-task core.tasks tasks
 
 -- And it is sound.
-pub sound-begun : (priorities room : ℕ) (plan : Plan) (id : CoreId) (core : Core) (master : Bool) → IsTrue (is_within_limits plan) → IsTrue (is_expressible plan) → core_of plan id ≡ Some core
+pub sound-begun : (priorities room : ℕ) (plan : Plan) (id : CoreId) (core : Core) (master : Bool) → IsTrue (is_within_limits plan) → IsTrue (is_representable plan) → core_of plan id ≡ Some core
     → list_all (λ (t : Task). nat_lt t.priority priorities) (view_of plan id).own.tasks ≡ true
     → list_all (λ (r : Resource). nat_lt r.ceiling priorities) (view_of plan id).own.resources ≡ true
     → sum_by (λ (t : Task). t.activations) (view_of plan id).own.tasks ≤ room → IsSound priorities room (first_state plan core master)

@@ -176,7 +176,7 @@ state-stands v e h own =
     agreeing (state_of v (e ∷ h)) _ _ _ _ _ _ (add-one (length h)) (rows-stand v.own e h own.placed) (after v.own e h own.clocks) (tables-after v.own e h own.clocks)
     (queued-stand e h own.numbers) (received-stand e h own.numbers)
 
--- ---- a state that went on by an entry stands for the history with it
+-- ---- the state after an entry stands for the history with it
 
 pub notes : {e : Entry} {old new : KernelState} → new ≡ state_after e old → IsOwnEntry old e → Notes (λ v h. e ∷ h) old new
 notes {e} is own v h stands =

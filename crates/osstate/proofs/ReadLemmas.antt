@@ -34,7 +34,7 @@ use Rattle.osstate.specs.Does.{Reads}
 use Rattle.osstate.specs.Sound.{is_action_known, has_objects_of}
 use Rattle.osstate.specs.State.{KernelState, Stands, state_of}
 
--- What is asked of the state is asked of the state that the history leads to.
+-- A query of the kernel's state is a query of the state of the history.
 pub read : {A : Type 0} (query : KernelState → A) {s : KernelState} {v : View} {h : History} {x : A} → x ≡ query s → Stands v h s → x ≡ query (state_of v h)
 read query is stands = is ∙ ap query stands.is
 

@@ -25,7 +25,7 @@ use Rattle.osjobs.proofs.Stamps.{each-anew, each-less, each-push, each-weaker}
 use Rattle.osbase.specs.declared.histories.Job.{Job}
 use Rattle.osbase.specs.declared.histories.GotSpinlock.{GotSpinlock}
 use Rattle.osbase.specs.declared.histories.OpenCall.{OpenCall}
-use Rattle.osbase.specs.History.{Entry, Printed, Noted, Took, Taken, agreement_after, began_after, closed_by, job_count, jobs_after, open_after, same_core, same_runner, stamped_anew, without_oldest, phase_on}
+use Rattle.osbase.specs.History.{Entry, Printed, Noted, Took, ResourceOccupied, agreement_after, began_after, closed_by, job_count, jobs_after, open_after, same_core, same_runner, stamped_anew, without_oldest, phase_on}
 use Rattle.osplan.specs.declared.plans.Core.{Core}
 use Rattle.osplan.specs.declared.plans.Task.{Task}
 use Rattle.osplan.specs.View.{own_task}
@@ -79,7 +79,7 @@ uses-step script (Printed Mark.Tick) row most few = record {
 uses-step script (Printed (Mark.Terminated t)) row most few = record { ticks = omega arith; locks = (uses-later few).locks }
 uses-step script (Printed (Mark.IsrLeft i)) row most few = record { ticks = omega arith; locks = (uses-later few).locks }
 uses-step script (Printed (Mark.EventAwaited t mask)) row most few = record { ticks = omega arith; locks = (uses-later few).locks }
-uses-step script (Noted (Taken r x)) row most few = record {
+uses-step script (Noted (ResourceOccupied r x)) row most few = record {
   ticks = omega (arith, few.ticks);
   locks = All-set (λ (n : ℕ). n ≤ most + 1) row.lock_used x.index 0 (omega arith) (uses-later few).locks;
 }
@@ -147,7 +147,7 @@ activated priorities room t s sound below live = goes-on _ _ sound jobs (border-
         (λ e. absurd (false≢true (sym live ∙ e)))
         sound.jobs.interrupts sound.jobs.entered
 
--- a call that is open after its own runner's entries were told is the one that was open
+-- a call that is open after its own runner's entries is the one that was open
 still-open : (P : OpenCall → Type 0) (r : Runner) (open_call : Option OpenCall) → IfSome open_call P → IfSome (closed_by r open_call) P
 still-open P r None holds = tt
 still-open P r (Some call) holds = elim (same_runner call.runner r) as (λ b. IfSome (cond b None (Some call)) P) [ true ↦ tt | false ↦ holds ]

@@ -6,9 +6,9 @@ use Rattle.osbase.specs.History.{History, marks_of}
 use Rattle.osplan.specs.View.{View}
 use Rattle.osstate.specs.State.{KernelState, Stands}
 
--- The kernel stands for the history, and the marks behind those of `base` in the vector are, behind the earlier
--- ones, the history's. So it is said of any vector: one that holds marks already is entered with these as the
--- base, the history's marks as the earlier ones, and none behind. [own]
+-- The kernel stands for the history, and the vector holds the marks of `base` and then those that were added since: together with
+-- the earlier marks these are the history's. A vector that holds marks already is entered with these as the base, the history's
+-- marks as the earlier ones, and none added. [own]
 pub record Tracks (v : View) (h : History) (earlier base : List Mark) (s : KernelState) (marks : List Mark) : Type 0 where
   pub stands : Stands v h s
   pub added : List Mark
@@ -25,7 +25,7 @@ Does effect old new old_marks new_marks =
 abbrev pub Notes : (View → History → History) → KernelState → KernelState → Type 0
 Notes effect old new = (v : View) (h : History) → Stands v h old → Stands v (effect v h) new
 
--- Whatever history the kernel stands for, this is what is read off it. [own]
+-- This is the value of f for every history that the kernel stands for. [own]
 abbrev pub Reads : {A : Type 0} → (View → History → A) → KernelState → A → Type 0
 Reads f s x = (v : View) (h : History) → Stands v h s → x ≡ f v h
 

@@ -1,4 +1,4 @@
--- What is asked of the state. Of a history it is asked of the state that the history leads to.
+-- Queries of the state. A query of a history is that of the history's state.
 use Rattle.std.specs.Prelude.{◌==◌, Bool, nat_le, Option}
 use Rattle.osbase.specs.declared.references.Runner.{Runner}
 use Rattle.osbase.specs.declared.references.TaskRef.{TaskRef}
@@ -33,7 +33,7 @@ next_action_in r s = action_at (script_of s.view.own r) (frame_in r s.tasks.rows
 abbrev pub is_at_limit_in : TaskRef → KernelState → Bool
 is_at_limit_in t s = nat_le (activation_limit s.view.own (Runner.Task t)) (job_count (Runner.Task t) s.tasks.jobs)
 
--- The same of a history: it is asked of its state.
+-- The same query of a history's state.
 abbrev pub is_at_limit : View → TaskRef → History → Bool
 is_at_limit v t h = is_at_limit_in t (state_of v h)
 
@@ -41,6 +41,6 @@ is_at_limit v t h = is_at_limit_in t (state_of v h)
 abbrev pub is_suspended_in : TaskRef → KernelState → Bool
 is_suspended_in t s = job_count (Runner.Task t) s.tasks.jobs == 0
 
--- The same of a history: it is asked of its state.
+-- The same query of a history's state.
 abbrev pub is_suspended : View → TaskRef → History → Bool
 is_suspended v t h = is_suspended_in t (state_of v h)

@@ -39,8 +39,8 @@ use Rattle.osjobs.specs.Jobs.{is_locked_in}
 use Rattle.osjobs.specs.Priorities.{is_able_in, level_by, priority_by, raised_of}
 
 -- The object is one of this core's.
-abbrev pub is_own : View → CoreId → Bool
-is_own v core = same_core core v.core
+abbrev pub is_this_core : View → CoreId → Bool
+is_this_core v core = same_core core v.core
 
 -- A call to an object of this core. [own]
 abbrev pub is_served : View → RemoteCall → Bool

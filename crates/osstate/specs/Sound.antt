@@ -38,7 +38,7 @@ use Rattle.osstate.specs.declared.progress.Progress.{Progress}
 use Rattle.osstate.specs.Readings.{script_of}
 use Rattle.osstate.specs.State.{BorderState, KernelState}
 
--- The first gate came to a mode or to none, and not to a conflict.
+-- The first gate met no conflict of modes.
 abbrev pub is_agreed : Option Agreement → Bool
 is_agreed (Some (Agreement.Mode m)) = true
 is_agreed (Some Agreement.NoMode) = true
@@ -85,7 +85,7 @@ abbrev pub is_sender_known : Item → Bool
 is_sender_known (Item.Received from number m) = nat_lt from.number CORES
 is_sender_known item = true
 
--- A spinlock that an item or a call speaks of has a place among those that a core gets.
+-- A spinlock that an item or a call names has a place among those that a core gets.
 abbrev pub is_lock_known : SpinlockId → Bool
 is_lock_known l = nat_lt l.index SPINLOCKS
 
@@ -138,7 +138,7 @@ pub record HasJobs (core : Core) (phase : Phase) (entries : ℕ) (s : JobState) 
   pub used : (place : ℕ) → UsesAtMost entries (row_at place s.rows)
   pub tasks : s.tasks ≡ own_tasks core
 
--- A core that goes on past the first gate met no conflict of modes there. Nothing is counted more often than the history has entries.
+-- A core past the first gate met no conflict of modes there. Nothing is counted more often than the history has entries.
 pub record IsUnderWay (p : Progress) : Type 0 where
   pub agreed : IsTrue (is_past_first_gate p.phase) → IsTrue (is_agreed p.agreement)
   pub began : p.began ≤ p.entries

@@ -1,4 +1,4 @@
--- The state that a kernel keeps, and what it means that it stands for a history.
+-- The state that a kernel keeps, and when it stands for a history.
 use Rattle.std.specs.Prelude.{◌≡◌, ℕ, IsTrue, Option, List, length, map}
 use Rattle.osbase.specs.declared.references.CoreId.{CoreId}
 use Rattle.osbase.specs.declared.histories.GotSpinlock.{GotSpinlock}

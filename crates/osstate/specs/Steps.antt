@@ -102,7 +102,7 @@ next_letter s to message = letter_with (slice_index s.border.queued to.number) m
 
 -- ---- the whole
 
--- The state after one more entry: each reading goes on by its step. [own]
+-- The state after one more entry: each part changes by its step. [own]
 abbrev pub state_after : Entry → KernelState → KernelState
 state_after e s = record {
   view = s.view;

@@ -10,7 +10,7 @@ ghost use Rattle.osstate.specs.Steps.{one_more, received_after};
 use crate::slots::SentSlot;
 use arrayvec::ArrayVec;
 use osbase::{CORES, CoreId, Item, OpenCall, Runner};
-use osgrant::Grants;
+use osgot::Grants;
 
 /// What crosses a core's border, with room for `OUT` letters.
 #[derive(Drop)]

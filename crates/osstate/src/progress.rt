@@ -14,7 +14,7 @@ pub struct Progress {
     pub course: Course,
     /// How many entries of the start list are done.
     pub began: usize,
-    /// What the first gate came to, once it is passed.
+    /// The result of the first gate, once it is passed.
     pub agreement: Option<Agreement>,
     /// The started cores, once the second gate is passed; none before.
     pub started: CoreSet,

@@ -3,7 +3,7 @@
 ghost use Rattle.std.specs.Prelude.{◌≡◌, ◌==◌, ◌||◌, ◌∷◌, ◌<◌, ◌≤◌, ◌^◌, [], nat_lt, IsTrue, IsSome, IfSome, false, true, length, nat_le, Some, slice_get, slice_index, sum_by};
 ghost use Rattle.std.specs.List.{list_all};
 ghost use Rattle.osbase.specs.declared.limits.TheConstants.{CORES};
-ghost use Rattle.osbase.specs.History.{Took, Printed, Noted, Opened, Queued, Taken, Given, Locked, Unlocked, WentDown, Done, job_count, phase_after, queued_count, same_core, letter_with};
+ghost use Rattle.osbase.specs.History.{Took, Printed, Noted, Opened, Queued, ResourceOccupied, ResourceReleased, InterruptsSuspended, InterruptsResumed, WentDown, Done, job_count, phase_after, queued_count, same_core, letter_with};
 ghost use Rattle.osbase.specs.Interrupts.{is_pending_among};
 ghost use Rattle.osbase.specs.Phases.{is_before_live, is_past_first_gate};
 ghost use Rattle.osbase.specs.Sets.{has_core};
@@ -19,7 +19,7 @@ ghost use Rattle.osjobs.specs.Locks.{is_overheld};
 ghost use Rattle.osjobs.specs.Priorities.{holds_any, is_extended, is_newest, is_own_runner, static_priority};
 ghost use Rattle.osstate.specs.Does.{Effects, HasRoom, Notes, Reads, Remarks};
 ghost use Rattle.osstate.specs.Queries.{best_in, is_at_limit_in, is_suspended, is_suspended_in, next_action_in, running_in};
-ghost use Rattle.osstate.specs.Readings.{best_job, budget_of, events_at, frame_at, is_locked, is_own, is_pending, next_start, resource_of, resources_of, row_at, rows_of, script_of, used_at};
+ghost use Rattle.osstate.specs.Readings.{best_job, budget_of, events_at, frame_at, is_locked, is_this_core, is_pending, next_start, resource_of, resources_of, row_at, rows_of, script_of, used_at};
 ghost use Rattle.oscript.specs.Frames.{action_at};
 ghost use Rattle.osstate.specs.Sound.{activation_limit, interrupt_limit, is_action_known, is_agreed, is_awaited_known, is_first_gate, is_grant_known, is_posted, is_sender_known};
 ghost use Rattle.osstate.specs.State.{state_of};
@@ -41,7 +41,7 @@ use osbase::{
 };
 use osclock::Clocks;
 use oscript::{Action, Frame};
-use osgrant::Grants;
+use osgot::Grants;
 use osjobs::Jobs;
 use osplan::{Config, Core, Protection, Task, own};
 use ostable::Tables;
@@ -205,8 +205,8 @@ impl<'a, const P: usize, const J: usize, const OUT: usize> CoreState<'a, P, J, O
     pub fn lock_interrupts(&mut self, runner: Runner)
         requires own { IsTrue (is_own_runner self.old.view.own runner) }
         requires count { self.old.progress.entries < 2 ^ 63 }
-        ensures state { self.new ≡ state_after (Noted (Locked runner)) self.old }
-        ensures remarks { Remarks 1 (λ v h. Noted (Locked runner) ∷ h) self.old self.new }
+        ensures state { self.new ≡ state_after (Noted (InterruptsSuspended runner)) self.old }
+        ensures remarks { Remarks 1 (λ v h. Noted (InterruptsSuspended runner) ∷ h) self.old self.new }
     {
         self.jobs.lock_interrupts(runner);
         self.progress.entries += 1;
@@ -216,8 +216,8 @@ impl<'a, const P: usize, const J: usize, const OUT: usize> CoreState<'a, P, J, O
     pub fn unlock_interrupts(&mut self, runner: Runner)
         requires own { IsTrue (is_own_runner self.old.view.own runner) }
         requires count { self.old.progress.entries < 2 ^ 63 }
-        ensures state { self.new ≡ state_after (Noted (Unlocked runner)) self.old }
-        ensures remarks { Remarks 1 (λ v h. Noted (Unlocked runner) ∷ h) self.old self.new }
+        ensures state { self.new ≡ state_after (Noted (InterruptsResumed runner)) self.old }
+        ensures remarks { Remarks 1 (λ v h. Noted (InterruptsResumed runner) ∷ h) self.old self.new }
     {
         self.jobs.unlock_interrupts(runner);
         self.progress.entries += 1;
@@ -344,34 +344,34 @@ impl<'a, const P: usize, const J: usize, const OUT: usize> CoreState<'a, P, J, O
         self.progress.entries += 1;
     }
 
-    /// The oldest live job of one of the core's tasks takes a resource that is free (OSEK/VDX OS 2.2.3,
+    /// The oldest live job of one of the core's tasks or ISRs takes a resource that is free (OSEK/VDX OS 2.2.3,
     /// section 8.2).
     pub fn take_resource(&mut self, runner: Runner, resource: HeldResource)
         requires own { IsTrue (is_own_runner self.old.view.own runner) }
         requires place { resource.index < RESOURCES }
         requires free { is_occupied resource.index self.old.tasks.rows ≡ false }
         requires count { self.old.progress.entries < 2 ^ 63 }
-        ensures state { self.new ≡ state_after (Noted (Taken runner resource)) self.old }
-        ensures remarks { Remarks 1 (λ v h. Noted (Taken runner resource) ∷ h) self.old self.new }
+        ensures state { self.new ≡ state_after (Noted (ResourceOccupied runner resource)) self.old }
+        ensures remarks { Remarks 1 (λ v h. Noted (ResourceOccupied runner resource) ∷ h) self.old self.new }
     {
         self.jobs.raise(runner, resource);
         self.progress.entries += 1;
     }
 
-    /// The oldest live job of one of the core's tasks gives the newest of its resources back
+    /// The oldest live job of one of the core's tasks or ISRs gives the newest of its resources back
     /// (OSEK/VDX OS 2.2.3, section 8.2).
     pub fn give_resource(&mut self, runner: Runner, index: u8)
         requires own { IsTrue (is_own_runner self.old.view.own runner) }
         requires newest { is_newest index (held_in runner self.old.tasks.rows) ≡ true }
         requires count { self.old.progress.entries < 2 ^ 63 }
-        ensures state { self.new ≡ state_after (Noted (Given runner index)) self.old }
-        ensures remarks { Remarks 1 (λ v h. Noted (Given runner index) ∷ h) self.old self.new }
+        ensures state { self.new ≡ state_after (Noted (ResourceReleased runner index)) self.old }
+        ensures remarks { Remarks 1 (λ v h. Noted (ResourceReleased runner index) ∷ h) self.old self.new }
     {
         self.jobs.lower(runner, index);
         self.progress.entries += 1;
     }
 
-    /// An operation of the oldest live job of one of the core's tasks is done.
+    /// An operation of the oldest live job of one of the core's tasks or ISRs is done.
     pub fn complete(&mut self, runner: Runner, status: Status, value: Option<i64>)
         requires own { IsTrue (is_own_runner self.old.view.own runner) }
         requires count { self.old.progress.entries < 2 ^ 63 }
@@ -391,7 +391,7 @@ impl<'a, const P: usize, const J: usize, const OUT: usize> CoreState<'a, P, J, O
         self.progress.phase
     }
 
-    /// Whether the core goes on, went down, or was halted.
+    /// Whether the core runs, is down, or was halted.
     pub fn course(&self) -> Course
         ensures { result ≡ self.now.progress.course }
     {
@@ -412,7 +412,7 @@ impl<'a, const P: usize, const J: usize, const OUT: usize> CoreState<'a, P, J, O
         self.core.start.as_slice().get(self.progress.began).copied()
     }
 
-    /// What the first gate came to, once it is passed.
+    /// The result of the first gate, once it is passed.
     pub fn agreement(&self) -> Option<Agreement>
         ensures value { result ≡ self.now.progress.agreement }
         ensures agreed { IsTrue (is_past_first_gate self.now.progress.phase) → IsTrue (is_agreed result) }
@@ -483,8 +483,8 @@ impl<'a, const P: usize, const J: usize, const OUT: usize> CoreState<'a, P, J, O
     }
 
     /// Whether the object is one of this core's.
-    pub fn is_own(&self, id: CoreId) -> bool
-        ensures value { result ≡ is_own self.now.view id }
+    pub fn is_this_core(&self, id: CoreId) -> bool
+        ensures value { result ≡ is_this_core self.now.view id }
         ensures own { result ≡ same_core id self.now.view.own.id }
     {
         id == self.core.id
@@ -667,7 +667,7 @@ impl<'a, const P: usize, const J: usize, const OUT: usize> CoreState<'a, P, J, O
         self.jobs.is_occupied(index)
     }
 
-    /// Whether the resource of this index is the newest that the job of one of the core's tasks holds.
+    /// Whether the resource of this index is the newest that the job of one of the core's tasks or ISRs holds.
     pub fn is_newest(&self, runner: Runner, index: u8) -> bool
         ensures value { result ≡ is_newest index (held_in runner self.now.tasks.rows) }
         ensures reads { Reads (λ v h. is_newest index (resources_of v runner h)) self.now result }
@@ -675,7 +675,7 @@ impl<'a, const P: usize, const J: usize, const OUT: usize> CoreState<'a, P, J, O
         self.jobs.is_newest(runner, index)
     }
 
-    /// Whether the job of one of the core's tasks holds a resource.
+    /// Whether the job of one of the core's tasks or ISRs holds a resource.
     pub fn holds_resource(&self, runner: Runner) -> bool
         ensures value { result ≡ holds_any (held_in runner self.now.tasks.rows) }
         ensures reads { Reads (λ v h. holds_any (resources_of v runner h)) self.now result }
@@ -694,7 +694,7 @@ impl<'a, const P: usize, const J: usize, const OUT: usize> CoreState<'a, P, J, O
         limit <= self.jobs.count(Runner::Task(task))
     }
 
-    /// Where the oldest live job of one of the core's tasks stands, with the task's variables.
+    /// Where the oldest live job of one of the core's tasks or ISRs stands in its script, with its variables.
     pub fn frame(&self, runner: Runner) -> Frame
         ensures value { result ≡ frame_in runner self.now.tasks.rows }
         ensures reads { Reads (λ v h. frame_at v runner h) self.now result }
@@ -702,7 +702,7 @@ impl<'a, const P: usize, const J: usize, const OUT: usize> CoreState<'a, P, J, O
         self.jobs.frame(runner)
     }
 
-    /// What the oldest live job of one of the core's tasks does next.
+    /// What the oldest live job of one of the core's tasks or ISRs does next.
     pub fn next_action(&self, runner: Runner) -> Action
         ensures value { result ≡ next_action_in runner self.now }
         ensures reads { Reads (λ v h. action_at (script_of v.own runner) (frame_at v runner h)) self.now result }

@@ -6,7 +6,7 @@ use Rattle.osplan.specs.declared.plans.Core.{Core}
 use Rattle.osplan.specs.declared.plans.Table.{Table as TablePlan}
 use Rattle.osplan.specs.View.{own_table}
 use Rattle.osplan.specs.Counters.{each_by}
-use Rattle.osattach.proofs.Ranges.{repeated}
+use Rattle.osattached.proofs.Ranges.{repeated}
 use Rattle.ostable.specs.declared.table.Table.{Table}
 use Rattle.ostable.specs.Tables.{TableStates, table_by, table_family, table_ref, table_refs, tables_of}
 use Rattle.ostable.proofs.Law.{read, together}

@@ -5,10 +5,10 @@ use Rattle.osbase.specs.declared.references.TableRef.{TableRef}
 use Rattle.osbase.specs.Objects.{counter_object, table_object}
 use Rattle.osplan.specs.declared.plans.Core.{Core}
 use Rattle.osplan.specs.Objects.{is_own_object}
-use Rattle.osattach.proofs.Members.{list-at as own-list}
-use Rattle.osattach.proofs.Own.{own-inside, those-inside}
+use Rattle.osattached.proofs.Members.{list-at as own-list}
+use Rattle.osattached.proofs.Own.{own-inside, those-inside}
 use Rattle.osplan.proofs.Counters.{counter-place}
-use Rattle.osattach.proofs.Ranges.{length-table}
+use Rattle.osattached.proofs.Ranges.{length-table}
 use Rattle.ostable.specs.Tables.{AreTables, TableStates, table_by, table_family, table_ref, timed_by}
 use Rattle.ostable.proofs.Places.{placed}
 

@@ -8,7 +8,7 @@ use Rattle.std.proofs.lemmas.Nat.{mod-mul-add}
 use Rattle.osbase.specs.declared.references.CounterRef.{CounterRef}
 use Rattle.osbase.specs.declared.references.TableRef.{TableRef}
 use Rattle.osbase.specs.Counting.{TableState, Stopped, NextOf, counted_once, counts_of, same_counter, same_table, started_after, table_state}
-use Rattle.osbase.specs.History.{History, Entry, Noted, Counted, TableStarted, TableQuit, TableNext}
+use Rattle.osbase.specs.History.{History, Entry, Noted, CounterIncremented, TableStarted, TableStopped, TableNext}
 use Rattle.osplan.specs.declared.plans.ExpiryPoint.{ExpiryPoint}
 use Rattle.osplan.specs.declared.plans.Table.{Table as TablePlan}
 use Rattle.osbase.proofs.Places.{passes-at}
@@ -157,9 +157,9 @@ runs-since c s wait (e ∷ later) h none =
     other : (e : Entry) → not (concerns s e) ≡ true → table_state c s (later ++ Noted (TableStarted s wait) ∷ h) ≡ running_for wait (counts_of c later)
         → table_state c s (e ∷ later ++ Noted (TableStarted s wait) ∷ h) ≡ running_for wait (counts_of c (e ∷ later))
     other (Noted (TableStarted t w)) apart is = ap (λ (b : Bool). cond b (started_after w) (table_state c s (later ++ Noted (TableStarted s wait) ∷ h))) (not-true (same_table t s) apart) ∙ is
-    other (Noted (TableQuit t)) apart is = ap (λ (b : Bool). cond b Stopped (table_state c s (later ++ Noted (TableStarted s wait) ∷ h))) (not-true (same_table t s) apart) ∙ is
+    other (Noted (TableStopped t)) apart is = ap (λ (b : Bool). cond b Stopped (table_state c s (later ++ Noted (TableStarted s wait) ∷ h))) (not-true (same_table t s) apart) ∙ is
     other (Noted (TableNext t u)) apart is = ap (λ (b : Bool). cond b (NextOf t) (table_state c s (later ++ Noted (TableStarted s wait) ∷ h))) (not-true (same_table u s) apart) ∙ is
-    other (Noted (Counted k)) apart is = ap (λ (x : TableState). cond (same_counter k c) (counted_once x) x) is ∙ by (same_counter k c)
+    other (Noted (CounterIncremented k)) apart is = ap (λ (x : TableState). cond (same_counter k c) (counted_once x) x) is ∙ by (same_counter k c)
       where
         by : (b : Bool) → cond b (counted_once (running_for wait (counts_of c later))) (running_for wait (counts_of c later)) ≡ running_for wait (cond b (suc (counts_of c later)) (counts_of c later))
         by true = refl

@@ -4,7 +4,7 @@ use Rattle.std.specs.Option.{option_map_or}
 use Rattle.std.proofs.lemmas.Bool.{cond-false, cond-true, false≢true}
 use Rattle.osbase.specs.declared.references.CounterRef.{CounterRef}
 use Rattle.osbase.specs.declared.references.TableRef.{TableRef}
-use Rattle.osbase.specs.History.{History, Entry, Noted, Counted, TableStarted, TableQuit, TableNext}
+use Rattle.osbase.specs.History.{History, Entry, Noted, CounterIncremented, TableStarted, TableStopped, TableNext}
 use Rattle.osbase.specs.Counting.{TableState, Stopped, NextOf, counted_once, same_counter, same_table, started_after, table_state}
 use Rattle.osbase.specs.Objects.{counter_object, table_object}
 use Rattle.osbase.proofs.Same.{same_table-refl}
@@ -14,9 +14,9 @@ use Rattle.osplan.specs.Clocked.{are_clocks_within}
 use Rattle.osplan.specs.Objects.{is_own_object}
 use Rattle.osplan.specs.View.{own_table}
 use Rattle.osplan.proofs.Clocked.{clock-parts}
-use Rattle.osattach.proofs.Own.{kept-there, none-changed, one-changed, own-some, refers, those-changed}
+use Rattle.osattached.proofs.Own.{kept-there, none-changed, one-changed, own-some, refers, those-changed}
 use Rattle.osplan.proofs.Counters.{counter-apart}
-use Rattle.osattach.proofs.Ranges.{table-within}
+use Rattle.osattached.proofs.Ranges.{table-within}
 use Rattle.ostable.specs.declared.table.Table.{Table}
 use Rattle.ostable.specs.Ahead.{table_at, table_beyond}
 use Rattle.ostable.specs.Tables.{TableStates, all_moved, moved, table_by, table_in, table_ref, tables_by, tables_of, with_table}
@@ -43,7 +43,7 @@ together {x} {y} tables timed =
 
 table-on : (core : Core) (c : CounterRef) (s : TableRef) (h : History) → are_clocks_within core ≡ true → (o : Option TablePlan) → own_table core s ≡ o
     → cond (option_map_or (λ (t : TablePlan). same_counter c t.counter) o false) (option_map_or (λ (t : TablePlan). table_beyond t (option_map_or (read core s h) o Table.Stopped)) o (option_map_or (read core s h) o Table.Stopped)) (option_map_or (read core s h) o Table.Stopped)
-    ≡ option_map_or (read core s (Noted (Counted c) ∷ h)) o Table.Stopped
+    ≡ option_map_or (read core s (Noted (CounterIncremented c) ∷ h)) o Table.Stopped
 table-on core c s h within None own = refl
 table-on core c s h within (Some t) own = by (same_counter c t.counter)
   where
@@ -51,27 +51,27 @@ table-on core c s h within (Some t) own = by (same_counter c t.counter)
     by false = refl
     by true = beyond-at t (timed core s t within own) (read core s h t) (table_state t.counter s h) refl
 
-tables-on : (core : Core) (c : CounterRef) (h : History) → are_clocks_within core ≡ true → all_moved core c (tables_of core h).tables ≡ (tables_of core (Noted (Counted c) ∷ h)).tables
+tables-on : (core : Core) (c : CounterRef) (h : History) → are_clocks_within core ≡ true → all_moved core c (tables_of core h).tables ≡ (tables_of core (Noted (CounterIncremented c) ∷ h)).tables
 tables-on core c h within =
-    those-changed (placed core) (λ s. table_by core s h) (λ s. table_by core s (Noted (Counted c) ∷ h)) c (moved core) Table.Stopped (λ s. table-on core c s h within (own_table core s) refl)
+    those-changed (placed core) (λ s. table_by core s h) (λ s. table_by core s (Noted (CounterIncremented c) ∷ h)) c (moved core) Table.Stopped (λ s. table-on core c s h within (own_table core s) refl)
 
 -- a count of what is not the core's own
-count-off : (core : Core) (c : CounterRef) (h : History) → are_clocks_within core ≡ true → is_own_object core (counter_object c) ≡ false → tables_of core h ≡ tables_of core (Noted (Counted c) ∷ h)
+count-off : (core : Core) (c : CounterRef) (h : History) → are_clocks_within core ≡ true → is_own_object core (counter_object c) ≡ false → tables_of core h ≡ tables_of core (Noted (CounterIncremented c) ∷ h)
 count-off core c h within other =
     together
-    (table-within (λ n. table_by core (table_ref core n) h) (λ n. table_by core (table_ref core n) (Noted (Counted c) ∷ h)) 0 (length core.tables) (λ n inside. off (table_ref core n) (own_table core (table_ref core n)) refl))
+    (table-within (λ n. table_by core (table_ref core n) h) (λ n. table_by core (table_ref core n) (Noted (CounterIncremented c) ∷ h)) 0 (length core.tables) (λ n inside. off (table_ref core n) (own_table core (table_ref core n)) refl))
     refl
   where
-    off : (s : TableRef) (o : Option TablePlan) → own_table core s ≡ o → option_map_or (read core s h) o Table.Stopped ≡ option_map_or (read core s (Noted (Counted c) ∷ h)) o Table.Stopped
+    off : (s : TableRef) (o : Option TablePlan) → own_table core s ≡ o → option_map_or (read core s h) o Table.Stopped ≡ option_map_or (read core s (Noted (CounterIncremented c) ∷ h)) o Table.Stopped
     off s None own = refl
     off s (Some t) own =
         ap (λ (b : Bool). table_at t (cond b (counted_once (table_state t.counter s h)) (table_state t.counter s h)))
         (sym (counter-apart core c t.counter other (attached core s t within own)))
 
-count-after : (core : Core) (c : CounterRef) (h : History) → are_clocks_within core ≡ true → tables_by core (Noted (Counted c)) (tables_of core h) ≡ tables_of core (Noted (Counted c) ∷ h)
+count-after : (core : Core) (c : CounterRef) (h : History) → are_clocks_within core ≡ true → tables_by core (Noted (CounterIncremented c)) (tables_of core h) ≡ tables_of core (Noted (CounterIncremented c) ∷ h)
 count-after core c h within = by (is_own_object core (counter_object c)) refl
   where
-    by : (b : Bool) → is_own_object core (counter_object c) ≡ b → cond b (record (tables_of core h) { tables = all_moved core c (tables_of core h).tables }) (tables_of core h) ≡ tables_of core (Noted (Counted c) ∷ h)
+    by : (b : Bool) → is_own_object core (counter_object c) ≡ b → cond b (record (tables_of core h) { tables = all_moved core c (tables_of core h).tables }) (tables_of core h) ≡ tables_of core (Noted (CounterIncremented c) ∷ h)
     by true own = together (tables-on core c h within) refl
     by false other = count-off core c h within other
 
@@ -124,10 +124,10 @@ start-after core s wait h =
     (λ c u apart. cond-false (same_table s u) (started_after wait) (table_state c u h) apart)
     (is_own_object core (table_object s)) refl
 
-quit-after : (core : Core) (s : TableRef) (h : History) → tables_by core (Noted (TableQuit s)) (tables_of core h) ≡ tables_of core (Noted (TableQuit s) ∷ h)
-quit-after core s h =
+stop-after : (core : Core) (s : TableRef) (h : History) → tables_by core (Noted (TableStopped s)) (tables_of core h) ≡ tables_of core (Noted (TableStopped s) ∷ h)
+stop-after core s h =
     plain core s h Table.Stopped (is_own_object core (table_object s)) refl
-    ∙ told-after core s h (Noted (TableQuit s)) Stopped
+    ∙ told-after core s h (Noted (TableStopped s)) Stopped
     (λ c. cond-true (same_table s s) Stopped (table_state c s h) (same_table-refl s))
     (λ c u apart. cond-false (same_table s u) Stopped (table_state c u h) apart)
     (is_own_object core (table_object s)) refl
@@ -142,8 +142,8 @@ next-after core s next h =
 
 -- What is read off a longer history is what its newest entry does to what was read.
 pub after : (core : Core) (e : Entry) (h : History) → are_clocks_within core ≡ true → tables_by core e (tables_of core h) ≡ tables_of core (e ∷ h)
-after core (Noted (Counted c)) h within = count-after core c h within
+after core (Noted (CounterIncremented c)) h within = count-after core c h within
 after core (Noted (TableStarted s wait)) h within = start-after core s wait h
-after core (Noted (TableQuit s)) h within = quit-after core s h
+after core (Noted (TableStopped s)) h within = stop-after core s h
 after core (Noted (TableNext s next)) h within = next-after core s next h
 after core e h within = refl

@@ -10,8 +10,8 @@ use Rattle.osbase.specs.Objects.{table_object}
 use Rattle.osbase.proofs.Tables.{table-at}
 use Rattle.osplan.specs.declared.plans.Core.{Core}
 use Rattle.osplan.specs.Objects.{is_own_object}
-use Rattle.osattach.proofs.Own.{goes-own}
-use Rattle.osattach.proofs.Ranges.{length-table}
+use Rattle.osattached.proofs.Own.{goes-own}
+use Rattle.osattached.proofs.Ranges.{length-table}
 use Rattle.ostable.specs.Tables.{is_timed_by, table_ref, table_refs}
 use Rattle.ostable.proofs.Places.{placed}
 

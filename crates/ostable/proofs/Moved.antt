@@ -3,11 +3,11 @@ use Rattle.std.proofs.Common.{◌≡◌, true, List, [], refl, ap, sym, ◌∙�
 use Rattle.std.proofs.lemmas.Bool.{cond-true}
 use Rattle.osbase.specs.declared.references.CounterRef.{CounterRef}
 use Rattle.osbase.specs.declared.references.TableRef.{TableRef}
-use Rattle.osbase.specs.History.{Noted, Counted}
+use Rattle.osbase.specs.History.{Noted, CounterIncremented}
 use Rattle.osbase.specs.Objects.{counter_object}
 use Rattle.osplan.specs.declared.plans.Core.{Core}
 use Rattle.osplan.specs.Objects.{is_own_object}
-use Rattle.osattach.proofs.Changed.{each-all}
+use Rattle.osattached.proofs.Changed.{each-all}
 use Rattle.ostable.specs.declared.table.Table.{Table}
 use Rattle.ostable.specs.Tables.{AreTables, TableStates, all_moved, each_moved, moved, table_family, tables_by, timed_by}
 use Rattle.ostable.proofs.Bounds.{list-at, tables-length}
@@ -15,7 +15,7 @@ use Rattle.ostable.proofs.Bounds.{list-at, tables-length}
 module _ (core : Core) (c : CounterRef) where
   -- what a count leaves of a core's tables
   pub counted-is : (x y : TableStates) (list : List TableRef) (tables : List Table) → y ≡ x → AreTables core x → is_own_object core (counter_object c) ≡ true → list ≡ get_or y.timed c.index [] → tables ≡ each_moved core list y.tables
-      → (let u : TableStates = record { tables = tables; timed = y.timed } in u) ≡ tables_by core (Noted (Counted c)) x
+      → (let u : TableStates = record { tables = tables; timed = y.timed } in u) ≡ tables_by core (Noted (CounterIncremented c)) x
   counted-is x y list tables same are own at is =
       ap (λ (z : List Table). let u : TableStates = record { tables = z; timed = y.timed } in u)
       (is ∙ ap (λ (l : List TableRef). each_moved core l y.tables) (at ∙ ap (λ (z : TableStates). get_or z.timed c.index []) same ∙ list-at core x are c own) ∙ ap (λ (z : TableStates). each_moved core (timed_by core c) z.tables) same

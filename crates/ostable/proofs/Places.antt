@@ -6,7 +6,7 @@ use Rattle.osbase.specs.Objects.{table_object, table_of, table_place}
 use Rattle.osplan.specs.declared.plans.Core.{Core}
 use Rattle.osplan.specs.Objects.{is_own_object}
 use Rattle.osplan.specs.View.{own_table}
-use Rattle.osattach.proofs.Own.{Placed, own-is, own-there}
+use Rattle.osattached.proofs.Own.{Placed, own-is, own-there}
 use Rattle.ostable.specs.Tables.{table_family, table_ref}
 
 -- They are all of the core's objects of their kind.

@@ -12,7 +12,7 @@ use Rattle.osplan.specs.declared.plans.Core.{Core}
 use Rattle.osplan.specs.declared.plans.Table.{Table as TablePlan}
 use Rattle.osplan.specs.View.{own_table}
 use Rattle.osplan.specs.Counters.{counter_ref}
-use Rattle.osattach.proofs.Members.{portions}
+use Rattle.osattached.proofs.Members.{portions}
 use Rattle.ostable.specs.Tables.{table_family, table_ref, table_refs, timed_by}
 
 pub timed-portions : (core : Core) (f : TableRef → ℕ) (count : ℕ) → sum_by (λ (n : ℕ). sum_by f (timed_by core (counter_ref core n))) (numbers_from 0 count) ≤ sum_by f (table_refs core)

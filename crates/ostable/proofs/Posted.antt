@@ -13,7 +13,7 @@ use Rattle.osplan.specs.declared.plans.Table.{Table as TablePlan}
 use Rattle.osplan.specs.Clocked.{are_clocks_within}
 use Rattle.osplan.specs.View.{own_table}
 use Rattle.osbase.proofs.Same.{same_counter-true, same_table-true}
-use Rattle.osattach.proofs.Sums.{at-most-once, sum-across, sum-both, sum-kept, sum-mapped, sum-none}
+use Rattle.osattached.proofs.Sums.{at-most-once, sum-across, sum-both, sum-kept, sum-mapped, sum-none}
 use Rattle.ostable.specs.declared.table.Due.{Due}
 use Rattle.ostable.specs.declared.table.Table.{Table}
 use Rattle.ostable.specs.declared.tables.DueTable.{DueTable}

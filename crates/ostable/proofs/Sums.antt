@@ -4,7 +4,7 @@ use Rattle.std.specs.List.{cons_option, find, list_all}
 use Rattle.std.specs.Option.{option_map_or}
 use Rattle.std.proofs.lemmas.Bool.{and_parts}
 use Rattle.std.proofs.lemmas.List.Sums.{sum_by-cons}
-pub use Rattle.osattach.proofs.Sums.{sum-both}
+pub use Rattle.osattached.proofs.Sums.{sum-both}
 
 pub sum-made : {A B : Type 0} (g : A → Option B) (f : B → ℕ) (xs : List A) → sum_by f (filter_map g xs) ≡ sum_by (λ (x : A). option_map_or f (g x) 0) xs
 sum-made g f [] = refl

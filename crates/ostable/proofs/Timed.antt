@@ -1,4 +1,4 @@
--- What the limits of a configuration say of a table's points.
+-- The limits of a table's points.
 use Rattle.std.proofs.Common.{◌≡◌, ℕ, ◌≤◌, Bool, true, nat_le, nat_lt, Some, List, [], ◌∷◌, length, map, refl, arith}
 use Rattle.std.specs.List.{list_all}
 use Rattle.std.proofs.lemmas.Bool.{and_parts, and_from, leb-true, le-leb, ltb-true}

@@ -6,7 +6,7 @@ use Rattle.std.proofs.lemmas.Bool.{and_from, and_parts}
 use Rattle.osbase.specs.declared.references.CounterRef.{CounterRef}
 use Rattle.osbase.specs.declared.references.TableRef.{TableRef}
 use Rattle.osbase.specs.Counting.{TableState, Stopped, NextOf, Running, counted_once, same_counter, same_table, started_after, table_after, table_state}
-use Rattle.osbase.specs.History.{History, Entry, Noted, Counted, TableStarted, TableQuit, TableNext}
+use Rattle.osbase.specs.History.{History, Entry, Noted, CounterIncremented, TableStarted, TableStopped, TableNext}
 use Rattle.osbase.specs.Sets.{numbers_from}
 use Rattle.osplan.specs.declared.plans.Core.{Core}
 use Rattle.osplan.specs.declared.plans.Table.{Table as TablePlan}
@@ -56,7 +56,7 @@ fits-on core c u (Noted (TableStarted t wait)) state names fit = by (same_table 
     by : (b : Bool) → fits core u (cond b (started_after wait) state) ≡ true
     by true = refl
     by false = fit
-fits-on core c u (Noted (TableQuit t)) state names fit = by (same_table t u)
+fits-on core c u (Noted (TableStopped t)) state names fit = by (same_table t u)
   where
     by : (b : Bool) → fits core u (cond b Stopped state) ≡ true
     by true = refl
@@ -66,7 +66,7 @@ fits-on core c u (Noted (TableNext s t)) state names fit = by (same_table t u) r
     by : (b : Bool) → same_table t u ≡ b → fits core u (cond b (NextOf s) state) ≡ true
     by true is = ap (λ (x : TableRef). are_of_one_counter core s x) (sym (same_table-true t u is)) ∙ names
     by false is = fit
-fits-on core c u (Noted (Counted d)) state names fit = fits-counted core u (same_counter d c) state ∙ fit
+fits-on core c u (Noted (CounterIncremented d)) state names fit = fits-counted core u (same_counter d c) state ∙ fit
 fits-on core c u e state names fit = fit
 
 table-on : (core : Core) (u : TableRef) (e : Entry) (h : History) → is_next_by_counter core e ≡ true → (o : Option TablePlan)

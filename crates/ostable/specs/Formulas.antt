@@ -3,7 +3,7 @@ use Rattle.std.specs.Prelude.{◌≡◌, ◌↔◌, ◌≤◌, ℕ, ◌+◌, ◌
 use Rattle.std.specs.Option.{option_map_or}
 use Rattle.osbase.specs.declared.references.TableRef.{TableRef}
 use Rattle.osbase.specs.Counting.{TableState, Running, same_table}
-use Rattle.osbase.specs.History.{Entry, Noted, TableStarted, TableQuit, TableNext}
+use Rattle.osbase.specs.History.{Entry, Noted, TableStarted, TableStopped, TableNext}
 use Rattle.osplan.specs.declared.plans.ExpiryPoint.{ExpiryPoint}
 use Rattle.osplan.specs.declared.plans.Table.{Table as TablePlan}
 use Rattle.ostable.specs.declared.table.Due.{Due}
@@ -33,10 +33,10 @@ pub record IsPeriodic (t : TablePlan) (wait counts : ℕ) : Type 0 where
   -- A period ends a duration after it began.
   pub ends : IsTrue (is_end t (running_for wait counts)) ↔ ((p : ℕ) × (counts ≡ wait + (p + 1) * t.duration))
 
--- The entry starts the table, stops it or lets it wait. Without such an entry a table that runs goes on with each
+-- The entry starts the table, stops it or lets it wait. Without such an entry a table that runs moves on with each
 -- count of its counter.
 abbrev pub concerns : TableRef → Entry → Bool
 concerns s (Noted (TableStarted t wait)) = same_table t s
-concerns s (Noted (TableQuit t)) = same_table t s
+concerns s (Noted (TableStopped t)) = same_table t s
 concerns s (Noted (TableNext t u)) = same_table u s
 concerns s e = false

@@ -1,4 +1,4 @@
--- What is told of a schedule table's status.
+-- Tests of a schedule table's status.
 use Rattle.std.specs.Prelude.{ℕ, Bool, true, false}
 use Rattle.ostable.specs.declared.table.TableStatus.{TableStatus}
 

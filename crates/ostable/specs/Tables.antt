@@ -4,7 +4,7 @@ use Rattle.std.specs.List.{slice_set}
 use Rattle.std.specs.Option.{option_map_or}
 use Rattle.osbase.specs.declared.references.CounterRef.{CounterRef}
 use Rattle.osbase.specs.declared.references.TableRef.{TableRef}
-use Rattle.osbase.specs.History.{History, Entry, Noted, Counted, TableStarted, TableQuit, TableNext}
+use Rattle.osbase.specs.History.{History, Entry, Noted, CounterIncremented, TableStarted, TableStopped, TableNext}
 use Rattle.osbase.specs.Counting.{TableState, Stopped, NextOf, counted_once, same_table, started_after, table_state}
 use Rattle.osbase.specs.Objects.{counter_object, table_object}
 use Rattle.osbase.specs.Sets.{numbers_from}
@@ -13,7 +13,7 @@ use Rattle.osplan.specs.declared.plans.Table.{Table as TablePlan}
 use Rattle.osplan.specs.Clocked.{are_clocks_within}
 use Rattle.osplan.specs.Objects.{is_own_object}
 use Rattle.osplan.specs.View.{own_table}
-use Rattle.osattach.specs.Attached.{all_changed, each_changed}
+use Rattle.osattached.specs.Attached.{all_changed, each_changed}
 use Rattle.osbase.specs.Families.{Family, goes_by, refs_of, those_by}
 use Rattle.osplan.specs.Counters.{each_by}
 use Rattle.ostable.specs.declared.tables.DueTable.{DueTable}
@@ -106,9 +106,9 @@ with_table s table x = record x { tables = slice_set x.tables s.index table }
 
 -- What is not the core's own changes nothing.
 abbrev pub tables_by : Core → Entry → TableStates → TableStates
-tables_by core (Noted (Counted c)) x = if is_own_object core (counter_object c) then record x { tables = all_moved core c x.tables } else x
+tables_by core (Noted (CounterIncremented c)) x = if is_own_object core (counter_object c) then record x { tables = all_moved core c x.tables } else x
 tables_by core (Noted (TableStarted s wait)) x = if is_own_object core (table_object s) then with_table s (started core s wait) x else x
-tables_by core (Noted (TableQuit s)) x = if is_own_object core (table_object s) then with_table s Table.Stopped x else x
+tables_by core (Noted (TableStopped s)) x = if is_own_object core (table_object s) then with_table s Table.Stopped x else x
 tables_by core (Noted (TableNext s next)) x = if is_own_object core (table_object next) then with_table next (Table.NextOf s) x else x
 tables_by core e x = x
 

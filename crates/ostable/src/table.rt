@@ -146,8 +146,8 @@ impl Table {
         }
     }
 
-    /// Its counter goes on by one. Where a period ends, another one begins, of which a point of offset 0 is not due any
-    /// more, as in `start_rel`.
+    /// Its counter is incremented. Where a period ends, another one begins, whose point of offset 0 has expired already,
+    /// as in `start_rel`.
     pub fn advance(&mut self, plan: &osplan::Table)
         requires timed { IsTimed plan.now }
         ensures state { self.new ≡ table_beyond plan.now self.old }

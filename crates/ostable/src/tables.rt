@@ -3,7 +3,7 @@
 ghost use Rattle.std.specs.Prelude.{◌≡◌, ◌<◌, ◌≤◌, ◌+◌, ◌^◌, ℕ, Bool, false, None, [], All, IsTrue, IfSome, filter_map, length, map, option_map, replicate, slice_index_or};
 ghost use Rattle.std.specs.List.{slice_set};
 ghost use Rattle.osbase.specs.declared.references.TableRef.{TableRef};
-ghost use Rattle.osbase.specs.History.{Noted, Counted, TableStarted, TableQuit, TableNext};
+ghost use Rattle.osbase.specs.History.{Noted, CounterIncremented, TableStarted, TableStopped, TableNext};
 ghost use Rattle.osbase.specs.Objects.{counter_object, table_object};
 ghost use Rattle.osplan.specs.Clocked.{are_clocks_within};
 ghost use Rattle.osplan.specs.Objects.{is_own_object};
@@ -13,7 +13,7 @@ ghost use Rattle.ostable.specs.declared.table.Table.{Table as TableValue};
 
 use crate::table::{Due, Table, TableStatus};
 use arrayvec::ArrayVec;
-use osattach::Attached;
+use osattached::Attached;
 use osbase::{CoreId, CounterRef, TABLES, TableRef};
 use osplan::{Core, own};
 use std::marker::Model;
@@ -56,11 +56,11 @@ impl Tables {
         }
     }
 
-    /// A counter of the core goes on by one, and with it each of its tables (AUTOSAR SWS OS 4.x, section 7.3).
+    /// A counter of the core is incremented, and each of its tables moves on by one count (AUTOSAR SWS OS 4.x, section 7.3).
     pub fn count(&mut self, core: &Core, counter: CounterRef)
         requires tables { AreTables core.now self.old }
         requires own { IsTrue (is_own_object core.now (counter_object counter)) }
-        ensures { self.new ≡ tables_by core.now (Noted (Counted counter)) self.old }
+        ensures { self.new ≡ tables_by core.now (Noted (CounterIncremented counter)) self.old }
     {
         move_tables(core, &mut self.tables, self.timed.of(counter));
     }
@@ -77,10 +77,10 @@ impl Tables {
     }
 
     /// A table of the core is stopped, or waits no longer (AUTOSAR SWS OS 4.x, SWS_Os_00281).
-    pub fn quit(&mut self, core: &Core, table: TableRef)
+    pub fn stop(&mut self, core: &Core, table: TableRef)
         requires tables { AreTables core.now self.old }
         requires own { IsTrue (is_own_object core.now (table_object table)) }
-        ensures { self.new ≡ tables_by core.now (Noted (TableQuit table)) self.old }
+        ensures { self.new ≡ tables_by core.now (Noted (TableStopped table)) self.old }
     {
         stop(&mut self.tables, table);
     }

@@ -3,7 +3,7 @@ use Rattle.std.proofs.Common.{◌≡◌, subst}
 use Rattle.osbase.specs.declared.references.CoreId.{CoreId}
 use Rattle.osplan.specs.View.{view_of}
 use Rattle.osmail.specs.Ends.{Streams}
-use Rattle.osturn.specs.Fits.{history_by}
+use Rattle.osrun.specs.Fits.{history_by}
 use Rattle.osthreads.specs.declared.ending.Ending.{Ending}
 use Rattle.osthreads.specs.declared.ending.Kept.{Kept}
 use Rattle.osthreads.specs.declared.run.Run.{Run}

@@ -11,11 +11,11 @@ use Rattle.osbase.specs.Sets.{core_ids}
 use Rattle.osplan.specs.Limits.{is_within_limits}
 use Rattle.osplan.specs.Stimuli.{AreKnown}
 use Rattle.osplan.specs.View.{core_of}
-use Rattle.osseat.specs.declared.histories.Plan.{Plan as SeatPlan}
-use Rattle.osseat.specs.Runs.{AreLogged, IsOneRun}
-use Rattle.osseat.specs.Histories.{IsLegal, calls_by}
-use Rattle.osseat.specs.Seats.{AllApart, AllAt, AllStand, Held, IsOneHistory, cores_of, fresh, has}
-use Rattle.osseat.proofs.Runs.{one_run}
+use Rattle.osshared.specs.declared.histories.Plan.{Plan as SeatPlan}
+use Rattle.osshared.specs.Runs.{AreLogged, IsOneRun}
+use Rattle.osshared.specs.Histories.{IsLegal, calls_by}
+use Rattle.osshared.specs.Seats.{AllApart, AllAt, AllStand, Held, IsOneHistory, cores_of, fresh, has}
+use Rattle.osshared.proofs.Runs.{one_run}
 use Rattle.osboard.specs.declared.calls.BoardCall.{BoardCall}
 use Rattle.osboard.specs.declared.calls.BoardReply.{BoardReply}
 use Rattle.osboard.specs.Boards.{IsLook, one_board}
@@ -24,9 +24,9 @@ use Rattle.osspin.specs.declared.calls.SpinCall.{SpinCall}
 use Rattle.osspin.specs.declared.calls.SpinReply.{SpinReply}
 use Rattle.osspin.specs.Spins.{IsRefusedCall, spinlocks}
 use Rattle.osspin.proofs.Locks.{refused_idle}
-use Rattle.osturn.specs.Asking.{Calls, calls_of, no_calls}
-use Rattle.osturn.specs.Fits.{history_by, ids_of}
-use Rattle.osturn.specs.Sound.{AreSound}
+use Rattle.osrun.specs.Requests.{Calls, calls_of, no_calls}
+use Rattle.osrun.specs.Fits.{history_by, ids_of}
+use Rattle.osrun.specs.Sound.{AreSound}
 use Rattle.osthreads.specs.declared.ending.Ending.{Ending}
 use Rattle.osplan.specs.declared.plans.Plan.{Plan}
 use Rattle.osbase.specs.declared.turns.CoreStimuli.{CoreStimuli}
@@ -82,7 +82,7 @@ pub all_kept : (es : List Ending) → list_all (λ (e : Ending). is_kept_by e.st
 all_kept [] kept = tt
 all_kept (e ∷ es) kept = let rest = and_parts (is_kept_by e.stop) _ kept in (rest.0, all_kept es rest.1)
 
--- Workers that nothing stopped, neither want of memory nor a letter, had ended or stalled.
+-- Workers that neither a failed allocation nor a letter stopped had ended or stalled.
 pub all_finished : (es : List Ending) → list_any (λ (e : Ending). was_stopped_by e.stop) es ≡ false → AreAllKept es → AreAllFinished es
 all_finished [] none kept = tt
 all_finished (e ∷ es) none kept = let others = or_parts (was_stopped_by e.stop) _ none in (by e.stop others.0 kept.0, all_finished es others.1 kept.1)

@@ -1,4 +1,4 @@
-pub mod Asking
+pub mod Requests
 pub mod Working
 pub mod Shifting
 pub mod Senders

@@ -1,5 +1,6 @@
 -- What the cores' threads start with; and of the ends of rings, that those which come back are those which were given, and what they
 -- show together.
+use mathlib.Core.List.{IsPrefix}
 use Rattle.std.proofs.Common.{◌≡◌, ◌⊎◌, inl, inr, ℕ, IsTrue, Bool, true, false, Option, Some, None, is_some, List, [], ◌∷◌, ◌++◌, drop, length, map, refl, sym, ap, subst, ◌∙◌, append_assoc, append-nil, arith}
 use Rattle.std.specs.Option.{option_to_list}
 use Rattle.std.proofs.lemmas.Option.{same_Some}
@@ -14,7 +15,7 @@ use Rattle.osmail.specs.declared.ends.MailStep.{MailStep}
 use Rattle.osmail.specs.declared.rings.RingEnd.{RingEnd}
 use Rattle.osmail.specs.Ends.{Streams, sent_to, taken_from}
 use Rattle.osmail.specs.Rings.{AreDelivered, EndId, EndPast, IsDelivered, IsUnused, core_of_end, end_id, past_of, ring_sent, ring_taken}
-use Rattle.osturn.specs.Fits.{IsBeginning, ids_of}
+use Rattle.osrun.specs.Fits.{ids_of}
 use Rattle.osthreads.specs.declared.ending.Ending.{Ending}
 use Rattle.osthreads.specs.declared.ending.Kept.{Kept}
 use Rattle.osthreads.specs.declared.ending.Kept.TheVariants.{Rings, Steps}
@@ -27,7 +28,7 @@ use Rattle.osthreads.specs.Threads.{AreAllKept, AreEnded, AreEndsFor, AreEquippe
 use Rattle.osbase.specs.declared.turns.CoreStimuli.{CoreStimuli}
 use Rattle.osplan.specs.Limits.{is_within_limits}
 use Rattle.osplan.specs.Stimuli.{AreKnown}
-use Rattle.osturn.specs.Sound.{AreSound}
+use Rattle.osrun.specs.Sound.{AreSound}
 use Rattle.osthreads.specs.declared.runs.ThreadReason.{ThreadReason}
 use Rattle.osthreads.specs.declared.runs.ThreadReason.TheVariants.{NoMemory, NoThread}
 use Rattle.osthreads.specs.Runs.{IsOneCore}
@@ -132,8 +133,8 @@ kept_more es e ends ends' are more = more ∙ ap (λ (xs : List RingEnd). xs ++ 
 -- What two records of mailboxes under locks show.
 pub settled_by : (a b : Ending) (sent taken : List MailStep) (left : List Letter) → (sent_of a.kept ≡ sent_to sent) × (taken_of a.kept ≡ taken_from sent) → (sent_of b.kept ≡ sent_to taken) × (taken_of b.kept ≡ taken_from taken) → taken_from taken a.report.core ++ left ≡ sent_to sent b.report.core → IsSettled a b
 settled_by a b sent taken left from to same =
-    subst (λ (s : Streams). IsBeginning (taken_of b.kept a.report.core) (s b.report.core)) (sym from.0)
-    (subst (λ (s : Streams). IsBeginning (s a.report.core) (sent_to sent b.report.core)) (sym to.1) (left, same))
+    subst (λ (s : Streams). IsPrefix (taken_of b.kept a.report.core) (s b.report.core)) (sym from.0)
+    (subst (λ (s : Streams). IsPrefix (s a.report.core) (sent_to sent b.report.core)) (sym to.1) (left, same))
 
 -- Those that are there.
 abbrev somes : {X : Type 0} → List (Option X) → List X
@@ -220,10 +221,10 @@ pasts-are (e ∷ es) has =
 
 settled-one : (a b : Ending) (from : HasEnd a) (to : HasEnd b) → IsDelivered (past_of from.end) (past_of to.end) → IsSettled a b
 settled-one a b from to delivered =
-    subst (λ (k : Kept). IsBeginning (taken_of k a.report.core) (sent_of a.kept b.report.core)) (sym to.kept)
-    (subst (λ (k : Kept). IsBeginning (ring_taken to.end a.report.core) (sent_of k b.report.core)) (sym from.kept)
-    (subst (λ (c : CoreId). IsBeginning (ring_taken to.end c) (ring_sent from.end b.report.core)) from.core
-    (subst (λ (c : CoreId). IsBeginning (ring_taken to.end (core_of_end from.end)) (ring_sent from.end c)) to.core delivered)))
+    subst (λ (k : Kept). IsPrefix (taken_of k a.report.core) (sent_of a.kept b.report.core)) (sym to.kept)
+    (subst (λ (k : Kept). IsPrefix (ring_taken to.end a.report.core) (sent_of k b.report.core)) (sym from.kept)
+    (subst (λ (c : CoreId). IsPrefix (ring_taken to.end c) (ring_sent from.end b.report.core)) from.core
+    (subst (λ (c : CoreId). IsPrefix (ring_taken to.end (core_of_end from.end)) (ring_sent from.end c)) to.core delivered)))
 
 settled-row : (a : Ending) (from : HasEnd a) (bs : List Ending) (has : AllByRecursion HasEnd bs) → AllByRecursion (IsDelivered (past_of from.end)) (pasts bs has) → AllByRecursion (IsSettled a) bs
 settled-row a from [] has all = tt
@@ -276,7 +277,7 @@ module _ (plan : Plan) (ss stimuli : List CoreStimuli) (turns : ℕ) (shared : S
         (subst (λ (xs : List CoreStimuli). AllByRecursion (IsOneCore plan xs) (reports_of es)) listed (reports-alone plan ss turns shared (outfit_cores outfits) es ended)),
   )
 
--- Sound reports stand beside a thread that was refused, and beside want of memory.
+-- The reports are sound also if a thread was refused or memory ran out.
 pub fault-sound : (plan : Plan) (stimuli : List CoreStimuli) (reason : ThreadReason) (reports : List Report) → (reason ≡ NoThread) ⊎ (reason ≡ NoMemory) → AreSound plan stimuli reports → IsThreadFault plan stimuli reason reports
 fault-sound plan stimuli reason reports (inl is) sound = subst (λ (r : ThreadReason). IsThreadFault plan stimuli r reports) (sym is) sound
 fault-sound plan stimuli reason reports (inr is) sound = subst (λ (r : ThreadReason). IsThreadFault plan stimuli r reports) (sym is) sound

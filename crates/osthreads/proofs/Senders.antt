@@ -27,10 +27,10 @@ use Rattle.osawait.specs.Messages.{is_awaited}
 use Rattle.oskernel.specs.Step.{after, history_from, outbox_size, solo_from}
 use Rattle.oskernel.proofs.Holding.{quiet_after}
 use Rattle.oskernel.proofs.Stages.{solo-parts}
-use Rattle.osseat.specs.Seats.{AllApart, has}
-use Rattle.osturn.specs.Fits.{ids_of}
-use Rattle.osturn.proofs.Members.{nobody-there}
-use Rattle.osturn.proofs.Streams.{received_letter, is_from, received-is}
+use Rattle.osshared.specs.Seats.{AllApart, has}
+use Rattle.osrun.specs.Fits.{ids_of}
+use Rattle.osrun.proofs.Members.{nobody-there}
+use Rattle.osrun.proofs.Streams.{received_letter, is_from, received-is}
 
 -- ---- the started cores are configured
 

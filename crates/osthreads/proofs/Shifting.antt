@@ -1,4 +1,4 @@
--- A worker's shift: how it begins, that it goes on, and what it hands back.
+-- A worker's shift: its beginning, its turns, and what it hands back.
 use Rattle.std.proofs.Common.{⊎_elim, ◌≡◌, ℕ, zero, suc, ◌+◌, ◌*◌, ◌/◌, ◌<◌, ◌≤◌, Bool, true, false, if◌then◌else◌, nat_lt, None, List, [], length, refl, sym, ap, subst, ◌∙◌, arith}
 use Rattle.std.specs.List.{slice_get}
 use Rattle.std.proofs.lemmas.Bool.{cases_eq, false≢true, ltb-true}
@@ -12,13 +12,13 @@ use Rattle.osbase.specs.Runs.{stimuli_of}
 use Rattle.osplan.specs.declared.plans.Plan.{Plan}
 use Rattle.osplan.specs.View.{View, view_of}
 use Rattle.osstate.specs.State.{KernelState, state_of}
-use Rattle.osturn.specs.Asking.{Calls, no_calls}
+use Rattle.osrun.specs.Requests.{Calls, no_calls}
 use Rattle.osmail.specs.Ends.{Streams}
-use Rattle.osturn.specs.declared.seats.Seat.{Seat}
-use Rattle.osturn.specs.Fits.{history_by, ids_of, stimuli_in}
-use Rattle.osturn.specs.Seats.{is_ended_phase, report_of}
-use Rattle.osturn.specs.Sound.{IsOwn}
-use Rattle.osturn.proofs.Seated.{seated-first, seated-own}
+use Rattle.osrun.specs.declared.core_runs.CoreRun.{CoreRun}
+use Rattle.osrun.specs.Fits.{history_by, ids_of, stimuli_in}
+use Rattle.osrun.specs.CoreRuns.{is_ended_phase, report_of}
+use Rattle.osrun.specs.Sound.{IsOwn}
+use Rattle.osrun.proofs.CoreRunning.{seated-first, seated-own}
 use Rattle.osthreads.specs.declared.run.Run.{Run}
 use Rattle.osthreads.specs.declared.turns.Stop.{Stop}
 use Rattle.osthreads.specs.declared.worker.Shift.{Shift}
@@ -35,7 +35,7 @@ first-running true = refl
 first-running false = refl
 
 -- A worker that has done nothing.
-pub begun : (plan : Plan) (stimuli : List CoreStimuli) (core : Seat) (id : CoreId) (made : Calls) (sent taken : Streams) → core.id ≡ id → core.kernel ≡ state_of (view_of plan id) [] → core.stimuli.now ≡ stimuli_of stimuli id → core.items.items ≡ [] → core.marks.items ≡ []
+pub begun : (plan : Plan) (stimuli : List CoreStimuli) (core : CoreRun) (id : CoreId) (made : Calls) (sent taken : Streams) → core.id ≡ id → core.kernel ≡ state_of (view_of plan id) [] → core.stimuli.now ≡ stimuli_of stimuli id → core.items.items ≡ [] → core.marks.items ≡ []
     → made ≡ no_calls → ((c : CoreId) → (sent c ≡ []) × (taken c ≡ [])) → HasDone plan stimuli core made sent taken None 0
 begun plan stimuli core id made sent taken is_id is_kernel is_left no_items no_marks none_made no_mail = record {
   work = record {
@@ -143,7 +143,7 @@ pub record IsStillAt {M : Type 0} (old new : Worker M) : Type 0 where
   pub kernel : new.core.kernel ≡ old.core.kernel
   pub left : new.core.stimuli ≡ old.core.stimuli
 
--- A worker that goes on after a turn.
+-- A worker that continues after a turn.
 module _ {M : Type 0} (sent taken : M → Streams) (stimuli : List CoreStimuli) (old new : Shift M) (same : new.worker.run.now ≡ old.worker.run.now) (moved : new.at ≡ next_at (core_count old) old.at) (place : old.at ≤ core_count old) where
   same-count : core_count new ≡ core_count old
   same-count = ap (λ (r : Run). length r.cores.now) same
@@ -219,7 +219,7 @@ handed-back {M} sent taken run stop shift worked clocks same cores stopped some 
   });
 }
   where
-    core : Seat
+    core : CoreRun
     core = shift.worker.core
 
     done : HasDone run.config.now run.stimuli.now core (made_from shift.worker.seats) (sent shift.worker.mail) (taken shift.worker.mail) (refusal_at stop) stopped.loads

@@ -1,4 +1,5 @@
 -- The runs of all cores, whoever ran them: their reports are sound.
+use mathlib.Core.List.{IsPrefix}
 use Rattle.std.proofs.Common.{◌≡◌, ◌==◌, ◌||◌, Bool, true, false, cond, Some, IsTrue, List, [], ◌∷◌, ◌++◌, map, refl, sym, ap, subst, ◌∙◌}
 use Rattle.std.specs.List.{AllByRecursion, find}
 use Rattle.std.specs.Option.{option_map_or}
@@ -15,15 +16,15 @@ use Rattle.osplan.specs.declared.plans.Plan.{Plan}
 use Rattle.osplan.specs.Limits.{is_within_limits}
 use Rattle.osplan.specs.Stimuli.{AreKnown}
 use Rattle.osplan.specs.View.{view_of}
-use Rattle.osseat.specs.Runs.{HasLogs}
-use Rattle.osseat.specs.Seats.{has}
+use Rattle.osshared.specs.Runs.{HasLogs}
+use Rattle.osshared.specs.Seats.{has}
 use Rattle.osboard.specs.Boards.{BoardEntry}
 use Rattle.osspin.specs.Spins.{SpinEntry}
-use Rattle.osturn.specs.Asking.{Calls, calls_of, no_calls}
-use Rattle.osturn.specs.Fits.{AreAnswered, Fits, FitsCore, IsBeginning, history_by, ids_of, items_of}
-use Rattle.osturn.specs.Sound.{AreSound, IsOwn, lists_in}
-use Rattle.osturn.proofs.Alone.{fits-alone}
-use Rattle.osturn.proofs.Grouped.{fits-apart}
+use Rattle.osrun.specs.Requests.{Calls, calls_of, no_calls}
+use Rattle.osrun.specs.Fits.{AreAnswered, Fits, FitsCore, history_by, ids_of, items_of}
+use Rattle.osrun.specs.Sound.{AreSound, IsOwn, lists_in}
+use Rattle.osrun.proofs.Alone.{fits-alone}
+use Rattle.osrun.proofs.Grouped.{fits-apart}
 use Rattle.osthreads.specs.Runs.{AreDelivered, AreOneSpins, AreRuns, IsDelivered, IsOneBoard}
 use Rattle.osthreads.proofs.Senders.{none-received, unlisted-unseen}
 
@@ -79,7 +80,7 @@ module _ (plan : Plan) (stimuli : List CoreStimuli) where
         (λ out. record { alone = refl; begins = (stimuli_of stimuli id, refl); drains = λ drained. absurd (false≢true drained) })
 
     abbrev Flows : CoreId → List Item → CoreId → List Item → Type 0
-    Flows from sent to got = IsBeginning (received from (history_by plan to got)) (posted to (history_by plan from sent))
+    Flows from sent to got = IsPrefix (received from (history_by plan to got)) (posted to (history_by plan from sent))
 
     unlisted : (id : CoreId) → has (cores_in reports) id ≡ false → has (ids_of plan) id ≡ false
     unlisted id out = subst (λ (cs : List CoreId). has cs id ≡ false) cores out

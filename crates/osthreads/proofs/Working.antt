@@ -22,9 +22,9 @@ use Rattle.osadmit.specs.Admission.{serves_in, takes_in}
 use Rattle.oskernel.specs.Step.{after, history_from, outbox_size, serves, takes}
 use Rattle.oskernel.specs.Wants.{front_of, want_in, want_of, watch_in, watch_of}
 use Rattle.oskernel.proofs.Stages.{is_mail}
-use Rattle.osseat.specs.declared.histories.Entry.{Entry}
-use Rattle.osseat.specs.Histories.{Thinned, entry}
-use Rattle.osseat.proofs.Thins.{logged}
+use Rattle.osshared.specs.declared.histories.Entry.{Entry}
+use Rattle.osshared.specs.Histories.{Thinned, entry}
+use Rattle.osshared.proofs.Thins.{logged}
 use Rattle.osboard.specs.declared.calls.BoardCall.{BoardCall}
 use Rattle.osboard.specs.declared.calls.BoardCall.TheVariants.{Start, Enter, MakeReady, Drain, Look, LookDrained, AskHalt, LookHalt}
 use Rattle.osboard.specs.declared.calls.BoardReply.{BoardReply}
@@ -34,23 +34,24 @@ use Rattle.osspin.specs.declared.calls.SpinReply.{SpinReply}
 use Rattle.osspin.specs.declared.calls.SpinReply.TheVariants.{Answered}
 use Rattle.osspin.specs.Spins.{IsRefusedCall, SpinEntry}
 use Rattle.osmail.specs.Ends.{AreUnchanged, HasOneMore, Streams}
-use Rattle.osturn.specs.declared.asks.Ask.{Ask}
-use Rattle.osturn.specs.declared.asks.Ask.TheVariants.{OfBoard, OfSpins, Room, Oldest, StartUnknown, TakeStimulus}
-use Rattle.osturn.specs.declared.asks.Answer.{Answer}
-use Rattle.osturn.specs.declared.asks.Answer.TheVariants.{Replied, Spun, HasRoom, Found, Unasked}
-use Rattle.osturn.specs.declared.seats.Seat.{Seat}
+use Rattle.osrun.specs.declared.requests.Request.{Request}
+use Rattle.osrun.specs.declared.requests.Request.TheVariants.{OfBoard, OfSpins, Room, Oldest, StartUnknown, TakeStimulus}
+use Rattle.osrun.specs.declared.requests.Reply.{Reply}
+use Rattle.osrun.specs.declared.requests.Reply.TheVariants.{Replied, Spun, HasRoom, Found, Unasked}
+use Rattle.osrun.specs.declared.core_runs.CoreRun.{CoreRun}
 use Rattle.oskernel.specs.declared.wants.SpinWish.{SpinWish}
 use Rattle.oskernel.specs.declared.wants.Want.{Want}
-use Rattle.osturn.specs.Asking.{Calls, asked_by, call_of_item, joined, look_asked, named_by, no_calls, own_asked, spin_call_of, starting, told_by}
-use Rattle.osturn.specs.Fits.{AreAnswered, FitsCore, Leads, history_by, stimuli_in}
-use Rattle.osturn.specs.Seats.{stimulus_count}
-use Rattle.osturn.proofs.Answered.{answered-push}
-use Rattle.osturn.proofs.Called.{called-for}
-use Rattle.osturn.proofs.Asked.{IsOwnAsk, asks-own}
-use Rattle.osturn.proofs.Leading.{closing-item, halted-item, is-item, passing-item, spun-item}
-use Rattle.osturn.proofs.Longer.{IsInTurn, core-on, history_from-push, length-stimuli_in}
-use Rattle.osturn.proofs.Seated.{Keeps, Took, seated-kept, seated-on}
-use Rattle.osturn.proofs.Streams.{received_letter, is_from, is_post_to, posted-after, received-is}
+use Rattle.osrun.specs.Requests.{Calls, request_by, call_of_item, joined, look_request, item_by, no_calls, own_request, spin_call_of, start_request, call_of_turn}
+use Rattle.osrun.specs.Fits.{AreAnswered, FitsCore, ResultsIn, history_by, stimuli_in}
+use Rattle.osrun.specs.CoreRuns.{stimulus_count}
+use Rattle.osrun.proofs.Answered.{answered-push}
+use Rattle.osrun.proofs.Called.{called-for}
+use Rattle.osrun.proofs.Asked.{IsOwnRequest, asks-own}
+use Rattle.osrun.proofs.Resulting.{drained-item, halt-item, is-item, look-item, spinlock-item}
+use Rattle.osrun.proofs.Longer.{IsInTurn, core-on, history_from-push, length-stimuli_in}
+use Rattle.osrun.specs.CoreRuns.{Keeps, Took}
+use Rattle.osrun.proofs.CoreRunning.{seated-kept, seated-on}
+use Rattle.osrun.proofs.Streams.{received_letter, is_from, is_post_to, posted-after, received-is}
 use Rattle.osthreads.specs.Working.{AreCalls, AreSpinCalls, HasDone, IsAsked, IsAtWork, IsFruitless, IsIdleLook, IsMailed, IsRefusedWish, MayWait}
 
 -- ---- stimuli
@@ -70,25 +71,25 @@ module _ (v : View) (listed : List Stimulus) (s : KernelState) (past : List Item
   is : (j i : Item) → Some j ≡ Some i → IsInTurn listed course past j → IsInTurn listed course past i
   is j i e next = is-item (IsInTurn listed course past) j i next e
 
-  follows : (watch : Watch) (ask : Ask) (answer : Answer) (i : Item) → IsOwnAsk v s (slice_get listed (length (stimuli_in past))) (Some ask) → named_by v.core watch ask answer ≡ Some i → IsInTurn listed course past i
-  follows watch (OfBoard Look) (Replied (Shown view)) i own e = passing-item (IsInTurn listed course past) tt (λ agreement. tt) (λ cores. tt) v.core view watch i e
+  follows : (watch : Watch) (request : Request) (answer : Reply) (i : Item) → IsOwnRequest v s (slice_get listed (length (stimuli_in past))) (Some request) → item_by v.core watch request answer ≡ Some i → IsInTurn listed course past i
+  follows watch (OfBoard Look) (Replied (Shown view)) i own e = look-item (IsInTurn listed course past) tt (λ agreement. tt) (λ cores. tt) v.core view watch i e
   follows watch (OfBoard (Start k)) (Replied (Started status)) i own e = is (Item.Began k status) i e tt
   follows watch (OfBoard (Enter mode)) (Replied Acknowledged) i own e = is Item.Entered i e tt
   follows watch (OfBoard MakeReady) (Replied Acknowledged) i own e = is Item.Readied i e tt
   follows watch (OfBoard Drain) (Replied Acknowledged) i own e = is Item.Drained i e own
-  follows watch (OfBoard LookDrained) (Replied (Drained drained)) i own e = closing-item (IsInTurn listed course past) tt watch drained i e
-  follows watch (OfBoard LookHalt) (Replied (Halting halt)) i own e = halted-item (IsInTurn listed course past) (λ asked. tt) (λ core status. tt) watch halt i e
+  follows watch (OfBoard LookDrained) (Replied (Drained drained)) i own e = drained-item (IsInTurn listed course past) tt watch drained i e
+  follows watch (OfBoard LookHalt) (Replied (Halting halt)) i own e = halt-item (IsInTurn listed course past) (λ asked. tt) (λ core status. tt) watch halt i e
   follows watch (OfBoard (AskHalt status)) (Replied (Decided asked)) i own e = is (Item.Halt asked.0 asked.1) i e tt
-  follows watch (OfSpins wish) (Spun reply) i own e = spun-item (IsInTurn listed course past) (λ l. tt) (λ l taken. tt) (λ l. tt) wish reply i e
+  follows watch (OfSpins wish) (Spun reply) i own e = spinlock-item (IsInTurn listed course past) (λ l. tt) (λ l taken. tt) (λ l. tt) wish reply i e
   follows watch (Room to) (HasRoom true) i own e = is (Item.Posted to) i e tt
   follows watch (Oldest from) (Found (Some x)) i own e = is (Item.Received from x.number x.message) i e tt
   follows watch (StartUnknown k) Unasked i own e = is (Item.Began k EOsId) i e tt
   follows watch (TakeStimulus stimulus) Unasked i own e = is (Item.Stim stimulus) i e own
-  follows watch ask answer i own e = cc
+  follows watch request answer i own e = cc
 
 -- ---- the core
 
-module _ (plan : Plan) (stimuli : List CoreStimuli) (old : Seat) (work : IsAtWork plan stimuli old) where
+module _ (plan : Plan) (stimuli : List CoreStimuli) (old : CoreRun) (work : IsAtWork plan stimuli old) where
   abbrev v : View
   v = view_of plan old.id
 
@@ -108,7 +109,7 @@ module _ (plan : Plan) (stimuli : List CoreStimuli) (old : Seat) (work : IsAtWor
       ∙ front-drop (stimulus_count old.items.items) (stimuli_of stimuli old.id)
       ∙ ap (slice_get (stimuli_of stimuli old.id)) (sym (length-stimuli_in old.items.items))
 
-  module _ (new : Seat) (item : Item) (took : Took old new item) where
+  module _ (new : CoreRun) (item : Item) (took : Took old new item) where
     history-on : history_by plan new.id new.items.items ≡ after v h item
     history-on =
         ap (λ (i : CoreId). history_by plan i new.items.items) took.id
@@ -146,14 +147,14 @@ looks-more v items (x ∷ xs) e all look = (all.0, looks-more v items xs e all.1
 -- ---- its calls of the spinlocks
 
 -- A turn that asks for one is the core's own, which wants it.
-abbrev WantsIt : Want → Option Ask → Type 0
+abbrev WantsIt : Want → Option Request → Type 0
 WantsIt want (Some (OfSpins wish)) = want ≡ Want.Spin wish
 WantsIt want asks = Unit {0}
 
-own-wants : (v : View) (next : Option Stimulus) (want : Want) → WantsIt want (own_asked v next want)
+own-wants : (v : View) (next : Option Stimulus) (want : Want) → WantsIt want (own_request v next want)
 own-wants v next (Want.Start k) = by (is_configured v k)
   where
-    by : (b : Bool) → WantsIt (Want.Start k) (Some (starting k b))
+    by : (b : Bool) → WantsIt (Want.Start k) (Some (start_request k b))
     by true = tt
     by false = tt
 own-wants v next Want.Enter = tt
@@ -166,12 +167,12 @@ own-wants v None Want.GoOn = tt
 own-wants v next Want.Drain = tt
 own-wants v next Want.Nothing = tt
 
-look-wants : (want : Want) (watch : Watch) → WantsIt want (Some (look_asked watch))
+look-wants : (want : Want) (watch : Watch) → WantsIt want (Some (look_request watch))
 look-wants want Watch.Halt = tt
 look-wants want Watch.Last = tt
 look-wants want watch = tt
 
-asked-wants : (v : View) (next : Option Stimulus) (want : Want) (watch : Watch) (choice : Choice) → WantsIt want (asked_by v want watch next choice)
+asked-wants : (v : View) (next : Option Stimulus) (want : Want) (watch : Watch) (choice : Choice) → WantsIt want (request_by v want watch next choice)
 asked-wants v next want watch Choice.Own = own-wants v next want
 asked-wants v next want watch (Choice.Serve from) = tt
 asked-wants v next want watch Choice.Look = look-wants want watch
@@ -282,11 +283,11 @@ module _ (v : View) (items : List Item) (made : Calls) (loads : ℕ) (calls : Ar
   }
 
   -- an item more, to which these calls led
-  module _ (ask : Ask) (answer : Answer) (i : Item) (leads : Leads v (history_from v [] items) ask answer i) where
-    led-on : (told made' : Calls) → told_by v.core ask answer ≡ told → Thinned IsLook made'.board (calls.log.board ++ told.board) → made'.spins ≡ made.spins ++ told.spins → AreCalls v (items ++ i ∷ []) made' 0
+  module _ (request : Request) (answer : Reply) (i : Item) (leads : ResultsIn v (history_from v [] items) request answer i) where
+    led-on : (told made' : Calls) → call_of_turn v.core request answer ≡ told → Thinned IsLook made'.board (calls.log.board ++ told.board) → made'.spins ≡ made.spins ++ told.spins → AreCalls v (items ++ i ∷ []) made' 0
     led-on told made' is board spins = record {
       log = joined calls.log told;
-      answers = subst (AreAnswered v [] (items ++ i ∷ [])) (ap (joined calls.log) is) (answered-push v [] items calls.log ask answer i calls.answers leads);
+      answers = subst (AreAnswered v [] (items ++ i ∷ [])) (ap (joined calls.log) is) (answered-push v [] items calls.log request answer i calls.answers leads);
       before = made'.board;
       idle = [];
       calls = sym (append-nil made'.board);
@@ -297,22 +298,22 @@ module _ (v : View) (items : List Item) (made : Calls) (loads : ℕ) (calls : Ar
     }
       where
         led : told.spins ≡ call_of_item v.core i
-        led = ap (λ (c : Calls). c.spins) (sym is) ∙ called-for v.core (watch_of v (history_from v [] items)) ask answer i leads.names
+        led = ap (λ (c : Calls). c.spins) (sym is) ∙ called-for v.core (watch_of v (history_from v [] items)) request answer i leads.names
 
     -- none, one of the board, or one of a spinlock
-    pub uncalled-on : (made' : Calls) → told_by v.core ask answer ≡ no_calls → made' ≡ made → AreCalls v (items ++ i ∷ []) made' 0
+    pub uncalled-on : (made' : Calls) → call_of_turn v.core request answer ≡ no_calls → made' ≡ made → AreCalls v (items ++ i ∷ []) made' 0
     uncalled-on made' none same =
         led-on no_calls made' none
         (none-more IsLook made.board calls.log.board made'.board (ap (λ (c : Calls). c.board) same) thin)
         (ap (λ (c : Calls). c.spins) same ∙ sym (append-nil made.spins))
 
-    pub board-on : (e : BoardEntry) (made' : Calls) → told_by v.core ask answer ≡ record { board = e ∷ []; spins = [] } → made'.board ≡ made.board ++ e ∷ [] → made'.spins ≡ made.spins → AreCalls v (items ++ i ∷ []) made' 0
+    pub board-on : (e : BoardEntry) (made' : Calls) → call_of_turn v.core request answer ≡ record { board = e ∷ []; spins = [] } → made'.board ≡ made.board ++ e ∷ [] → made'.spins ≡ made.spins → AreCalls v (items ++ i ∷ []) made' 0
     board-on e made' one more same =
         led-on (record { board = e ∷ []; spins = [] }) made' one
         (logged IsLook made.board calls.log.board made'.board (calls.log.board ++ e ∷ []) e e thin more refl refl)
         (same ∙ sym (append-nil made.spins))
 
-    pub spins-on : (e : SpinEntry) (made' : Calls) → told_by v.core ask answer ≡ record { board = []; spins = e ∷ [] } → made'.board ≡ made.board → made'.spins ≡ made.spins ++ e ∷ [] → AreCalls v (items ++ i ∷ []) made' 0
+    pub spins-on : (e : SpinEntry) (made' : Calls) → call_of_turn v.core request answer ≡ record { board = []; spins = e ∷ [] } → made'.board ≡ made.board → made'.spins ≡ made.spins ++ e ∷ [] → AreCalls v (items ++ i ∷ []) made' 0
     spins-on e made' one same more =
         led-on (record { board = []; spins = e ∷ [] }) made' one
         (none-more IsLook made.board calls.log.board made'.board same thin)
@@ -383,31 +384,31 @@ module _ (v : View) (h : History) (sent taken sent' taken' : Streams) (mail : Is
 
 -- ---- a turn that took an item
 
-module _ (plan : Plan) (stimuli : List CoreStimuli) (loads : ℕ) (old new : Seat) (made made' : Calls) (sent taken sent' taken' : Streams)
-    (done : HasDone plan stimuli old made sent taken None loads) (ask : Ask) (answer : Answer) (item : Item)
-    (asked : IsAsked plan old ask) (names : named_by old.id (watch_in old.kernel) ask answer ≡ Some item) (may : takes_in outbox_size old.kernel item ≡ true) (took : Took old new item) where
+module _ (plan : Plan) (stimuli : List CoreStimuli) (loads : ℕ) (old new : CoreRun) (made made' : Calls) (sent taken sent' taken' : Streams)
+    (done : HasDone plan stimuli old made sent taken None loads) (request : Request) (answer : Reply) (item : Item)
+    (asked : IsAsked plan old request) (names : item_by old.id (watch_in old.kernel) request answer ≡ Some item) (may : takes_in outbox_size old.kernel item ≡ true) (took : Took old new item) where
   abbrev view : View
   view = view_of plan old.id
 
   abbrev past : History
   past = history_by plan old.id old.items.items
 
-  asks-it : asked_by view (want_of view past) (watch_of view past) (slice_get old.stimuli.now 0) asked.0 ≡ Some ask
-  asks-it = subst (λ (k : KernelState). asked_by view (want_in k) (watch_in k) (slice_get old.stimuli.now 0) asked.0 ≡ Some ask) done.work.seated.tracks.stands.is asked.1
+  asks-it : request_by view (want_of view past) (watch_of view past) (slice_get old.stimuli.now 0) asked.0 ≡ Some request
+  asks-it = subst (λ (k : KernelState). request_by view (want_in k) (watch_in k) (slice_get old.stimuli.now 0) asked.0 ≡ Some request) done.work.seated.tracks.stands.is asked.1
 
-  leads : Leads view past ask answer item
+  leads : ResultsIn view past request answer item
   leads = record {
     choice = asked.0;
     next = slice_get old.stimuli.now 0;
     asks = asks-it;
-    names = subst (λ (k : KernelState). named_by old.id (watch_in k) ask answer ≡ Some item) done.work.seated.tracks.stands.is names;
+    names = subst (λ (k : KernelState). item_by old.id (watch_in k) request answer ≡ Some item) done.work.seated.tracks.stands.is names;
   }
 
   in-turn : IsInTurn (stimuli_of stimuli old.id) (course_of past) old.items.items item
   in-turn =
-      follows view (stimuli_of stimuli old.id) (state_of view past) old.items.items (watch_in (state_of view past)) ask answer item
-      (subst (λ (next : Option Stimulus). IsOwnAsk view (state_of view past) next (Some ask)) (next-left plan stimuli old done.work)
-      (subst (IsOwnAsk view (state_of view past) (slice_get old.stimuli.now 0)) asks-it (asks-own view (state_of view past) (slice_get old.stimuli.now 0) asked.0))) leads.names
+      follows view (stimuli_of stimuli old.id) (state_of view past) old.items.items (watch_in (state_of view past)) request answer item
+      (subst (λ (next : Option Stimulus). IsOwnRequest view (state_of view past) next (Some request)) (next-left plan stimuli old done.work)
+      (subst (IsOwnRequest view (state_of view past) (slice_get old.stimuli.now 0)) asks-it (asks-own view (state_of view past) (slice_get old.stimuli.now 0) asked.0))) leads.names
 
   done-on : AreCalls view (old.items.items ++ item ∷ []) made' 0 → IsMailed view (after view past item) sent' taken' None → HasDone plan stimuli new made' sent' taken' None 0
   done-on calls mail = record {
@@ -419,25 +420,25 @@ module _ (plan : Plan) (stimuli : List CoreStimuli) (loads : ℕ) (old new : Sea
   }
 
   -- The item came of a call of the board; of one of a spinlock; of no call; of an envelope that was sent; of one that was taken.
-  pub board-took : (call : BoardCall) (reply : BoardReply) → ask ≡ OfBoard call → answer ≡ Replied reply → is_mail item ≡ false → made'.board ≡ made.board ++ entry old.id call reply ∷ [] → made'.spins ≡ made.spins → AreUnchanged sent sent' → AreUnchanged taken taken' → HasDone plan stimuli new made' sent' taken' None 0
+  pub board-took : (call : BoardCall) (reply : BoardReply) → request ≡ OfBoard call → answer ≡ Replied reply → is_mail item ≡ false → made'.board ≡ made.board ++ entry old.id call reply ∷ [] → made'.spins ≡ made.spins → AreUnchanged sent sent' → AreUnchanged taken taken' → HasDone plan stimuli new made' sent' taken' None 0
   board-took call reply is_ask is_answer none more same same_sent same_taken =
       done-on
-      (board-on view old.items.items made loads done.calls ask answer item leads (entry old.id call reply) made' (ap (λ (a : Ask). told_by old.id a answer) is_ask ∙ ap (told_by old.id (OfBoard call)) is_answer) more same)
+      (board-on view old.items.items made loads done.calls request answer item leads (entry old.id call reply) made' (ap (λ (a : Request). call_of_turn old.id a answer) is_ask ∙ ap (call_of_turn old.id (OfBoard call)) is_answer) more same)
       (mail-same view past sent taken sent' taken' done.mail item none same_sent same_taken)
 
-  pub spins-took : (wish : SpinWish) (reply : SpinReply) → ask ≡ OfSpins wish → answer ≡ Spun reply → is_mail item ≡ false → made'.board ≡ made.board → made'.spins ≡ made.spins ++ entry old.id (spin_call_of wish) reply ∷ [] → AreUnchanged sent sent' → AreUnchanged taken taken' → HasDone plan stimuli new made' sent' taken' None 0
+  pub spins-took : (wish : SpinWish) (reply : SpinReply) → request ≡ OfSpins wish → answer ≡ Spun reply → is_mail item ≡ false → made'.board ≡ made.board → made'.spins ≡ made.spins ++ entry old.id (spin_call_of wish) reply ∷ [] → AreUnchanged sent sent' → AreUnchanged taken taken' → HasDone plan stimuli new made' sent' taken' None 0
   spins-took wish reply is_ask is_answer none same more same_sent same_taken =
       done-on
-      (spins-on view old.items.items made loads done.calls ask answer item leads (entry old.id (spin_call_of wish) reply) made' (ap (λ (a : Ask). told_by old.id a answer) is_ask ∙ ap (told_by old.id (OfSpins wish)) is_answer) same more)
+      (spins-on view old.items.items made loads done.calls request answer item leads (entry old.id (spin_call_of wish) reply) made' (ap (λ (a : Request). call_of_turn old.id a answer) is_ask ∙ ap (call_of_turn old.id (OfSpins wish)) is_answer) same more)
       (mail-same view past sent taken sent' taken' done.mail item none same_sent same_taken)
 
-  uncalled : told_by old.id ask answer ≡ no_calls → made' ≡ made → AreCalls view (old.items.items ++ item ∷ []) made' 0
-  uncalled silent same = uncalled-on view old.items.items made loads done.calls ask answer item leads made' silent same
+  uncalled : call_of_turn old.id request answer ≡ no_calls → made' ≡ made → AreCalls view (old.items.items ++ item ∷ []) made' 0
+  uncalled silent same = uncalled-on view old.items.items made loads done.calls request answer item leads made' silent same
 
-  pub alone-took : told_by old.id ask answer ≡ no_calls → is_mail item ≡ false → made' ≡ made → AreUnchanged sent sent' → AreUnchanged taken taken' → HasDone plan stimuli new made' sent' taken' None 0
+  pub alone-took : call_of_turn old.id request answer ≡ no_calls → is_mail item ≡ false → made' ≡ made → AreUnchanged sent sent' → AreUnchanged taken taken' → HasDone plan stimuli new made' sent' taken' None 0
   alone-took silent none same same_sent same_taken = done-on (uncalled silent same) (mail-same view past sent taken sent' taken' done.mail item none same_sent same_taken)
 
-  pub post-took : (to first : CoreId) (e : Envelope) → told_by old.id ask answer ≡ no_calls → item ≡ Item.Posted to → front_of old.kernel.border.outbox ≡ Some (first, e) → made' ≡ made → HasOneMore to e.letter sent sent' → AreUnchanged taken taken' → HasDone plan stimuli new made' sent' taken' None 0
+  pub post-took : (to first : CoreId) (e : Envelope) → call_of_turn old.id request answer ≡ no_calls → item ≡ Item.Posted to → front_of old.kernel.border.outbox ≡ Some (first, e) → made' ≡ made → HasOneMore to e.letter sent sent' → AreUnchanged taken taken' → HasDone plan stimuli new made' sent' taken' None 0
   post-took to first e silent is_item front same grown same_taken =
       done-on (uncalled silent same)
       (subst (λ (i : Item). IsMailed view (after view past i) sent' taken' None) (sym is_item)
@@ -447,7 +448,7 @@ module _ (plan : Plan) (stimuli : List CoreStimuli) (loads : ℕ) (old new : Sea
       ahead [] is = cc
       ahead (s ∷ ss) is = ap (λ (x : CoreId × Envelope). x.1.letter ∷ []) (same_Some _ _ is)
 
-  pub receipt-took : (from : CoreId) (e : Letter) → told_by old.id ask answer ≡ no_calls → item ≡ Item.Received from e.number e.message → made' ≡ made → AreUnchanged sent sent' → HasOneMore from e taken taken' → HasDone plan stimuli new made' sent' taken' None 0
+  pub receipt-took : (from : CoreId) (e : Letter) → call_of_turn old.id request answer ≡ no_calls → item ≡ Item.Received from e.number e.message → made' ≡ made → AreUnchanged sent sent' → HasOneMore from e taken taken' → HasDone plan stimuli new made' sent' taken' None 0
   receipt-took from e silent is_item same same_sent grown =
       done-on (uncalled silent same)
       (subst (λ (i : Item). IsMailed view (after view past i) sent' taken' None) (sym is_item)
@@ -455,7 +456,7 @@ module _ (plan : Plan) (stimuli : List CoreStimuli) (loads : ℕ) (old new : Sea
 
 -- ---- a turn that took none
 
-module _ (plan : Plan) (stimuli : List CoreStimuli) (loads : ℕ) (core : Seat) (made : Calls) (sent taken : Streams) (done : HasDone plan stimuli core made sent taken None loads) where
+module _ (plan : Plan) (stimuli : List CoreStimuli) (loads : ℕ) (core : CoreRun) (made : Calls) (sent taken : Streams) (done : HasDone plan stimuli core made sent taken None loads) where
   -- a look that resulted in no item
   pub look-idle : (e : BoardEntry) (made' : Calls) → IsLook e → IsFruitless core.id core.kernel (OfBoard e.call) (Replied e.reply) → made'.board ≡ made.board ++ e ∷ [] → made'.spins ≡ made.spins → HasDone plan stimuli core made' sent taken None (loads + 1)
   look-idle e made' look none more same = record {
@@ -482,7 +483,7 @@ module _ (plan : Plan) (stimuli : List CoreStimuli) (loads : ℕ) (core : Seat) 
           (subst (WantsIt (want_in core.kernel)) asked.1 (asked-wants view (slice_get core.stimuli.now 0) (want_in core.kernel) (watch_in core.kernel) asked.0))
 
   -- nothing was called, sent or taken, and there may be more room
-  pub still : (new : Seat) (sent' taken' : Streams) → Keeps core new → AreUnchanged sent sent' → AreUnchanged taken taken' → HasDone plan stimuli new made sent' taken' None (loads + 0)
+  pub still : (new : CoreRun) (sent' taken' : Streams) → Keeps core new → AreUnchanged sent sent' → AreUnchanged taken taken' → HasDone plan stimuli new made sent' taken' None (loads + 0)
   still new sent' taken' keeps same_sent same_taken = record {
     work = record {
       seated = seated-kept plan stimuli core new keeps done.work.seated;

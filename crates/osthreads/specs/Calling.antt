@@ -20,8 +20,8 @@ ChangesBoard call = ⊥
 abbrev pub LoadsBoard : BoardCall → Type 0
 LoadsBoard call = (call ≡ Look) ⊎ ((call ≡ LookDrained) ⊎ (call ≡ LookHalt))
 
--- The item that this core's call results in that changes the board, where a core that it starts was not started yet, and no other core
--- asked for a shutdown before.
+-- The item that this core's call results in that changes the board, if a core that it starts was not started yet, and no other core
+-- requested a shutdown before.
 abbrev pub item_of_call : CoreId → BoardCall → Item
 item_of_call core (Start k) = Item.Began k EOk
 item_of_call core (AskHalt status) = Item.Halt core status

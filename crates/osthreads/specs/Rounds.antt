@@ -3,7 +3,7 @@
 use Rattle.std.specs.Prelude.{◌≡◌, ◌+◌, ◌<◌, ◌≤◌, nat_lt, ℕ, zero, suc, false, None, if◌then◌else◌, List, length}
 use Rattle.osbase.specs.declared.turns.CoreStimuli.{CoreStimuli}
 use Rattle.osmail.specs.Ends.{Streams}
-use Rattle.osturn.specs.Seats.{is_ended_phase}
+use Rattle.osrun.specs.CoreRuns.{is_ended_phase}
 use Rattle.osthreads.specs.declared.turns.Stop.{Stop}
 use Rattle.osthreads.specs.declared.worker.Shift.{Shift}
 use Rattle.osthreads.specs.Working.{HasNoWork, HasWorked, is_ended_by, refusal_at}
@@ -29,7 +29,7 @@ abbrev pub core_count : {M : Type 0} → Shift M → ℕ
 core_count shift = length shift.worker.run.now.cores.now
 
 -- A worker between two turns, whose core has not ended. The last turns changed nothing: those of the rounds whose looks stand at the
--- end of its calls, and those of the round that it is in. If the core's own turn is among them, the core can do nothing by itself.
+-- end of its calls, and those of the round that it is in. If the core's own turn is among them, the core can do nothing alone.
 pub record IsGoing {M : Type 0} (sent taken : M → Streams) (stimuli : List CoreStimuli) (shift : Shift M) : Type 0 where
   pub loads : ℕ
   pub worked : HasWorked sent taken stimuli None loads shift.worker

@@ -1,5 +1,6 @@
 -- What the run of one core results in, and what the runs of all cores result in together. It is said of reports, of the calls of the
 -- board and the spinlocks, and of the envelopes, and of no turns and no threads. [own]
+use mathlib.Core.List.{IsPrefix}
 use Rattle.std.specs.Prelude.{◌≡◌, ℕ, None, List, [], ◌∷◌, map}
 use Rattle.std.specs.List.{AllByRecursion}
 use Rattle.osbase.specs.declared.references.CoreId.{CoreId}
@@ -8,14 +9,14 @@ use Rattle.osbase.specs.declared.turns.Report.{Report}
 use Rattle.osbase.specs.History.{posted, received}
 use Rattle.osplan.specs.declared.plans.Plan.{Plan}
 use Rattle.osplan.specs.View.{core_of, view_of}
-use Rattle.osseat.specs.declared.histories.Plan.{Plan as SeatPlan}
-use Rattle.osseat.specs.Histories.{IsLegal}
-use Rattle.osseat.specs.Runs.{IsOneRun}
+use Rattle.osshared.specs.declared.histories.Plan.{Plan as SeatPlan}
+use Rattle.osshared.specs.Histories.{IsLegal}
+use Rattle.osshared.specs.Runs.{IsOneRun}
 use Rattle.osboard.specs.Boards.{one_board}
 use Rattle.osspin.specs.Spins.{spinlocks}
-use Rattle.osturn.specs.Asking.{Calls, calls_of, no_calls}
-use Rattle.osturn.specs.Fits.{AreAnswered, FitsCore, IsBeginning, history_by, ids_of}
-use Rattle.osturn.specs.Sound.{IsOwn}
+use Rattle.osrun.specs.Requests.{Calls, calls_of, no_calls}
+use Rattle.osrun.specs.Fits.{AreAnswered, FitsCore, history_by, ids_of}
+use Rattle.osrun.specs.Sound.{IsOwn}
 use Rattle.osthreads.specs.Working.{IsFinished}
 
 -- The report says what its own items say, and they fit what was listed for its core.
@@ -37,7 +38,7 @@ AreRuns plan stimuli (r ∷ rs) (l ∷ ls) = IsRun plan stimuli r l × AreRuns p
 
 -- What the core of the second report received from that of the first begins what the first one posted to it.
 abbrev pub IsDelivered : Plan → Report → Report → Type 0
-IsDelivered plan a b = IsBeginning (received a.core (history_by plan b.core b.items)) (posted b.core (history_by plan a.core a.items))
+IsDelivered plan a b = IsPrefix (received a.core (history_by plan b.core b.items)) (posted b.core (history_by plan a.core a.items))
 
 abbrev pub AreDelivered : Plan → List Report → Type 0
 AreDelivered plan reports = AllByRecursion (λ a. AllByRecursion (IsDelivered plan a) reports) reports

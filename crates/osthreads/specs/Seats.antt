@@ -1,12 +1,12 @@
 -- A core's seats at what all cores share. [own]
 use Rattle.std.specs.Prelude.{◌≡◌, List, [], ◌∷◌}
 use Rattle.osbase.specs.declared.references.CoreId.{CoreId}
-use Rattle.osseat.specs.Seats.{Held, Place, fresh}
+use Rattle.osshared.specs.Seats.{Held, Place, fresh}
 use Rattle.osboard.specs.declared.calls.BoardCall.{BoardCall}
 use Rattle.osboard.specs.declared.calls.BoardReply.{BoardReply}
 use Rattle.osspin.specs.declared.calls.SpinCall.{SpinCall}
 use Rattle.osspin.specs.declared.calls.SpinReply.{SpinReply}
-use Rattle.osturn.specs.Asking.{Calls}
+use Rattle.osrun.specs.Requests.{Calls}
 use Rattle.osthreads.specs.declared.seats.Seats.{Seats}
 
 -- What the cores share: this board, and these spinlocks.

@@ -1,18 +1,19 @@
 -- What the workers' threads give back. [own]
+use mathlib.Core.List.{IsPrefix}
 use Rattle.std.specs.Prelude.{◌≡◌, ℕ, true, Option, Some, None, IfSome, IsSome, List, [], ◌∷◌, ◌++◌, map, option_map}
 use Rattle.std.specs.List.{AllByRecursion}
 use Rattle.osbase.specs.declared.references.CoreId.{CoreId}
 use Rattle.osbase.specs.declared.turns.CoreStimuli.{CoreStimuli}
 use Rattle.osplan.specs.declared.plans.Plan.{Plan}
 use Rattle.osplan.specs.View.{core_of, view_of}
-use Rattle.osseat.specs.Histories.{Thinned}
+use Rattle.osshared.specs.Histories.{Thinned}
 use Rattle.osmail.specs.declared.rings.RingEnd.{RingEnd}
 use Rattle.osmail.specs.Ends.{Streams, sent_to, taken_from}
 use Rattle.osmail.specs.Rings.{EndId, IsUnused, core_of_end, end_id, ring_sent, ring_taken}
 use Rattle.osboard.specs.Boards.{IsLook}
 use Rattle.osspin.specs.Spins.{IsRefusedCall}
-use Rattle.osturn.specs.Asking.{Calls, no_calls}
-use Rattle.osturn.specs.Fits.{IsBeginning, history_by, ids_of}
+use Rattle.osrun.specs.Requests.{Calls, no_calls}
+use Rattle.osrun.specs.Fits.{history_by, ids_of}
 use Rattle.osthreads.specs.declared.ending.Ending.{Ending}
 use Rattle.osthreads.specs.declared.ending.Kept.{Kept}
 use Rattle.osthreads.specs.declared.ending.Kept.TheVariants.{Rings, Steps}
@@ -23,7 +24,7 @@ use Rattle.osthreads.specs.declared.seats.Seats.{Seats}
 use Rattle.osthreads.specs.Runs.{IsOneCore, IsRun}
 use Rattle.osthreads.specs.Seats.{AreAt, Shared, first_seats, made_from}
 use Rattle.osthreads.specs.Working.{IsFinished, IsMailed, is_finished_by, is_kept_by, refusal_at}
-use Rattle.osturn.specs.Sound.{AreSound}
+use Rattle.osrun.specs.Sound.{AreSound}
 use Rattle.osbase.specs.declared.turns.Report.{Report}
 use Rattle.osthreads.specs.declared.runs.ThreadReason.{ThreadReason}
 use Rattle.osthreads.specs.declared.runs.ThreadReason.TheVariants.{NotBegun, NoMemory, NoThread, MailBreak}
@@ -127,7 +128,7 @@ AreAllFinished es = AllByRecursion (λ (e : Ending). is_finished_by e.stop ≡ t
 
 -- What the second took from the first begins what that one sent to it.
 abbrev pub IsSettled : Ending → Ending → Type 0
-IsSettled a b = IsBeginning (taken_of b.kept a.report.core) (sent_of a.kept b.report.core)
+IsSettled a b = IsPrefix (taken_of b.kept a.report.core) (sent_of a.kept b.report.core)
 
 abbrev pub AreSettled : List Ending → Type 0
 AreSettled es = AllByRecursion (λ a. AllByRecursion (IsSettled a) es) es

@@ -1,5 +1,5 @@
 -- What a worker of one core has done, said of its core, of its calls of the board and the spinlocks, and of its end of the mail. [own]
-use Rattle.std.specs.Prelude.{◌≡◌, ◌⊎◌, ◌+◌, ◌/◌, ◌<◌, ◌≤◌, ℕ, Bool, true, false, Option, Some, None, if◌then◌else◌, List, [], ◌∷◌, ◌++◌, length, slice_get}
+use Rattle.std.specs.Prelude.{◌≡◌, ◌⊎◌, ◌+◌, ◌/◌, ◌<◌, ◌≤◌, ℕ, Bool, true, false, Option, Some, None, if◌then◌else◌, List, [], ◌∷◌, ◌++◌, length, slice_get, vec_len, vec_capacity}
 use Rattle.std.specs.List.{AllByRecursion}
 use Rattle.osbase.specs.declared.references.CoreId.{CoreId}
 use Rattle.osbase.specs.declared.messages.Letter.{Letter}
@@ -16,24 +16,24 @@ use Rattle.osstate.specs.State.{KernelState, state_of}
 use Rattle.osadmit.specs.Admission.{takes_in}
 use Rattle.oskernel.specs.Step.{after, history_from, outbox_size, serves, takes}
 use Rattle.oskernel.specs.Wants.{want_in, want_of, watch_in}
-use Rattle.osseat.specs.Histories.{Thinned, entry}
+use Rattle.osshared.specs.Histories.{Thinned, entry}
 use Rattle.osboard.specs.declared.calls.BoardState.{BoardState}
 use Rattle.osboard.specs.Boards.{BoardEntry, IsLook, board_reply}
 use Rattle.osspin.specs.declared.calls.SpinReply.TheVariants.{Answered}
 use Rattle.osspin.specs.Spins.{SpinEntry, spin_reply}
 use Rattle.osmail.specs.Ends.{Streams}
-use Rattle.osturn.specs.declared.asks.Answer.{Answer}
-use Rattle.osturn.specs.declared.asks.Answer.TheVariants.{Replied, Spun}
-use Rattle.osturn.specs.declared.asks.Ask.{Ask}
-use Rattle.osturn.specs.declared.asks.Ask.TheVariants.{OfBoard, OfSpins, Room}
-use Rattle.osturn.specs.declared.seats.Seat.{Seat}
+use Rattle.osrun.specs.declared.requests.Reply.{Reply}
+use Rattle.osrun.specs.declared.requests.Reply.TheVariants.{Replied, Spun}
+use Rattle.osrun.specs.declared.requests.Request.{Request}
+use Rattle.osrun.specs.declared.requests.Request.TheVariants.{OfBoard, OfSpins, Room}
+use Rattle.osrun.specs.declared.core_runs.CoreRun.{CoreRun}
 use Rattle.oskernel.specs.declared.wants.SpinWish.{SpinWish}
 use Rattle.oskernel.specs.declared.wants.SpinWish.TheVariants as Wish
 use Rattle.oskernel.specs.declared.wants.Want.{Want}
-use Rattle.osturn.specs.Asking.{Calls, asked_by, call_of_item, named_by, spin_call_of}
-use Rattle.osturn.specs.Fits.{AreAnswered, FitsCore, history_by, ids_of, stimuli_in}
-use Rattle.osturn.specs.Seats.{IsSeated}
-use Rattle.osturn.specs.Sound.{IsOwn}
+use Rattle.osrun.specs.Requests.{Calls, request_by, call_of_item, item_by, spin_call_of}
+use Rattle.osrun.specs.Fits.{AreAnswered, FitsCore, history_by, ids_of, stimuli_in}
+use Rattle.osrun.specs.CoreRuns.{HasRoomForItem, IsCoreRun}
+use Rattle.osrun.specs.Sound.{IsOwn}
 use Rattle.osthreads.specs.declared.run.Run.{Run}
 use Rattle.osthreads.specs.Seats.{made_from}
 use Rattle.osthreads.specs.declared.turns.Stop.{Stop}
@@ -42,41 +42,41 @@ use Rattle.osthreads.specs.declared.turns.Turned.TheVariants.{Took, Nothing, Ref
 use Rattle.osthreads.specs.declared.worker.Worker.{Worker}
 use Rattle.osthreads.specs.declared.worker.Worked.{Worked}
 
--- ---- what a turn asks
+-- ---- what a turn requests
 
--- Some turn of the core asks this.
-abbrev pub IsAsked : Plan → Seat → Ask → Type 0
-IsAsked plan core ask = (choice : Choice) × (asked_by (view_of plan core.id) (want_in core.kernel) (watch_in core.kernel) (slice_get core.stimuli.now 0) choice ≡ Some ask)
+-- Some turn of the core makes this request.
+abbrev pub IsAsked : Plan → CoreRun → Request → Type 0
+IsAsked plan core request = (choice : Choice) × (request_by (view_of plan core.id) (want_in core.kernel) (watch_in core.kernel) (slice_get core.stimuli.now 0) choice ≡ Some request)
 
--- In this state of its core, the answer to what a turn asked results in no item that the core takes.
-abbrev pub IsFruitless : CoreId → KernelState → Ask → Answer → Type 0
-IsFruitless id k ask answer = (item : Item) → named_by id (watch_in k) ask answer ≡ Some item → takes_in outbox_size k item ≡ false
+-- In this state of its core, the reply to a request results in no item that the core takes.
+abbrev pub IsFruitless : CoreId → KernelState → Request → Reply → Type 0
+IsFruitless id k request answer = (item : Item) → item_by id (watch_in k) request answer ≡ Some item → takes_in outbox_size k item ≡ false
 
--- The answer to what a core's turn asked may be this: of the board, what a board answers, and of the spinlocks, what they answer.
-abbrev pub MayAnswer : CoreId → Ask → Answer → Type 0
+-- The reply to a core's request may be this: of the board, the reply of some board, and of the spinlocks, the reply of some.
+abbrev pub MayAnswer : CoreId → Request → Reply → Type 0
 MayAnswer id (OfBoard call) answer = (board : BoardState) × (answer ≡ Replied (board_reply id call board))
 MayAnswer id (OfSpins wish) answer = (holders : List (Option CoreId)) × (answer ≡ Spun (spin_reply id (spin_call_of wish) holders))
-MayAnswer id ask answer = Unit {0}
+MayAnswer id request answer = Unit {0}
 
--- What a core's turn asks may have to wait: for room in a mailbox, GetSpinlock for its spinlock, and a release until it is done. A release
+-- What a core's turn requests may have to wait: for room in a mailbox, GetSpinlock for its spinlock, and a release until it is done. A release
 -- is refused only to a core that does not hold the spinlock. That the kernel asks for none such follows from the checks of ReleaseSpinlock
 -- and from what it owes; no law of the kernel carries that from the check to the turn that asks, so a release stands here too.
-abbrev pub MayWait : Ask → Type 0
+abbrev pub MayWait : Request → Type 0
 MayWait (Room to) = Unit {0}
 MayWait (OfSpins (Wish.Get l)) = Unit {0}
 MayWait (OfSpins (Wish.Free l)) = Unit {0}
-MayWait ask = ⊥
+MayWait request = ⊥
 
--- The core can do nothing by itself: what its own turn asks may have to wait for other cores, or results in no item whatever the answer.
+-- The core can do nothing alone: the request of its own turn may have to wait for other cores, or results in no item by any reply.
 -- This is its next stimulus, if one is left.
 abbrev pub IsStuck : View → KernelState → Option Stimulus → Type 0
-IsStuck v k next = (ask : Ask) → asked_by v (want_in k) (watch_in k) next Choice.Own ≡ Some ask → MayWait ask ⊎ ((answer : Answer) → MayAnswer v.core ask answer → IsFruitless v.core k ask answer)
+IsStuck v k next = (request : Request) → request_by v (want_in k) (watch_in k) next Choice.Own ≡ Some request → MayWait request ⊎ ((answer : Reply) → MayAnswer v.core request answer → IsFruitless v.core k request answer)
 
 -- ---- what a worker has done
 
 -- The core is where its items lead, and they fit what was listed for it.
-pub record IsAtWork (plan : Plan) (stimuli : List CoreStimuli) (core : Seat) : Type 0 where
-  pub seated : IsSeated plan stimuli core
+pub record IsAtWork (plan : Plan) (stimuli : List CoreStimuli) (core : CoreRun) : Type 0 where
+  pub seated : IsCoreRun plan stimuli core
   pub fits : FitsCore plan stimuli core.id core.items.items
 
 -- A look whose answer results in no item after these.
@@ -131,7 +131,7 @@ pub record IsMailed (v : View) (h : History) (sent taken : Streams) (refusal : R
   pub refused : IsRefused v h refusal
 
 -- All of it.
-pub record HasDone (plan : Plan) (stimuli : List CoreStimuli) (core : Seat) (made : Calls) (sent taken : Streams) (refusal : Refusal) (loads : ℕ) : Type 0 where
+pub record HasDone (plan : Plan) (stimuli : List CoreStimuli) (core : CoreRun) (made : Calls) (sent taken : Streams) (refusal : Refusal) (loads : ℕ) : Type 0 where
   pub work : IsAtWork plan stimuli core
   pub calls : AreCalls (view_of plan core.id) core.items.items made loads
   pub mail : IsMailed (view_of plan core.id) (history_by plan core.id core.items.items) sent taken refusal
@@ -141,6 +141,17 @@ abbrev pub HasWorked : {M : Type 0} → (M → Streams) → (M → Streams) → 
 HasWorked sent taken stimuli refusal loads w = HasDone w.run.now.config.now stimuli w.core (made_from w.seats) (sent w.mail) (taken w.mail) refusal loads
 
 -- ---- a turn
+
+-- There is room for one more item, its lines and its clock.
+pub record MayTake {M : Type 0} (w : Worker M) : Type 0 where
+  pub core : HasRoomForItem w.core
+  pub clocks : vec_len w.stamps.clocks < vec_capacity w.stamps.clocks
+
+-- The worker is of the same run and the same core, and has the same end of the mail.
+pub record IsSameWorker {M E : Type 0} (which : M → E) (old new : Worker M) : Type 0 where
+  pub run : new.run ≡ old.run
+  pub id : new.core.id ≡ old.core.id
+  pub end : which new.mail ≡ which old.mail
 
 abbrev pub refusal_of : Turned → Refusal
 refusal_of Took = None
@@ -163,7 +174,7 @@ abbrev pub UnlessTook : Turned → Type 0 → Type 0
 UnlessTook Took P = Unit {0}
 UnlessTook turned P = P
 
--- The worker's core can do nothing by itself.
+-- The worker's core can do nothing alone.
 abbrev pub HasNoWork : {M : Type 0} → Worker M → Type 0
 HasNoWork w = IsStuck (view_of w.run.now.config.now w.core.id) w.core.kernel (slice_get w.core.stimuli.now 0)
 
@@ -176,7 +187,7 @@ refusal_at Stop.NoMemory = None
 refusal_at Stop.Told = None
 refusal_at (Stop.Refused from e) = Some (from, e)
 
--- The worker stopped since an allocation failed, or since it was told to.
+-- The worker stopped since an allocation failed, or on request.
 abbrev pub was_stopped_by : Stop → Bool
 was_stopped_by Stop.NoMemory = true
 was_stopped_by Stop.Told = true
@@ -199,7 +210,7 @@ is_finished_by Stop.Stalled = true
 is_finished_by stop = false
 
 -- So many turns in a row changed nothing. A round has a turn for each configured core, its own for the core itself, and a look. So the
--- core's calls of the board end with a look for each whole round, and if there was one, the core can do nothing by itself, but for a
+-- core's calls of the board end with a look for each whole round, and if there was one, the core can do nothing alone, but for a
 -- letter that may wait for room in a mailbox, GetSpinlock that may wait for its spinlock, and a release (see `MayWait`).
 pub record HasStalled (plan : Plan) (stimuli : List CoreStimuli) (turns : ℕ) (report : Report) (loads : ℕ) : Type 0 where
   pub rounds : turns / (length (ids_of plan) + 1) ≤ loads

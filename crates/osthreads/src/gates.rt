@@ -2,9 +2,9 @@
 
 use osbase::CoreId;
 
-/// What a program is asked about the workers' threads, and what it does around their turns.
+/// Decisions of a program about the workers' threads, and what it does around their turns.
 pub trait Gate {
-    /// Whether this core's thread may start. It is asked before each start, and `false` counts as a thread that
+    /// Whether this core's thread may start. It is called before each start, and `false` counts as a thread that
     /// could not be started.
     fn starts(&self, core: CoreId) -> bool;
 

@@ -6,8 +6,8 @@ ghost use Rattle.osbase.specs.declared.limits.TheConstants.{MAILBOX};
 ghost use Rattle.osbase.specs.declared.messages.MailKind.TheVariants.{Locked};
 ghost use Rattle.std.specs.List.{AllByRecursion, list_all, list_any};
 ghost use Rattle.osplan.specs.Stimuli.{AreKnown};
-ghost use Rattle.osturn.specs.Fits.{ids_of};
-ghost use Rattle.osturn.specs.Sound.{AreSound};
+ghost use Rattle.osrun.specs.Fits.{ids_of};
+ghost use Rattle.osrun.specs.Sound.{AreSound};
 ghost use Rattle.osthreads.specs.declared.ending.Ending.{Ending as EndingValue};
 ghost use Rattle.osthreads.specs.Runs.{AreFinished, new_board, new_spins};
 ghost use Rattle.osthreads.specs.declared.runs.ThreadReason.TheVariants.{NoMemory, NoThread};
@@ -26,8 +26,8 @@ use osbase::{CoreId, List, MAILBOX, MailKind, Report, Stimuli};
 use osboard::{Board, BoardSeat};
 use osmail::{LockedMail, RingEnd, RingMail};
 use osplan::Config;
+use osrun::ids_of;
 use osspin::{Clocks, SpinBank, SpinSeat};
-use osturn::ids_of;
 use std::alloc::{AllocError, Global};
 use std::collections::VecDeque;
 use std::sync::Wait;
@@ -35,16 +35,16 @@ use std::sync::atomic::AtomicBool;
 use std::thread::Threads;
 use thiserror::Error;
 
-/// Why a threaded run is none.
+/// Why a threaded run failed.
 #[derive(Clone, Copy, Debug, PartialEq, Eq, Error)]
 pub enum ThreadReason {
     /// An allocation failed before the threads started. There is nothing to report.
     #[error("out of memory")]
     NotBegun,
-    /// An allocation failed before a worker's turn. All workers were told to stop, and their reports fit one another.
+    /// An allocation failed before a worker's turn. All workers stopped, and their reports fit one another.
     #[error("out of memory")]
     NoMemory,
-    /// A thread could not be started. All workers were told to stop, and their reports fit one another; that of a core
+    /// A thread could not be started. All workers stopped, and their reports fit one another; that of a core
     /// without a thread is empty.
     #[error("a thread could not be started")]
     NoThread,
@@ -53,7 +53,7 @@ pub enum ThreadReason {
     MailBreak,
 }
 
-/// Why a threaded run is none, and a report for each configured core, by ascending core, unless nothing was begun. Each
+/// Why a threaded run failed, and a report for each configured core, by ascending core, unless nothing was begun. Each
 /// says what its own items say.
 #[derive(Debug, Drop, Error)]
 #[error("{reason}")]
@@ -75,7 +75,7 @@ struct Prepared {
     returned: Returned,
 }
 
-// The mail of a run: mailboxes under locks, of which each core makes its end, and rings, whose ends are made. One of the two
+// The mail of a run: mailboxes under locks, each core making its own end, or rings, whose ends are made. One of the two
 // is empty.
 #[derive(Drop)]
 struct RunMail {
@@ -302,7 +302,7 @@ fn reason_in(joined: &Joined) -> Option<ThreadReason>
     None
 }
 
-// Whether some worker stopped since an allocation failed, or since it was told to.
+// Whether some worker stopped since an allocation failed, or on request.
 fn was_stopped(endings: &[Ending]) -> bool
     ensures { result ≡ list_any (λ (e : EndingValue). was_stopped_by e.stop) endings.now }
 {

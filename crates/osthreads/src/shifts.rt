@@ -1,16 +1,15 @@
 //! One core's worker: turn by turn, until its core has ended or its turns change nothing any more.
 
-ghost use Rattle.std.specs.Prelude.{◌≡◌, ◌+◌, ◌<◌, ◌≤◌, [], IsSome, IfNone, IfSome, List, length, vec_len, vec_capacity};
+ghost use Rattle.std.specs.Prelude.{◌≡◌, ◌+◌, ◌<◌, [], IsSome, IfNone, IfSome, List, length};
 ghost use Rattle.osbase.specs.declared.references.CoreId.{CoreId as CoreIdValue};
 ghost use Rattle.osbase.specs.declared.turns.CoreStimuli.{CoreStimuli as CoreStimuliValue};
 ghost use Rattle.osplan.specs.View.{core_of};
-ghost use Rattle.oskernel.specs.declared.kernel.TheConstants.{STEP_MARKS};
-ghost use Rattle.osturn.specs.Fits.{ids_of};
-ghost use Rattle.osturn.specs.Seats.{report_of};
-ghost use Rattle.osturn.specs.Asking.{no_calls};
+ghost use Rattle.osrun.specs.Fits.{ids_of};
+ghost use Rattle.osrun.specs.CoreRuns.{report_of};
+ghost use Rattle.osrun.specs.Requests.{no_calls};
 ghost use Rattle.osthreads.specs.Seats.{AreAt, made_from, shared};
 ghost use Rattle.osthreads.specs.Rounds.{IsGoing, IsStopped, loads_at, next_at};
-ghost use Rattle.osthreads.specs.Working.{HasNoWork, IsWorked, Turns, UnlessTook};
+ghost use Rattle.osthreads.specs.Working.{HasNoWork, IsSameWorker, IsWorked, MayTake, Turns, UnlessTook};
 
 use crate::gates::Gate;
 use crate::run::Run;
@@ -19,9 +18,8 @@ use crate::stamps::Stamps;
 use crate::turns::{Stop, Turned};
 use crate::worker::{Shift, Worked, Worker};
 use osbase::CoreId;
-use oskernel::STEP_MARKS;
 use osmail::Mail;
-use osturn::Seat;
+use osrun::CoreRun;
 use std::alloc::Global;
 use std::sync::Wait;
 use std::sync::atomic::Ordering;
@@ -41,18 +39,14 @@ impl<'a, M: Mail> Shift<'a, M> {
 
     // The turn at this place of the round.
     fn turn(&mut self) -> Turned
-        requires items { vec_len self.old.worker.core.items < vec_capacity self.old.worker.core.items }
-        requires marks { vec_len self.old.worker.core.marks + STEP_MARKS ≤ vec_capacity self.old.worker.core.marks }
-        requires clocks { vec_len self.old.worker.stamps.clocks < vec_capacity self.old.worker.stamps.clocks }
+        requires room { MayTake self.old.worker }
         requires mail { M.has_room self.old.worker.mail }
         ensures turns { Turns M.sent M.taken (loads_at (length self.old.worker.run.now.cores.now) self.old.at) result self.old.worker self.new.worker }
         ensures core { UnlessTook result (self.new.worker.core ≡ self.old.worker.core) }
         ensures stuck { self.old.at + 1 ≡ length self.old.worker.run.now.cores.now → UnlessTook result (HasNoWork self.old.worker) }
-        ensures run { self.new.worker.run ≡ self.old.worker.run }
-        ensures id { self.new.worker.core.id ≡ self.old.worker.core.id }
         ensures at { self.new.at ≡ self.old.at }
         ensures fruitless { self.new.fruitless ≡ self.old.fruitless }
-        ensures which { M.which self.new.worker.mail ≡ M.which self.old.worker.mail }
+        ensures same { IsSameWorker M.which self.old.worker self.new.worker }
     {
         let cores = self.worker.run.cores.len();
         if self.at >= cores {
@@ -97,12 +91,10 @@ impl<'a, M: Mail> Shift<'a, M> {
     }
 
     // One turn more, and why the worker stops, if it does.
-    fn go_on<R: Wait, G: Gate>(&mut self, rt: &R, gate: &G) -> Option<Stop>
+    fn play_turn<R: Wait, G: Gate>(&mut self, rt: &R, gate: &G) -> Option<Stop>
         ensures none { IfNone result ((stimuli : List CoreStimuliValue) → IsGoing M.sent M.taken stimuli self.old → IsGoing M.sent M.taken stimuli self.new) }
         ensures some { IfSome result (λ stop. (stimuli : List CoreStimuliValue) → IsGoing M.sent M.taken stimuli self.old → IsStopped M.sent M.taken stimuli stop self.new) }
-        ensures run { self.new.worker.run ≡ self.old.worker.run }
-        ensures id { self.new.worker.core.id ≡ self.old.worker.core.id }
-        ensures which { M.which self.new.worker.mail ≡ M.which self.old.worker.mail }
+        ensures same { IsSameWorker M.which self.old.worker self.new.worker }
     {
         if self.worker.run.told.load(Ordering::SeqCst) {
             return Some(Stop::Told);
@@ -163,7 +155,7 @@ impl<'a, M: Mail> Shift<'a, M> {
 }
 
 /// The worker of one core. In rounds it serves every other core by ascending number, does its core's own work and looks
-/// at the board, until its core has ended, so many turns in a row changed nothing, an allocation failed, it was told
+/// at the board, until its core has ended, so many turns in a row changed nothing, an allocation failed, it was
 /// to stop, or it took an envelope that its core cannot take. One whose allocation failed tells the others to stop.
 pub fn core_worker<'a, R: Wait, M: Mail, G: Gate>(
     rt: &R,
@@ -184,8 +176,8 @@ pub fn core_worker<'a, R: Wait, M: Mail, G: Gate>(
     ensures which { M.which result.mail ≡ M.which mail }
 {
     let _plan = run.config.plan();
-    let core = Seat::new(alloc, run.config, seats.board.core(), run.stimuli);
-    let stamps = Stamps::new(alloc, run.clocks, core.items.capacity());
+    let core = CoreRun::new(alloc, run.config, seats.board.core(), run.stimuli);
+    let stamps = Stamps::new(alloc, run.clocks, core.items.capacity().saturating_mul(2));
     let mut shift = Shift {
         worker: Worker {
             run,
@@ -198,7 +190,7 @@ pub fn core_worker<'a, R: Wait, M: Mail, G: Gate>(
         fruitless: 0,
     };
     for _ in rt.forever() {
-        if let Some(stop) = shift.go_on(rt, gate) {
+        if let Some(stop) = shift.play_turn(rt, gate) {
             return shift.hand_back(stop);
         }
     }

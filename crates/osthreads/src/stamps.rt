@@ -6,13 +6,13 @@
 ghost use Rattle.std.specs.Prelude.{◌≡◌, ◌<◌, OnOk, vec_len, vec_capacity};
 ghost use Rattle.osbase.specs.declared.limits.TheConstants.{SPINLOCKS};
 ghost use Rattle.osspin.specs.Clocked.{IsKnown};
-ghost use Rattle.osturn.specs.Asking.{spin_call_of};
+ghost use Rattle.osrun.specs.Requests.{spin_call_of};
 
 use osbase::{Item, List};
 use osboard::BoardCall;
 use oskernel::SpinWish;
+use osrun::roomy;
 use osspin::{ClockSeat, Clocked, Clocks};
-use osturn::roomy;
 use std::alloc::{AllocError, Global};
 
 /// The clocks of a core's items so far. The core's number is that of its last item.
@@ -83,7 +83,7 @@ impl<'a> Stamps<'a> {
         self.clocks.push_reserved(self.number);
     }
 
-    /// After a call that changed the board, by what it found there: who started a core, or asked for a shutdown, before.
+    /// After a call that changed the board, by what it found there: who started a core, or requested a shutdown, before.
     pub fn after_board(&mut self, call: BoardCall)
         ensures { self.new.clocks ≡ self.old.clocks }
     {

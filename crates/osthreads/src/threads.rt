@@ -94,7 +94,7 @@ fn work_by_locks<R: Wait, G: Gate>(
     }
 }
 
-// Starts the thread of a core, if nobody was told to stop, the gate lets it start, and one can be had. Else all are told to stop,
+// Starts the thread of a core, if no worker is to stop, the gate lets it start, and the system has one. Else all are to stop,
 // and the core's worker stops before its first turn, on this thread.
 fn start<'s, E, R: Threads + Wait + Sync, G: Gate + Sync>(
     rt: &'s R,
@@ -156,7 +156,7 @@ fn start<'s, E, R: Threads + Wait + Sync, G: Gate + Sync>(
     }
 }
 
-// The last core's outfit, which is ready as all of them are.
+// The last core's outfit; it is ready, as all of them are.
 fn last_outfit(run: &Run<'_>, outfits: &mut Vec<Outfit>) -> Option<Outfit>
     requires { AreReady run.now.config.now run.now.cores.now (shared run.now.board.now run.now.bank.now) outfits.old.items }
     ensures outfit { IfSome result (λ last. IsReady run.now.config.now run.now.cores.now (shared run.now.board.now run.now.bank.now) last) }

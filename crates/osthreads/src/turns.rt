@@ -22,7 +22,7 @@ pub enum Stop {
     Stalled,
     /// An allocation failed before a turn.
     NoMemory,
-    /// It was told to stop before its next turn, since another worker had no memory or some thread could not be started.
+    /// It stopped before its next turn on request, since another worker had no memory or some thread could not be started.
     Told,
     /// This letter was taken from that core, and the own core could not take it.
     Refused(CoreId, Letter),

@@ -15,7 +15,7 @@ use std::time::Duration;
 pub const AWAKE: u64 = 64;
 
 // So many times it sleeps after each further round, and then after each so many rounds, so that a worker that waits for
-// nothing comes to the end of its turns.
+// nothing reaches the end of its turns.
 const OFTEN: u64 = 256;
 
 const SELDOM: u64 = 2048;
@@ -68,8 +68,8 @@ impl Wakers {
         }
     }
 
-    /// After so many whole rounds in a row in which this core found nothing to do. At first it only goes on; then it says that
-    /// it waits, looks for what came before in one round more, and sleeps for a bounded time after each further one.
+    /// After so many whole rounds in a row in which this core found nothing to do. At first it only continues. Then it announces
+    /// that it waits, looks for what came before in one round more, and sleeps for a bounded time after each further one.
     pub fn rest<R: Wait>(&self, rt: &R, core: CoreId, rounds: u64) {
         if rounds < AWAKE {
             return;

@@ -8,14 +8,14 @@ use crate::seats::Seats;
 use crate::stamps::Stamps;
 use crate::turns::Stop;
 use osbase::Report;
-use osturn::Seat;
+use osrun::CoreRun;
 
 /// A core at work: what it took and printed, its seats at what the cores share, its end of the mail, and the clocks of its
 /// items.
 #[derive(Drop)]
 pub struct Worker<'a, M> {
     pub run: &'a Run<'a>,
-    pub core: Seat<'a>,
+    pub core: CoreRun<'a>,
     pub seats: Seats,
     pub mail: M,
     pub stamps: Stamps<'a>,

@@ -6,17 +6,17 @@ use Rattle.osbase.specs.declared.references.CounterRef.{CounterRef}
 use Rattle.osbase.specs.declared.references.TableRef.{TableRef}
 use Rattle.osbase.specs.Sets.{numbers_from}
 use Rattle.osplan.specs.declared.plans.Core.{Core}
-use Rattle.osplan.specs.Objects.{greatest_posted, posted_at_once}
+use Rattle.osplan.specs.Objects.{most_posts_of_table, most_posts_per_tick}
 use Rattle.osclock.specs.Clocks.{alarm_refs, attached_to, counter_ref}
 use Rattle.osclock.proofs.Portions.{attached-portions}
 use Rattle.osstate.specs.State.{KernelState}
 use Rattle.ostable.specs.Tables.{table_refs, timed_by}
 use Rattle.ostable.proofs.Portions.{sum-of-plans, timed-portions}
 use Rattle.ostable.proofs.Sums.{sum-both}
-use Rattle.osdue.specs.Advancing.{posted_at_point, posted_by, posted_for, posts_by}
-use Rattle.osdue.proofs.Postings.{sum-of-alarms}
+use Rattle.osexpiry.specs.Advancing.{posted_at_point, posted_by, posted_for, posts_by}
+use Rattle.osexpiry.proofs.Postings.{sum-of-alarms}
 
--- ---- how much the counters before a place come to
+-- ---- how much the counters before a place add up to
 
 abbrev pub total : (ℕ → ℕ) → ℕ → ℕ
 total f place = sum_by f (numbers_from 0 place)
@@ -90,7 +90,7 @@ alarms-posted core place =
       length-filter (posts_by core) (alarm_refs core),
     )
 
-pub posted-within : (core : Core) (place : ℕ) → total (posted_at core) place ≤ posted_at_once core
+pub posted-within : (core : Core) (place : ℕ) → total (posted_at core) place ≤ most_posts_per_tick core
 posted-within core place =
     omega (
       arith,
@@ -98,5 +98,5 @@ posted-within core place =
       alarms-posted core place,
       sum-of-alarms core,
       timed-portions core (posted_at_point core) place,
-      sum-of-plans core (greatest_posted core),
+      sum-of-plans core (most_posts_of_table core),
     )

@@ -5,11 +5,11 @@ use Rattle.osbase.specs.Phases.{is_going}
 use Rattle.osplan.specs.declared.plans.Core.{Core}
 use Rattle.osplan.specs.declared.plans.Counter.{Counter}
 use Rattle.osclock.specs.Clocks.{counter_ref}
-use Rattle.osact.specs.Acts.{Acts, both, in_turn, look, nothing, prints, when}
-use Rattle.osdue.specs.Advancing.{counts}
+use Rattle.osservice.specs.Acts.{Acts, both, in_turn, look, nothing, prints, when}
+use Rattle.osexpiry.specs.Advancing.{counts}
 use Rattle.ostick.specs.Faults.{protects}
 
--- A counter of the core goes on by one, if it is a hardware counter, and what is due by it acts.
+-- A counter of the core is incremented, if it is a hardware counter, and what expires by it acts.
 -- [OSEK/VDX OS 2.2.3, section 9.1; AUTOSAR SWS OS 4.x, OsCounterType]
 abbrev pub counts_if_hardware : Core → ℕ → Counter → Acts
 counts_if_hardware core n counter = when counter.software nothing (counts (counter_ref core n))
@@ -26,7 +26,7 @@ counts_unless_down = look (λ s. when (is_going s.course) counts_each nothing)
 abbrev pub ticks : Acts
 ticks = both (prints Mark.Tick) (both (look (λ s. protects s s.running)) counts_unless_down)
 
--- How many entries and marks the counters of a core add at a tick at most: 8 counts, 3 of each of 32 alarms, and 38, of which 36 are marks,
+-- How many entries and marks the counters of a core add at a tick at most: 8 counts, 3 of each of 32 alarms, and 38 (36 of them marks)
 -- of each of 8 tables.
 abbrev pub counted_entries : ℕ
 counted_entries = 408

@@ -3,8 +3,8 @@
 ghost use Rattle.std.specs.Prelude.{◌≡◌, IsTrue};
 ghost use Rattle.osjobs.specs.Priorities.{is_own_runner};
 ghost use Rattle.osstate.specs.Does.{Effects, HasRoom, Reads};
-ghost use Rattle.osact.specs.Acts.{does, look};
-ghost use Rattle.osact.specs.Seen.{seen_of};
+ghost use Rattle.osservice.specs.Acts.{does, look};
+ghost use Rattle.osservice.specs.Seen.{seen_of};
 ghost use Rattle.ostick.specs.Faults.{answers_fault, ends_by_force, faults_with, fault_of, protects};
 
 use osbase::{Mark, Runner, Status};

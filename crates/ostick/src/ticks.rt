@@ -2,11 +2,11 @@
 
 ghost use Rattle.std.specs.Prelude.{◌+◌, ◌≤◌, IsTrue, length};
 ghost use Rattle.osbase.specs.Objects.{counter_object};
-ghost use Rattle.osplan.specs.Objects.{is_own_object, posted_at_once};
+ghost use Rattle.osplan.specs.Objects.{is_own_object, most_posts_per_tick};
 ghost use Rattle.osstate.specs.Does.{Effects, service_entries, service_marks};
-ghost use Rattle.osact.specs.Terms.{MayPost};
-ghost use Rattle.osact.specs.Acts.{does, nothing, when};
-ghost use Rattle.osdue.specs.Advancing.{count_entries, count_marks, counts, posted_by};
+ghost use Rattle.osservice.specs.Terms.{MayPost};
+ghost use Rattle.osservice.specs.Acts.{does, nothing, when};
+ghost use Rattle.osexpiry.specs.Advancing.{count_entries, count_marks, counts, posted_by};
 ghost use Rattle.ostick.specs.Ticks.{counted_entries, counted_marks, counts_each, ticks};
 
 use crate::faults::protect;
@@ -15,13 +15,13 @@ use osplan::Counter;
 use osstate::CoreState;
 
 /// A tick: its line, by which the running job has used one tick of its budget; what follows if that was the last one; and, unless the
-/// core is down by it, each hardware counter of the core goes on by one, in index order, and what is due by it acts (OSEK/VDX OS
+/// core is down by it, each hardware counter of the core is incremented, in index order, and what expires by it acts (OSEK/VDX OS
 /// 2.2.3, section 9.1).
 pub fn tick<const P: usize, const J: usize, const OUT: usize>(
     state: &mut CoreState<'_, P, J, OUT>,
     marks: &mut Vec<Mark>,
 )
-    requires { MayPost (posted_at_once state.old.view.own) OUT service_entries service_marks state.old marks.old }
+    requires { MayPost (most_posts_per_tick state.old.view.own) OUT service_entries service_marks state.old marks.old }
     ensures { Effects service_entries service_marks (does ticks) state.old state.new marks.old marks.new }
 {
     state.tick(marks);
@@ -31,12 +31,12 @@ pub fn tick<const P: usize, const J: usize, const OUT: usize>(
     }
 }
 
-// Each hardware counter goes on by one.
+// Each hardware counter is incremented.
 fn count_each<const P: usize, const J: usize, const OUT: usize>(
     state: &mut CoreState<'_, P, J, OUT>,
     marks: &mut Vec<Mark>,
 )
-    requires { MayPost (posted_at_once state.old.view.own) OUT counted_entries counted_marks state.old marks.old }
+    requires { MayPost (most_posts_per_tick state.old.view.own) OUT counted_entries counted_marks state.old marks.old }
     ensures { Effects counted_entries counted_marks (does counts_each) state.old state.new marks.old marks.new }
 {
     let core = state.id();
@@ -62,6 +62,6 @@ fn count_by_tick<const P: usize, const J: usize, const OUT: usize>(
     ensures outbox { length state.new.border.outbox ≤ length state.old.border.outbox + posted_by state.old.view.own reference }
 {
     if !counter.software {
-        osdue::advance(state, reference, marks);
+        osexpiry::advance(state, reference, marks);
     }
 }

@@ -6,8 +6,8 @@ use Rattle.std.specs.List.{list_all, prefix_len}
 use Rattle.std.proofs.lemmas.Bool.{and_parts, cases_lt, lt-ltb, ne_eqb}
 use Rattle.std.proofs.lemmas.Bool.Decides.{nat_tests}
 use Rattle.std.proofs.lemmas.Fmt.{decimal_digit, decimal_step}
-use Rattle.osgiven.specs.Word.{core_number, digit_of}
-use Rattle.osgiven.specs.Given.{digits_in}
+use Rattle.osinput.specs.Word.{core_number, digit_of}
+use Rattle.osinput.specs.Given.{digits_in}
 
 digit-back : (d : ℕ) → d < 10 → digit_of (48 + d) ≡ Some d
 digit-back d low =

@@ -1,11 +1,11 @@
--- How what several calls gathered comes to what one text is.
+-- What several calls gathered is one text.
 use Rattle.std.proofs.Common.{◌≡◌, ◌+◌, ℕ, List, [], ◌∷◌, ◌++◌, Option, Result, Ok, Err, take, drop, refl, sym, ap, ◌∙◌, append_assoc, append-nil, subst, take-append-drop, arith, codes}
 use Rattle.std.proofs.lemmas.Grind.{flat_map-append}
 use Rattle.std.specs.List.{flat_map}
 use Rattle.std.specs.Result.{IsErr}
 use Rattle.ostrace.specs.Gathers.{Gathers, Sends}
 use Rattle.ostrace.specs.Taken.{Writes}
-use Rattle.ostext.specs.Trace.{led, spaced}
+use Rattle.ostrace_text.specs.Trace.{led, spaced}
 use Rattle.ostrace.proofs.Writing.{Appends-nothing, Appends-then, Writes-then, Wrote}
 
 -- a text was gathered, and no write failed

@@ -15,8 +15,8 @@ use Rattle.osbase.specs.declared.turns.Choice.{Choice}
 use Rattle.osbase.specs.declared.turns.Choice.TheVariants.{Own, Serve, Look}
 use Rattle.osbase.specs.History.{same_core}
 use Rattle.osbase.proofs.Same.{same_core-true}
-use Rattle.osforms.proofs.Joining.{not-byte}
-use Rattle.osforms.proofs.Numerals.{own}
+use Rattle.ossyntax.proofs.Joining.{not-byte}
+use Rattle.ossyntax.proofs.Numerals.{own}
 use Rattle.osplan.specs.declared.faults.ConfFault.TheVariants.{Limit, BadSchedule}
 use Rattle.osplan.specs.declared.plans.Core.{Core}
 use Rattle.osplan.specs.declared.plans.Plan.{Plan}
@@ -25,9 +25,9 @@ use Rattle.osplan.specs.Limits.{is_within_limits}
 use Rattle.osplan.specs.View.{core_of}
 use Rattle.osplan.proofs.Numbered.{configured-low}
 use Rattle.osplan.proofs.Tests.{all-weaker, find-holds}
-use Rattle.osread.specs.Reading.{each, parts_of}
-use Rattle.osgiven.specs.Given.{choice_of, core_named, digits_in, meaning_by, schedule_meant, schedule_of_data, schedule_tests, turn_of, turns_of_text}
-use Rattle.ostext.specs.Trace.{led, spaced}
+use Rattle.osjson.specs.Reading.{each, parts_of}
+use Rattle.osinput.specs.Given.{choice_of, core_named, digits_in, meaning_by, schedule_of_text, schedule_of_data, schedule_tests, turn_of, turns_of_text}
+use Rattle.ostrace_text.specs.Trace.{led, spaced}
 use Rattle.ostrace.specs.Schedules.{are_turns_of, choice_word, is_choice_of, is_turn_of, schedule_text, turn_word}
 use Rattle.ostrace.proofs.CoreNumbers.{digits-end, number-back}
 use Rattle.ostrace.proofs.Quoted.{read-quoted}
@@ -174,7 +174,7 @@ module _ (plan : Plan) (limits : IsTrue (is_within_limits plan)) where
       let no_space = turns-all (λ b. not (b == 32)) (λ b. not-byte is_ascii_digit 32 b refl) refl refl refl (turn ∷ turns) h in
       parts-spaced (turn_word turn) (map turn_word turns) (word-some turn) no_space
 
-  pub schedule-back : (turns : List Turn) → IsTrue (are_turns_of plan turns) → length turns ≤ 1000000 → schedule_meant plan (schedule_text turns) ≡ Some turns
+  pub schedule-back : (turns : List Turn) → IsTrue (are_turns_of plan turns) → length turns ≤ 1000000 → schedule_of_text plan (schedule_text turns) ≡ Some turns
   schedule-back turns h few =
       let text = spaced (map turn_word turns) in
       let parts = parts-back turns h in

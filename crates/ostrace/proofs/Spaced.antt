@@ -3,9 +3,9 @@ use Rattle.std.proofs.Common.{◌≡◌, ℕ, ◌==◌, true, not, List, [], ◌
 use Rattle.std.specs.List.{join_with_byte, list_all, slice_split}
 use Rattle.std.proofs.lemmas.Bool.{not-true}
 use Rattle.std.proofs.lemmas.List.{append-nil}
-use Rattle.osforms.proofs.Joining.{has_none, some-more, split-joined}
-use Rattle.osread.specs.Reading.{parts_of}
-use Rattle.ostext.specs.Trace.{led, spaced}
+use Rattle.ossyntax.proofs.Joining.{has_none, some-more, split-joined}
+use Rattle.osjson.specs.Reading.{parts_of}
+use Rattle.ostrace_text.specs.Trace.{led, spaced}
 
 led-joined : (w : List ℕ) (ws : List (List ℕ)) → w ++ led ws ≡ join_with_byte 32 (w ∷ ws)
 led-joined w [] = append-nil w

@@ -1,4 +1,4 @@
--- How what several writes did comes to what one text is.
+-- What several writes wrote is one text.
 use Rattle.std.proofs.Common.{◌≡◌, ◌≢◌, ◌+◌, ◌-◌, ◌<◌, ◌≤◌, ℕ, List, [], ◌++◌, Option, None, Some, Result, Ok, Err, length, take, drop, refl, sym, ap, ◌∙◌, append_assoc, append-nil, arith}
 use Rattle.std.proofs.Math.Seq.{take-add}
 use Rattle.std.proofs.lemmas.List.{take_rest, length-drop}
@@ -50,7 +50,7 @@ module _ {S : Type 0} (taken : S → Option (List ℕ)) (failed : S → ℕ) whe
   pub Writes-ok : {E : Type 0} (old new : S) (text : List ℕ) (done : Unit {0}) → Wrote taken failed old new text → Writes {E = E} taken failed old new text (Ok done)
   Writes-ok old new text done wrote = record { ok = wrote.appends; err = tt; count = omega (arith, wrote.same) }
 
-  -- a write failed after a beginning of the text
+  -- a write failed after a prefix of the text
   pub Writes-stopped : {E : Type 0} (old mid new : S) (text begun rest : List ℕ) (e : E) → begun ++ rest ≡ text → Wrote taken failed old mid begun → Appends (taken mid) (taken new) [] → failed new ≡ failed mid + 1 → Writes taken failed old new text (Err e)
   Writes-stopped old mid new text begun rest e is before nothing counted = record {
     ok = tt;
@@ -89,7 +89,7 @@ module _ {S : Type 0} (taken : S → Option (List ℕ)) (failed : S → ℕ) whe
 
 -- ---- the loop over the bytes of one text
 
--- the rest of the bytes has an element as long as the loop goes on
+-- the rest of the bytes has an element as long as the loop runs
 pub rest_length : (bytes : List ℕ) (at : ℕ) → at < length bytes → 0 < length (take (length bytes - at) (drop at bytes))
 rest_length bytes at more = rw (take_rest bytes at, length-drop at bytes) (omega arith)
 

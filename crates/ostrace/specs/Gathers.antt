@@ -10,7 +10,7 @@ pub record Sends (old new : Option (List ℕ)) (text left : List ℕ) : Type 0 w
   pub takes : Appends old new sent
 
 -- A call gathered a text after what was gathered before: at `Ok` the sink has all of both up to what is gathered
--- now, and at `Err` it has a beginning of both, up to the first failed write.
+-- now, and at `Err` it has a prefix of both, up to the first failed write.
 -- `taken` and `failed` are what the sink's type says of it.
 pub record Gathers {S E : Type 0} (taken : S → Option (List ℕ)) (failed : S → ℕ) (old new : S) (before after text : List ℕ)
     (result : Result Unit E) : Type 0 where

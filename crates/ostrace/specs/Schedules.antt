@@ -8,7 +8,7 @@ use Rattle.osbase.specs.declared.turns.Choice.TheVariants.{Own, Serve, Look}
 use Rattle.osbase.specs.History.{same_core}
 use Rattle.osplan.specs.declared.plans.Plan.{Plan}
 use Rattle.osplan.specs.View.{core_of}
-use Rattle.ostext.specs.Trace.{spaced}
+use Rattle.ostrace_text.specs.Trace.{spaced}
 
 -- `o` is Own, `l` is Look, and `s` with the number of the served core is Serve.
 abbrev pub choice_word : Choice → List ℕ

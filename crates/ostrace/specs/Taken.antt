@@ -15,7 +15,7 @@ count_after failed result bytes = failed + (if is_failed_write result bytes then
 abbrev pub bytes_taken : Option ℕ → List ℕ → List ℕ
 bytes_taken result bytes = take (unwrap_or result 0) bytes
 
--- The sink took a beginning of the text, and nothing else.
+-- The sink took a prefix of the text, and nothing else.
 pub record TakesBeginning (old new : Option (List ℕ)) (text : List ℕ) : Type 0 where
   pub begun : List ℕ
   pub rest : List ℕ
@@ -27,7 +27,7 @@ abbrev pub failures : {E : Type 0} → Result Unit E → ℕ
 failures (Ok x) = 0
 failures (Err e) = 1
 
--- A call wrote a text to a sink: all of it at `Ok`, and a beginning of it up to the first failed write
+-- A call wrote a text to a sink: all of it at `Ok`, and a prefix of it up to the first failed write
 -- at `Err`.
 -- `taken` and `failed` are what the sink's type says of it.
 pub record Writes {S E : Type 0} (taken : S → Option (List ℕ)) (failed : S → ℕ) (old new : S) (text : List ℕ)

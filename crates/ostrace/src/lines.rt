@@ -4,12 +4,12 @@ ghost use Rattle.std.specs.Prelude.{◌≡◌, ◌^◌, ◌<◌, ◌++◌, ◌�
 ghost use Rattle.std.specs.Fmt.{decimal, signed_decimal};
 ghost use Rattle.osbase.specs.Words.{service_name, status_name};
 ghost use Rattle.oscript.specs.Rows.{form_view, items, word_of};
-ghost use Rattle.osforms.specs.Call.{form_words};
-ghost use Rattle.osforms.specs.Form.{arg_text};
-ghost use Rattle.osforms.specs.Operation.{named};
+ghost use Rattle.ossyntax.specs.Call.{form_words};
+ghost use Rattle.ossyntax.specs.ParsedOp.{arg_text};
+ghost use Rattle.ossyntax.specs.Operation.{named};
 ghost use Rattle.ostrace.specs.Gathers.{Gathers};
 ghost use Rattle.osplan.specs.Names.{isr_name, name_of, runner_name, table_name, task_name};
-ghost use Rattle.ostext.specs.Trace.{call_words, led, line_of, spaced, value_words, variable_name};
+ghost use Rattle.ostrace_text.specs.Trace.{call_words, led, line_of, spaced, value_words, variable_name};
 
 use crate::gathered::Gathered;
 use crate::sinks::{Sink, WriteFailed};
@@ -17,8 +17,8 @@ use crate::words::{write_led_signed, write_led_text, write_led_variable, write_l
 use osbase::{
     CoreId, IsrRef, Mark, Place, RemoteCall, Runner, ServiceId, Status, TableRef, TaskRef, Variable,
 };
-use oscript::{Arg, Args, Form, Verb, form_of_op, op_of_call, row_of};
-use ostext::BlockNames;
+use oscript::{Arg, Args, ParsedOp, Verb, op_of_call, parsed_op_of, row_of};
+use ostrace_text::BlockNames;
 
 #[inline]
 fn write_led_core<S: Sink>(
@@ -350,7 +350,7 @@ fn write_call<S: Sink>(
     ensures { Gathers S.taken S.failed out.old out.new gathered.old gathered.new
         (led (call_words names.now call)) result }
 {
-    write_form(out, gathered, names, form_of_op(op_of_call(call)))
+    write_form(out, gathered, names, parsed_op_of(op_of_call(call)))
 }
 
 // No call is in sight here, so that no goal is split by calls.
@@ -358,7 +358,7 @@ fn write_form<S: Sink>(
     out: &mut S,
     gathered: &mut Gathered,
     names: &BlockNames,
-    form: Form<Place>,
+    form: ParsedOp<Place>,
 ) -> Result<(), WriteFailed>
     requires { S.failed out.old < 2 ^ 48 }
     ensures { Gathers S.taken S.failed out.old out.new gathered.old gathered.new

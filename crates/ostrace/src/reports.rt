@@ -4,14 +4,14 @@ ghost use Rattle.std.specs.Prelude.{◌≡◌, ◌+◌, ◌^◌, ◌<◌, ◌++�
 ghost use Rattle.std.specs.Io.KnownBytes.{Appends};
 ghost use Rattle.ostrace.specs.Gathers.{Gathers};
 ghost use Rattle.ostrace.specs.Taken.{failures, TakesBeginning, Writes};
-ghost use Rattle.ostext.specs.Trace.{block_of, line_end, line_of, lines_of, text_of, title_of};
+ghost use Rattle.ostrace_text.specs.Trace.{block_of, line_end, line_of, lines_of, text_of, title_of};
 
 use crate::gathered::Gathered;
 use crate::lines::{write_line, write_verb_and_core};
 use crate::sinks::{Sink, WriteFailed};
 use osbase::{CoreId, Mark, Report};
 use osplan::{Config, Plan};
-use ostext::BlockNames;
+use ostrace_text::BlockNames;
 
 fn write_ended_title<S: Sink>(
     out: &mut S,
@@ -99,7 +99,7 @@ fn write_blocks<S: Sink>(plan: &Plan, out: &mut S, reports: &[Report]) -> Result
 }
 
 /// Writes the blocks of the reports in their order, and stops at the first write that fails: then
-/// the sink has a beginning of the text. It takes no memory.
+/// the sink has a prefix of the text. It takes no memory.
 pub fn write_reports<S: Sink>(
     config: &Config,
     out: &mut S,

@@ -3,8 +3,8 @@
 ghost use Rattle.std.specs.Prelude.{◌≡◌, ◌≤◌, ◌++◌, IfOk, IsTrue, OnOk, Some, length, map, string_bytes};
 ghost use Rattle.osplan.specs.declared.plans.Plan.{Plan};
 ghost use Rattle.osplan.specs.Limits.{is_within_limits};
-ghost use Rattle.ostext.specs.Trace.{led, spaced};
-ghost use Rattle.osgiven.specs.Given.{schedule_meant};
+ghost use Rattle.ostrace_text.specs.Trace.{led, spaced};
+ghost use Rattle.osinput.specs.Given.{schedule_of_text};
 ghost use Rattle.ostrace.specs.Schedules.{are_turns_of, choice_word, schedule_text, turn_word};
 
 use itoa::Buffer;
@@ -61,7 +61,7 @@ pub fn schedule_text(alloc: Global, turns: &[Turn]) -> Result<String, AllocError
     ensures text { IfOk result (λ text. string_bytes text ≡ schedule_text turns.now) }
     // Where they are turns of a configuration, and no more than a schedule may have, the text means just these.
     ensures reads_back { IfOk result (λ text. (plan : Plan) → IsTrue (is_within_limits plan) → IsTrue (are_turns_of plan turns.now)
-        → length turns.now ≤ 1000000 → schedule_meant plan (string_bytes text) ≡ Some turns.now) }
+        → length turns.now ≤ 1000000 → schedule_of_text plan (string_bytes text) ≡ Some turns.now) }
 {
     let mut text = String::new(alloc);
     text.push_str("\"")?;

@@ -90,11 +90,11 @@ fn is_failed(taken: Option<usize>, bytes: &[u8]) -> bool
     }
 }
 
-/// Takes all bytes into memory. Want of memory is a failed write.
+/// Takes all bytes into memory. A failed allocation is a failed write.
 #[derive(Drop)]
 pub struct MemorySink {
     pub bytes: Vec<u8>,
-    /// How many writes failed for want of memory: below 2^48 as long as the sink is written to.
+    /// How many writes failed because memory ran out: below 2^48 as long as the sink is written to.
     pub failed: u64,
 }
 

@@ -5,7 +5,7 @@ ghost use Rattle.std.specs.Fmt.{decimal, signed_decimal};
 ghost use Rattle.ostrace.specs.Taken.{Writes};
 ghost use Rattle.ostrace.specs.Gathers.{Gathers};
 ghost use Rattle.ostrace.specs.Pieces.{led_text, word_text};
-ghost use Rattle.ostext.specs.Trace.{led, line_end};
+ghost use Rattle.ostrace_text.specs.Trace.{led, line_end};
 
 use crate::gathered::Gathered;
 use crate::sinks::{Sink, WriteFailed};

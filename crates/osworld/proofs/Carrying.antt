@@ -17,22 +17,22 @@ use Rattle.std.proofs.Math.Bool.{and-true}
 use Rattle.osbase.proofs.Same.{same_core-true}
 use Rattle.oskernel.specs.Step.{after, history_from}
 use Rattle.oskernel.specs.Wants.{front_of}
-use Rattle.osturn.specs.declared.asks.Ask.{Ask}
+use Rattle.osrun.specs.declared.requests.Request.{Request}
 use Rattle.osworld.specs.World.{World, appends, history_in}
-use Rattle.osworld.specs.Answering.{carried, IsPlaced}
+use Rattle.osworld.specs.Answering.{mail_after, IsPlaced}
 use Rattle.osworld.specs.Playing.{IsMail, waiting}
 use Rattle.osworld.proofs.Listed.{items_by, list_of, list_of-same, list_of-other}
-use Rattle.osturn.proofs.Longer.{history_from-push}
-use Rattle.osturn.proofs.Streams.{is_post_to, is_from, posted-after, received-after}
+use Rattle.osrun.proofs.Longer.{history_from-push}
+use Rattle.osrun.proofs.Streams.{is_post_to, is_from, posted-after, received-after}
 use Rattle.osworld.proofs.Waiting.{box-changed, front-drop, waiting-shorter}
 
 pub and_false : {A : Type 0} (b : Bool) (x y : A) → cond (b && false) x y ≡ y
 and_false true x y = refl
 and_false false x y = refl
 
-module _ (plan : Plan) (w : World) (core : CoreId) (ask : Ask) (item : Item) (p : CoreId × List Item) (listed : list_of core w.items ≡ Some p) where
+module _ (plan : Plan) (w : World) (core : CoreId) (request : Request) (item : Item) (p : CoreId × List Item) (listed : list_of core w.items ≡ Some p) where
   abbrev pub next : World
-  next = appends plan w core ask item
+  next = appends plan w core request item
 
   pub history-same : history_in plan next core ≡ after (view_of plan core) (history_in plan w core) item
   history-same =
@@ -87,19 +87,19 @@ module _ (plan : Plan) (w : World) (core : CoreId) (ask : Ask) (item : Item) (p 
       (λ from to. received-in from to ∙ ap (λ (b : Bool). cond (b && same_core core to) (suc (takes_in from to)) (takes_in from to)) (no_receipt from))
 
 -- a post: the outbox's front joins its stream, and its mailbox
-module _ (plan : Plan) (w : World) (core to : CoreId) (ask : Ask) (p : CoreId × List Item) (listed : list_of core w.items ≡ Some p) (mail : Mail) (m : IsMail plan w mail) (known : core.number < CORES) (placed : IsPlaced mail core (Item.Posted to)) where
+module _ (plan : Plan) (w : World) (core to : CoreId) (request : Request) (p : CoreId × List Item) (listed : list_of core w.items ≡ Some p) (mail : Mail) (m : IsMail plan w mail) (known : core.number < CORES) (placed : IsPlaced mail core (Item.Posted to)) where
   abbrev posts : World
-  posts = appends plan w core ask (Item.Posted to)
+  posts = appends plan w core request (Item.Posted to)
 
   abbrev with_front : Letter → Mail
   with_front e = with_box mail core to (box_of mail core to ++ e ∷ [])
 
   module _ (e : Letter) (ahead : front_letter (outbox (history_in plan w core)) ≡ e ∷ []) where
     sent : (c d : CoreId) → posted d (history_in plan posts c) ≡ cond (same_core core c && same_core to d) (posted d (history_in plan w c) ++ e ∷ []) (posted d (history_in plan w c))
-    sent c d = posted-in plan w core ask (Item.Posted to) p listed c d ∙ ap (λ (xs : List Letter). cond (same_core core c && same_core to d) (posted d (history_in plan w c) ++ xs) (posted d (history_in plan w c))) ahead
+    sent c d = posted-in plan w core request (Item.Posted to) p listed c d ∙ ap (λ (xs : List Letter). cond (same_core core c && same_core to d) (posted d (history_in plan w c) ++ xs) (posted d (history_in plan w c))) ahead
 
     got : (c d : CoreId) → received_count c (history_in plan posts d) ≡ received_count c (history_in plan w d)
-    got c d = received-in plan w core ask (Item.Posted to) p listed c d
+    got c d = received-in plan w core request (Item.Posted to) p listed c d
 
     box : (c d : CoreId) → c.number < CORES → d.number < CORES → box_of (with_front e) c d ≡ waiting plan posts c d
     box c d c-known d-known =
@@ -129,16 +129,16 @@ module _ (plan : Plan) (w : World) (core to : CoreId) (ask : Ask) (p : CoreId ×
     sends_on : IsMail plan posts (with_front e)
     sends_on = record { cap = m.cap; places = length-set mail.boxes _ _ ∙ m.places; boxes = box; order = order }
 
-  pub posting_on : IsMail plan posts (carried core (front_of (outbox (history_in plan w core))) (Item.Posted to) mail)
+  pub posting_on : IsMail plan posts (mail_after core (front_of (outbox (history_in plan w core))) (Item.Posted to) mail)
   posting_on = by (outbox (history_in plan w core)) refl
     where
-      by : (out : List Sent) → outbox (history_in plan w core) ≡ out → IsMail plan posts (carried core (front_of out) (Item.Posted to) mail)
+      by : (out : List Sent) → outbox (history_in plan w core) ≡ out → IsMail plan posts (mail_after core (front_of out) (Item.Posted to) mail)
       by [] e =
-          unmoved plan w core ask (Item.Posted to) p listed mail m
-          (λ c d. posted-in plan w core ask (Item.Posted to) p listed c d
+          unmoved plan w core request (Item.Posted to) p listed mail m
+          (λ c d. posted-in plan w core request (Item.Posted to) p listed c d
           ∙ ap (λ (sends : List Sent). cond (same_core core c && same_core to d) (posted d (history_in plan w c) ++ front_letter sends) (posted d (history_in plan w c))) e
           ∙ none (same_core core c && same_core to d) (posted d (history_in plan w c)))
-          (λ c d. received-in plan w core ask (Item.Posted to) p listed c d)
+          (λ c d. received-in plan w core request (Item.Posted to) p listed c d)
         where
           none : (b : Bool) (xs : List Letter) → cond b (xs ++ []) xs ≡ xs
           none true xs = append-nil xs
@@ -146,9 +146,9 @@ module _ (plan : Plan) (w : World) (core to : CoreId) (ask : Ask) (p : CoreId ×
       by (s ∷ ss) e = subst (λ (b : Bool). IsMail plan posts (cond b (with_front s.letter) mail)) (sym placed.1) (sends_on s.letter (ap front_letter e))
 
 -- a receipt: the oldest envelope leaves its mailbox
-module _ (plan : Plan) (w : World) (core from : CoreId) (ask : Ask) (number : ℕ) (message : Message) (p : CoreId × List Item) (listed : list_of core w.items ≡ Some p) (mail : Mail) (m : IsMail plan w mail) (known : core.number < CORES) (placed : IsPlaced mail core (Item.Received from number message)) where
+module _ (plan : Plan) (w : World) (core from : CoreId) (request : Request) (number : ℕ) (message : Message) (p : CoreId × List Item) (listed : list_of core w.items ≡ Some p) (mail : Mail) (m : IsMail plan w mail) (known : core.number < CORES) (placed : IsPlaced mail core (Item.Received from number message)) where
   abbrev receives : World
-  receives = appends plan w core ask (Item.Received from number message)
+  receives = appends plan w core request (Item.Received from number message)
 
   -- what stands in front is the next one
   some : suc (received_count from (history_in plan w core)) ≤ length (posted core (history_in plan w from))
@@ -163,10 +163,10 @@ module _ (plan : Plan) (w : World) (core from : CoreId) (ask : Ask) (number : �
           omega arith
 
   sent_as_before : (c d : CoreId) → posted d (history_in plan receives c) ≡ posted d (history_in plan w c)
-  sent_as_before c d = posted-in plan w core ask (Item.Received from number message) p listed c d ∙ and_false (same_core core c) _ _
+  sent_as_before c d = posted-in plan w core request (Item.Received from number message) p listed c d ∙ and_false (same_core core c) _ _
 
   one_more_got : (c d : CoreId) → received_count c (history_in plan receives d) ≡ cond (same_core from c && same_core core d) (suc (received_count c (history_in plan w d))) (received_count c (history_in plan w d))
-  one_more_got c d = received-in plan w core ask (Item.Received from number message) p listed c d
+  one_more_got c d = received-in plan w core request (Item.Received from number message) p listed c d
 
   box_after : (c d : CoreId) → c.number < CORES → d.number < CORES → box_of (after_take mail from core) c d ≡ waiting plan receives c d
   box_after c d c-known d-known =
@@ -200,7 +200,7 @@ module _ (plan : Plan) (w : World) (core from : CoreId) (ask : Ask) (number : �
   receiving_on = record { cap = m.cap; places = length-set mail.boxes _ _ ∙ m.places; boxes = box_after; order = order_after }
 
 -- whatever the item is, the mailboxes hold what is on its way
-pub carries_on : (plan : Plan) (w : World) (core : CoreId) (ask : Ask) (item : Item) (p : CoreId × List Item) → list_of core w.items ≡ Some p → (mail : Mail) → IsMail plan w mail → core.number < CORES → IsPlaced mail core item → IsMail plan (appends plan w core ask item) (carried core (front_of (outbox (history_in plan w core))) item mail)
-carries_on plan w core ask (Item.Posted to) p listed mail m known placed = posting_on plan w core to ask p listed mail m known placed
-carries_on plan w core ask (Item.Received from number message) p listed mail m known placed = receiving_on plan w core from ask number message p listed mail m known placed
-carries_on plan w core ask item p listed mail m known placed = aside plan w core ask item p listed mail m (λ d. refl) (λ s. refl)
+pub carries_on : (plan : Plan) (w : World) (core : CoreId) (request : Request) (item : Item) (p : CoreId × List Item) → list_of core w.items ≡ Some p → (mail : Mail) → IsMail plan w mail → core.number < CORES → IsPlaced mail core item → IsMail plan (appends plan w core request item) (mail_after core (front_of (outbox (history_in plan w core))) item mail)
+carries_on plan w core request (Item.Posted to) p listed mail m known placed = posting_on plan w core to request p listed mail m known placed
+carries_on plan w core request (Item.Received from number message) p listed mail m known placed = receiving_on plan w core from request number message p listed mail m known placed
+carries_on plan w core request item p listed mail m known placed = aside plan w core request item p listed mail m (λ d. refl) (λ s. refl)

@@ -1,4 +1,5 @@
 -- Every world fits: what it was before a turn did, and so does what the turn appends.
+use mathlib.Core.List.{IsPrefix}
 use Rattle.std.proofs.Common.{◌≡◌, Bool, true, false, ◌&&◌, cond, Option, Some, List, [], ◌∷◌, ◌++◌, refl, sym, ap, subst, ◌∙◌, append-nil}
 use Rattle.std.specs.List.{slice_get}
 use Rattle.std.proofs.lemmas.Bool.{false≢true}
@@ -14,25 +15,25 @@ use Rattle.osplan.specs.View.{view_of}
 use Rattle.osstate.specs.State.{state_of}
 use Rattle.std.proofs.Math.Bool.{and-true}
 use Rattle.osbase.proofs.Same.{same_core-true}
-use Rattle.osseat.specs.Histories.{IsLegal, entry}
-use Rattle.osseat.proofs.Steps.{legal_snoc}
+use Rattle.osshared.specs.Histories.{IsLegal, entry}
+use Rattle.osshared.proofs.Steps.{legal_snoc}
 use Rattle.osboard.specs.Boards.{board_reply, first_board, one_board}
 use Rattle.osspin.specs.Spins.{no_holders, spin_reply, spinlocks}
-use Rattle.osturn.specs.declared.asks.Ask.{Ask}
-use Rattle.osturn.specs.declared.asks.Ask.TheVariants.{OfBoard, OfSpins}
-use Rattle.osturn.specs.Asking.{Calls, calls_of, joined, no_calls, spin_call_of, told_by}
-use Rattle.osturn.specs.Fits.{FitsBy, ids_of, AreAnswered, Fits, FitsCore, IsBeginning}
-use Rattle.osworld.specs.World.{World, answer_in, appends, board_in, first_world, history_in, holders_in, items_in, next_stimulus, world}
-use Rattle.osturn.proofs.Beginnings.{begins-longer, begins-next, begins-through}
+use Rattle.osrun.specs.declared.requests.Request.{Request}
+use Rattle.osrun.specs.declared.requests.Request.TheVariants.{OfBoard, OfSpins}
+use Rattle.osrun.specs.Requests.{Calls, calls_of, joined, no_calls, spin_call_of, call_of_turn}
+use Rattle.osrun.specs.Fits.{FitsBy, ids_of, AreAnswered, Fits, FitsCore}
+use Rattle.osworld.specs.World.{World, reply_in, appends, board_in, first_world, history_in, holders_in, items_in, next_stimulus, world}
+use Rattle.osrun.proofs.Beginnings.{begins-longer, begins-next, begins-through}
 use Rattle.osworld.proofs.Listed.{items_by, list_of-same, list_of-other}
-use Rattle.osturn.proofs.Longer.{length-stimuli_in, IsInTurn, core-on}
-use Rattle.osturn.proofs.Streams.{is_from, is_post_to, received_letter, length-received, received-is}
+use Rattle.osrun.proofs.Longer.{length-stimuli_in, IsInTurn, core-on}
+use Rattle.osrun.proofs.Streams.{is_from, is_post_to, received_letter, length-received, received-is}
 use Rattle.osworld.proofs.Carrying.{and_false, history-same, history-other, posted-in}
 use Rattle.osworld.proofs.Started.{no_history, nothing_of}
 use Rattle.osworld.proofs.Turns.{Appends, turns-keep}
 use Rattle.osworld.proofs.Fitting.{IsNext, follows}
-use Rattle.osturn.proofs.Asked.{IsOwnAsk, asks-own}
-use Rattle.osturn.proofs.Answered.{answered-push, calls_of-joined, joined-none, told-other, told-own}
+use Rattle.osrun.proofs.Asked.{IsOwnRequest, asks-own}
+use Rattle.osrun.proofs.Answered.{answered-push, calls_of-joined, joined-none, told-other, told-own}
 
 -- the world's lists fit by its own calls of the board
 abbrev WorldFits : Plan → List CoreStimuli → World → Type 0
@@ -52,13 +53,13 @@ in-turn plan stimuli w core Item.Drained next = λ going. ap (slice_get (stimuli
 in-turn plan stimuli w core item next = tt
 
 -- a world in which a turn appended an item
-module _ (plan : Plan) (stimuli : List CoreStimuli) (w : World) (fits : WorldFits plan stimuli w) (core : CoreId) (ask : Ask) (item : Item) (p : CoreId × List Item) (turn : Appends plan stimuli w core ask item p) where
+module _ (plan : Plan) (stimuli : List CoreStimuli) (w : World) (fits : WorldFits plan stimuli w) (core : CoreId) (request : Request) (item : Item) (p : CoreId × List Item) (turn : Appends plan stimuli w core request item p) where
   abbrev next : World
-  next = appends plan w core ask item
+  next = appends plan w core request item
 
   follows-on : IsNext plan stimuli w core item
-  follows-on = follows plan stimuli w core _ ask item
-      (subst (IsOwnAsk (view_of plan core) (state_of (view_of plan core) (history_in plan w core)) (next_stimulus stimuli w core)) turn.asks (asks-own (view_of plan core) (state_of (view_of plan core) (history_in plan w core)) _ turn.choice)) turn.names
+  follows-on = follows plan stimuli w core _ request item
+      (subst (IsOwnRequest (view_of plan core) (state_of (view_of plan core) (history_in plan w core)) (next_stimulus stimuli w core)) turn.asks (asks-own (view_of plan core) (state_of (view_of plan core) (history_in plan w core)) _ turn.choice)) turn.names
 
   items-same : items_in next core ≡ items_in w core ++ item ∷ []
   items-same = ap items_by (list_of-same core item w.items p turn.listed) ∙ ap (λ (o : Option (CoreId × List Item)). items_by o ++ item ∷ []) (sym turn.listed)
@@ -81,48 +82,48 @@ module _ (plan : Plan) (stimuli : List CoreStimuli) (w : World) (fits : WorldFit
       by : (b : Bool) → same_core core to ≡ b → received from (history_in plan next to) ≡ cond (is_from item from && b) (received from (history_in plan w to) ++ received_letter item) (received from (history_in plan w to))
       by true e =
           subst (λ (c : CoreId). received from (history_in plan next c) ≡ cond (is_from item from && true) (received from (history_in plan w c) ++ received_letter item) (received from (history_in plan w c))) (same_core-true core to e)
-          (ap (received from) (history-same plan w core ask item p turn.listed) ∙ received-is (view_of plan core) from item (history_in plan w core)
+          (ap (received from) (history-same plan w core request item p turn.listed) ∙ received-is (view_of plan core) from item (history_in plan w core)
           ∙ ap (λ (b : Bool). cond b (received from (history_in plan w core) ++ received_letter item) (received from (history_in plan w core))) (sym (and-true (is_from item from))))
-      by false e = ap (received from) (history-other plan w core ask item p turn.listed to e) ∙ sym (and_false (is_from item from) _ _)
+      by false e = ap (received from) (history-other plan w core request item p turn.listed to e) ∙ sym (and_false (is_from item from) _ _)
 
-  streams-on : (from to : CoreId) → IsBeginning (received from (history_in plan next to)) (posted to (history_in plan next from))
+  streams-on : (from to : CoreId) → IsPrefix (received from (history_in plan next to)) (posted to (history_in plan next from))
   streams-on from to =
-      subst (λ (xs : List Letter). IsBeginning xs (posted to (history_in plan next from))) (sym (received-in from to))
-      (subst (λ (ys : List Letter). IsBeginning (cond (is_from item from && same_core core to) (received from (history_in plan w to) ++ received_letter item) (received from (history_in plan w to))) ys) (sym (posted-in plan w core ask item p turn.listed from to))
+      subst (λ (xs : List Letter). IsPrefix xs (posted to (history_in plan next from))) (sym (received-in from to))
+      (subst (λ (ys : List Letter). IsPrefix (cond (is_from item from && same_core core to) (received from (history_in plan w to) ++ received_letter item) (received from (history_in plan w to))) ys) (sym (posted-in plan w core request item p turn.listed from to))
       (by (is_from item from) (same_core core to) refl refl))
     where
       front : List Letter
       front = front_letter (outbox (history_in plan w core))
 
-      longer : (b : Bool) → IsBeginning (received from (history_in plan w to)) (cond b (posted to (history_in plan w from) ++ front) (posted to (history_in plan w from)))
+      longer : (b : Bool) → IsPrefix (received from (history_in plan w to)) (cond b (posted to (history_in plan w from) ++ front) (posted to (history_in plan w from)))
       longer true = begins-through _ _ _ (fits.streams from to) (begins-longer (posted to (history_in plan w from)) front)
       longer false = fits.streams from to
 
-      got : (c : CoreId) → same_core core c ≡ true → is_from item from ≡ true → IsBeginning (received from (history_in plan w c) ++ received_letter item) (cond (same_core core from && is_post_to item c) (posted c (history_in plan w from) ++ front) (posted c (history_in plan w from)))
+      got : (c : CoreId) → same_core core c ≡ true → is_from item from ≡ true → IsPrefix (received from (history_in plan w c) ++ received_letter item) (cond (same_core core from && is_post_to item c) (posted c (history_in plan w from) ++ front) (posted c (history_in plan w from)))
       got c here is =
-          subst (λ (c : CoreId). IsBeginning (received from (history_in plan w c) ++ received_letter item) (cond (same_core core from && is_post_to item c) (posted c (history_in plan w from) ++ front) (posted c (history_in plan w from)))) (same_core-true core c here)
+          subst (λ (c : CoreId). IsPrefix (received from (history_in plan w c) ++ received_letter item) (cond (same_core core from && is_post_to item c) (posted c (history_in plan w from) ++ front) (posted c (history_in plan w from)))) (same_core-true core c here)
           (let e = next-letter plan stimuli w core from item is follows-on in
-          subst (λ (b : Bool). IsBeginning (received from (history_in plan w core) ++ received_letter item) (cond (same_core core from && b) (posted core (history_in plan w from) ++ front) (posted core (history_in plan w from)))) (sym (e.3 core))
-          (subst (λ (ys : List Letter). IsBeginning (received from (history_in plan w core) ++ received_letter item) ys) (sym (and_false (same_core core from) (posted core (history_in plan w from) ++ front) (posted core (history_in plan w from))))
-          (subst (λ (xs : List Letter). IsBeginning (received from (history_in plan w core) ++ xs) (posted core (history_in plan w from))) (sym e.1)
+          subst (λ (b : Bool). IsPrefix (received from (history_in plan w core) ++ received_letter item) (cond (same_core core from && b) (posted core (history_in plan w from) ++ front) (posted core (history_in plan w from)))) (sym (e.3 core))
+          (subst (λ (ys : List Letter). IsPrefix (received from (history_in plan w core) ++ received_letter item) ys) (sym (and_false (same_core core from) (posted core (history_in plan w from) ++ front) (posted core (history_in plan w from))))
+          (subst (λ (xs : List Letter). IsPrefix (received from (history_in plan w core) ++ xs) (posted core (history_in plan w from))) (sym e.1)
           (begins-next (received from (history_in plan w core)) (posted core (history_in plan w from)) e.0 (fits.streams from core)
           (ap (slice_get (posted core (history_in plan w from))) (length-received from (history_in plan w core)) ∙ e.2)))))
 
-      by : (a b : Bool) → is_from item from ≡ a → same_core core to ≡ b → IsBeginning (cond (a && b) (received from (history_in plan w to) ++ received_letter item) (received from (history_in plan w to))) (cond (same_core core from && is_post_to item to) (posted to (history_in plan w from) ++ front) (posted to (history_in plan w from)))
+      by : (a b : Bool) → is_from item from ≡ a → same_core core to ≡ b → IsPrefix (cond (a && b) (received from (history_in plan w to) ++ received_letter item) (received from (history_in plan w to))) (cond (same_core core from && is_post_to item to) (posted to (history_in plan w from) ++ front) (posted to (history_in plan w from)))
       by true true is here = got to here is
       by true false is here = longer (same_core core from && is_post_to item to)
       by false b is here = longer (same_core core from && is_post_to item to)
 
   abbrev calls : Calls
-  calls = told_by core ask (answer_in plan w core ask)
+  calls = call_of_turn core request (reply_in plan w core request)
 
-  board-on : (ask : Ask) → IsLegal one_board plan.master (w.calls.board ++ (told_by core ask (answer_in plan w core ask)).board)
+  board-on : (request : Request) → IsLegal one_board plan.master (w.calls.board ++ (call_of_turn core request (reply_in plan w core request)).board)
   board-on (OfBoard call) = legal_snoc one_board (first_board plan.master) w.calls.board (entry core call (board_reply core call (board_in plan w))) fits.board refl
-  board-on ask = subst (IsLegal one_board plan.master) (sym (append-nil w.calls.board)) fits.board
+  board-on request = subst (IsLegal one_board plan.master) (sym (append-nil w.calls.board)) fits.board
 
-  spins-on : (ask : Ask) → IsLegal spinlocks tt (w.calls.spins ++ (told_by core ask (answer_in plan w core ask)).spins)
+  spins-on : (request : Request) → IsLegal spinlocks tt (w.calls.spins ++ (call_of_turn core request (reply_in plan w core request)).spins)
   spins-on (OfSpins wish) = legal_snoc spinlocks no_holders w.calls.spins (entry core (spin_call_of wish) (spin_reply core (spin_call_of wish) (holders_in w))) fits.spins refl
-  spins-on ask = subst (IsLegal spinlocks tt) (sym (append-nil w.calls.spins)) fits.spins
+  spins-on request = subst (IsLegal spinlocks tt) (sym (append-nil w.calls.spins)) fits.spins
 
   answers-on : (id : CoreId) → AreAnswered (view_of plan id) [] (items_in next id) (calls_of id next.calls)
   answers-on id = subst (λ (es : Calls). AreAnswered (view_of plan id) [] (items_in next id) es) (sym (calls_of-joined id w.calls calls)) (by (same_core core id) refl)
@@ -131,19 +132,19 @@ module _ (plan : Plan) (stimuli : List CoreStimuli) (w : World) (fits : WorldFit
       by true e =
           subst (λ (c : CoreId). AreAnswered (view_of plan c) [] (items_in next c) (joined (calls_of c w.calls) (calls_of c calls))) (same_core-true core id e)
           (subst (λ (xs : List Item). AreAnswered (view_of plan core) [] xs (joined (calls_of core w.calls) (calls_of core calls))) (sym items-same)
-          (subst (λ (es : Calls). AreAnswered (view_of plan core) [] (items_in w core ++ item ∷ []) (joined (calls_of core w.calls) es)) (sym (told-own core ask (answer_in plan w core ask)))
-          (answered-push (view_of plan core) [] (items_in w core) (calls_of core w.calls) ask (answer_in plan w core ask) item (fits.answers core) (record { choice = turn.choice; next = next_stimulus stimuli w core; asks = turn.asks; names = turn.names }))))
+          (subst (λ (es : Calls). AreAnswered (view_of plan core) [] (items_in w core ++ item ∷ []) (joined (calls_of core w.calls) es)) (sym (told-own core request (reply_in plan w core request)))
+          (answered-push (view_of plan core) [] (items_in w core) (calls_of core w.calls) request (reply_in plan w core request) item (fits.answers core) (record { choice = turn.choice; next = next_stimulus stimuli w core; asks = turn.asks; names = turn.names }))))
       by false e =
           subst (λ (xs : List Item). AreAnswered (view_of plan id) [] xs (joined (calls_of id w.calls) (calls_of id calls))) (sym (items-other id e))
-          (subst (λ (es : Calls). AreAnswered (view_of plan id) [] (items_in w id) es) (sym (ap (λ (es : Calls). joined (calls_of id w.calls) es) (told-other id core ask (answer_in plan w core ask) e) ∙ joined-none (calls_of id w.calls))) (fits.answers id))
+          (subst (λ (es : Calls). AreAnswered (view_of plan id) [] (items_in w id) es) (sym (ap (λ (es : Calls). joined (calls_of id w.calls) es) (told-other id core request (reply_in plan w core request) e) ∙ joined-none (calls_of id w.calls))) (fits.answers id))
 
   fits_on : WorldFits plan stimuli next
-  fits_on = record { cores = cores-on; streams = streams-on; board = board-on ask; spins = spins-on ask; answers = answers-on }
+  fits_on = record { cores = cores-on; streams = streams-on; board = board-on request; spins = spins-on request; answers = answers-on }
 
 first-fits : (plan : Plan) (stimuli : List CoreStimuli) → WorldFits plan stimuli (first_world plan)
 first-fits plan stimuli = record {
   cores = λ id. subst (FitsCore plan stimuli id) (sym (nothing_of plan id (ids_of plan))) (record { alone = refl; begins = (stimuli_of stimuli id, refl); drains = λ drained going. absurd (false≢true drained) });
-  streams = λ from to. subst (λ (h : History). IsBeginning (received from h) (posted to (history_in plan (first_world plan) from))) (sym (no_history plan to)) (posted to (history_in plan (first_world plan) from), refl);
+  streams = λ from to. subst (λ (h : History). IsPrefix (received from h) (posted to (history_in plan (first_world plan) from))) (sym (no_history plan to)) (posted to (history_in plan (first_world plan) from), refl);
   board = tt;
   spins = tt;
   answers = λ id. subst (λ (xs : List Item). AreAnswered (view_of plan id) [] xs no_calls) (sym (nothing_of plan id (ids_of plan))) refl;
@@ -151,4 +152,4 @@ first-fits plan stimuli = record {
 
 -- every world fits
 pub world_fits : (plan : Plan) (stimuli : List CoreStimuli) (turns : List (CoreId × Choice)) → Fits plan stimuli (world plan stimuli turns).items
-world_fits plan stimuli turns = ((world plan stimuli turns).calls, turns-keep plan stimuli (WorldFits plan stimuli) (λ w core ask item p turn fits. fits_on plan stimuli w fits core ask item p turn) (first_world plan) turns (first-fits plan stimuli))
+world_fits plan stimuli turns = ((world plan stimuli turns).calls, turns-keep plan stimuli (WorldFits plan stimuli) (λ w core request item p turn fits. fits_on plan stimuli w fits core request item p turn) (first_world plan) turns (first-fits plan stimuli))

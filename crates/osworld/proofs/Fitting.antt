@@ -1,4 +1,4 @@
--- Every world fits: what a turn names fits what the cores and the board came to.
+-- Every world fits: a turn's item fits the items of the cores and the calls of the board.
 use Rattle.std.proofs.Common.{◌≡◌, Bool, true, false, Option, Some, None, List, refl}
 use Rattle.std.specs.List.{slice_get}
 use Rattle.osbase.specs.declared.references.CoreId.{CoreId}
@@ -14,14 +14,14 @@ use Rattle.osstate.specs.State.{state_of}
 use Rattle.oskernel.specs.declared.wants.Watch.{Watch}
 use Rattle.osboard.specs.declared.calls.BoardCall.TheVariants.{Drain, Look, LookDrained, LookHalt}
 use Rattle.osspin.specs.Spins.{spin_reply}
-use Rattle.osturn.specs.declared.asks.Ask.{Ask}
-use Rattle.osturn.specs.declared.asks.Ask.TheVariants.{OfBoard, OfSpins, Room, Oldest, StartUnknown, TakeStimulus}
-use Rattle.osturn.specs.declared.asks.Answer.TheVariants.{HasRoom, Found}
-use Rattle.osturn.specs.Asking.{named_by, spin_call_of}
-use Rattle.osworld.specs.World.{World, answer_in, board_in, has_room, history_in, holders_in, items_in, next_stimulus}
-use Rattle.osturn.specs.Seats.{stimulus_count}
-use Rattle.osturn.proofs.Asked.{IsOwnAsk}
-use Rattle.osturn.proofs.Leading.{closing-item, halted-item, is-item, passing-item, spun-item}
+use Rattle.osrun.specs.declared.requests.Request.{Request}
+use Rattle.osrun.specs.declared.requests.Request.TheVariants.{OfBoard, OfSpins, Room, Oldest, StartUnknown, TakeStimulus}
+use Rattle.osrun.specs.declared.requests.Reply.TheVariants.{HasRoom, Found}
+use Rattle.osrun.specs.Requests.{item_by, spin_call_of}
+use Rattle.osworld.specs.World.{World, reply_in, board_in, has_room, history_in, holders_in, items_in, next_stimulus}
+use Rattle.osrun.specs.CoreRuns.{stimulus_count}
+use Rattle.osrun.proofs.Asked.{IsOwnRequest}
+use Rattle.osrun.proofs.Resulting.{drained-item, halt-item, is-item, look-item, spinlock-item}
 
 -- What is known of an item that a turn of this core names.
 abbrev pub IsNext : Plan → List CoreStimuli → World → CoreId → Item → Type 0
@@ -34,21 +34,21 @@ module _ (plan : Plan) (stimuli : List CoreStimuli) (w : World) (id : CoreId) wh
   is : (j i : Item) → Some j ≡ Some i → IsNext plan stimuli w id j → IsNext plan stimuli w id i
   is j i e next = is-item (IsNext plan stimuli w id) j i next e
 
-  pub follows : (watch : Watch) (ask : Ask) (i : Item) → IsOwnAsk (view_of plan id) (state_of (view_of plan id) (history_in plan w id)) (next_stimulus stimuli w id) (Some ask) → named_by id watch ask (answer_in plan w id ask) ≡ Some i → IsNext plan stimuli w id i
-  follows watch (OfBoard Look) i own e = passing-item (IsNext plan stimuli w id) tt (λ agreement. tt) (λ cores. tt) id (board_in plan w).view watch i e
-  follows watch (OfBoard LookDrained) i own e = closing-item (IsNext plan stimuli w id) tt watch (board_in plan w).drained i e
+  pub follows : (watch : Watch) (request : Request) (i : Item) → IsOwnRequest (view_of plan id) (state_of (view_of plan id) (history_in plan w id)) (next_stimulus stimuli w id) (Some request) → item_by id watch request (reply_in plan w id request) ≡ Some i → IsNext plan stimuli w id i
+  follows watch (OfBoard Look) i own e = look-item (IsNext plan stimuli w id) tt (λ agreement. tt) (λ cores. tt) id (board_in plan w).view watch i e
+  follows watch (OfBoard LookDrained) i own e = drained-item (IsNext plan stimuli w id) tt watch (board_in plan w).drained i e
   follows watch (OfBoard Drain) i own e = is Item.Drained i e own
-  follows watch (OfBoard LookHalt) i own e = halted-item (IsNext plan stimuli w id) (λ asked. tt) (λ core status. tt) watch (board_in plan w).halt i e
+  follows watch (OfBoard LookHalt) i own e = halt-item (IsNext plan stimuli w id) (λ asked. tt) (λ core status. tt) watch (board_in plan w).halt i e
   follows watch (OfBoard call) i own e = is _ i e tt
-  follows watch (OfSpins wish) i own e = spun-item (IsNext plan stimuli w id) (λ l. tt) (λ l taken. tt) (λ l. tt) wish (spin_reply id (spin_call_of wish) (holders_in w)) i e
+  follows watch (OfSpins wish) i own e = spinlock-item (IsNext plan stimuli w id) (λ l. tt) (λ l taken. tt) (λ l. tt) wish (spin_reply id (spin_call_of wish) (holders_in w)) i e
   follows watch (Room to) i own e = by (has_room plan w id to) e
     where
-      by : (b : Bool) → named_by id watch (Room to) (HasRoom b) ≡ Some i → IsNext plan stimuli w id i
+      by : (b : Bool) → item_by id watch (Room to) (HasRoom b) ≡ Some i → IsNext plan stimuli w id i
       by true e = is (Item.Posted to) i e tt
       by false e = cc
   follows watch (Oldest from) i own e = by (slice_get (posted id (history_in plan w from)) (received_count from (history_in plan w id))) refl e
     where
-      by : (o : Option Letter) → slice_get (posted id (history_in plan w from)) (received_count from (history_in plan w id)) ≡ o → named_by id watch (Oldest from) (Found o) ≡ Some i → IsNext plan stimuli w id i
+      by : (o : Option Letter) → slice_get (posted id (history_in plan w from)) (received_count from (history_in plan w id)) ≡ o → item_by id watch (Oldest from) (Found o) ≡ Some i → IsNext plan stimuli w id i
       by (Some x) at e = is (Item.Received from x.number x.message) i e at
       by None at e = cc
   follows watch (StartUnknown k) i own e = is _ i e tt

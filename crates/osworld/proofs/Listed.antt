@@ -9,7 +9,7 @@ use Rattle.osbase.specs.declared.references.CoreId.{CoreId}
 use Rattle.osbase.specs.declared.items.Item.{Item}
 use Rattle.osbase.specs.History.{same_core}
 use Rattle.osbase.proofs.Same.{same_core-true}
-use Rattle.osturn.specs.declared.seats.Seat.{Seat}
+use Rattle.osrun.specs.declared.core_runs.CoreRun.{CoreRun}
 use Rattle.osworld.specs.World.{with_item}
 use Rattle.osworld.specs.Playing.{lists_of}
 
@@ -25,8 +25,8 @@ list_of id lists = find (is_of id) lists
 abbrev pub items_by : Option (CoreId × List Item) → List Item
 items_by o = option_map_or (λ (p : CoreId × List Item). p.1) o []
 
-abbrev pub is_seat_of : CoreId → Seat → Bool
-is_seat_of id seat = same_core seat.id id
+abbrev pub is_seat_of : CoreId → CoreRun → Bool
+is_seat_of id core_run = same_core core_run.id id
 
 -- the list that an item is appended to
 pub list_of-same : (id : CoreId) (item : Item) (lists : Lists) (p : CoreId × List Item) → list_of id lists ≡ Some p → list_of id (with_item id item lists) ≡ Some (p.0, p.1 ++ item ∷ [])
@@ -49,34 +49,34 @@ list_of-other id other item (q ∷ qs) e = by (is_of id q) refl (list_of-other i
     by false t rest = ap (λ (o : Option (CoreId × List Item)). cond (same_core q.0 other) (Some q) o) rest
 
 -- the lists of the seats, where one seat takes an item
-pub lists_of-set : (id : CoreId) (item : Item) (seats : List Seat) (at : ℕ) (seat d : Seat) → at ≡ position_or_len (is_seat_of id) seats → at < length seats → seat.id ≡ (get_or seats at d).id → seat.items.items ≡ (get_or seats at d).items.items ++ item ∷ [] → with_item id item (lists_of seats) ≡ lists_of (set seats at seat)
-lists_of-set id item [] at seat d e lt same_id taken = absurd (omega arith)
-lists_of-set id item (s ∷ ss) zero seat d e lt same_id taken = by (is_seat_of id s) refl e
+pub lists_of-set : (id : CoreId) (item : Item) (core_runs : List CoreRun) (at : ℕ) (core_run d : CoreRun) → at ≡ position_or_len (is_seat_of id) core_runs → at < length core_runs → core_run.id ≡ (get_or core_runs at d).id → core_run.items.items ≡ (get_or core_runs at d).items.items ++ item ∷ [] → with_item id item (lists_of core_runs) ≡ lists_of (set core_runs at core_run)
+lists_of-set id item [] at core_run d e lt same_id taken = absurd (omega arith)
+lists_of-set id item (s ∷ ss) zero core_run d e lt same_id taken = by (is_seat_of id s) refl e
   where
-    by : (b : Bool) → is_seat_of id s ≡ b → zero ≡ cond (not b) (1 + position_or_len (is_seat_of id) ss) 0 → with_item id item (lists_of (s ∷ ss)) ≡ lists_of (seat ∷ ss)
-    by true t e = rw t (ap (λ (p : CoreId × List Item). p ∷ lists_of ss) (ap (λ (i : CoreId). (i, s.items.items ++ item ∷ [])) (sym same_id) ∙ ap (λ (xs : List Item). (seat.id, xs)) (sym taken)))
+    by : (b : Bool) → is_seat_of id s ≡ b → zero ≡ cond (not b) (1 + position_or_len (is_seat_of id) ss) 0 → with_item id item (lists_of (s ∷ ss)) ≡ lists_of (core_run ∷ ss)
+    by true t e = rw t (ap (λ (p : CoreId × List Item). p ∷ lists_of ss) (ap (λ (i : CoreId). (i, s.items.items ++ item ∷ [])) (sym same_id) ∙ ap (λ (xs : List Item). (core_run.id, xs)) (sym taken)))
     by false t e = absurd (omega (arith, e))
-lists_of-set id item (s ∷ ss) (suc at) seat d e lt same_id taken = by (is_seat_of id s) refl e (λ here. lists_of-set id item ss at seat d here (omega arith) same_id taken)
+lists_of-set id item (s ∷ ss) (suc at) core_run d e lt same_id taken = by (is_seat_of id s) refl e (λ here. lists_of-set id item ss at core_run d here (omega arith) same_id taken)
   where
-    by : (b : Bool) → is_seat_of id s ≡ b → suc at ≡ cond (not b) (1 + position_or_len (is_seat_of id) ss) 0 → (at ≡ position_or_len (is_seat_of id) ss → with_item id item (lists_of ss) ≡ lists_of (set ss at seat)) → with_item id item (lists_of (s ∷ ss)) ≡ lists_of (s ∷ set ss at seat)
+    by : (b : Bool) → is_seat_of id s ≡ b → suc at ≡ cond (not b) (1 + position_or_len (is_seat_of id) ss) 0 → (at ≡ position_or_len (is_seat_of id) ss → with_item id item (lists_of ss) ≡ lists_of (set ss at core_run)) → with_item id item (lists_of (s ∷ ss)) ≡ lists_of (s ∷ set ss at core_run)
     by true t e rest = absurd (omega (arith, e))
     by false t e rest = rw t (ap (λ (ps : Lists). (s.id, s.items.items) ∷ ps) (rest (omega (arith, e))))
 
 -- the list of the first seat of this core
-pub list_of-seat : (id : CoreId) (seats : List Seat) (at : ℕ) (d : Seat) → at ≡ position_or_len (is_seat_of id) seats → at < length seats → list_of id (lists_of seats) ≡ Some ((get_or seats at d).id, (get_or seats at d).items.items)
-list_of-seat id [] at d e lt = absurd (omega arith)
-list_of-seat id (s ∷ ss) zero d e lt = by (is_seat_of id s) refl e
+pub list_of-core_run : (id : CoreId) (core_runs : List CoreRun) (at : ℕ) (d : CoreRun) → at ≡ position_or_len (is_seat_of id) core_runs → at < length core_runs → list_of id (lists_of core_runs) ≡ Some ((get_or core_runs at d).id, (get_or core_runs at d).items.items)
+list_of-core_run id [] at d e lt = absurd (omega arith)
+list_of-core_run id (s ∷ ss) zero d e lt = by (is_seat_of id s) refl e
   where
     by : (b : Bool) → is_seat_of id s ≡ b → zero ≡ cond (not b) (1 + position_or_len (is_seat_of id) ss) 0 → list_of id (lists_of (s ∷ ss)) ≡ Some (s.id, s.items.items)
     by true t e = rw t refl
     by false t e = absurd (omega (arith, e))
-list_of-seat id (s ∷ ss) (suc at) d e lt = by (is_seat_of id s) refl e (λ here. list_of-seat id ss at d here (omega arith))
+list_of-core_run id (s ∷ ss) (suc at) d e lt = by (is_seat_of id s) refl e (λ here. list_of-core_run id ss at d here (omega arith))
   where
     by : (b : Bool) → is_seat_of id s ≡ b → suc at ≡ cond (not b) (1 + position_or_len (is_seat_of id) ss) 0 → (at ≡ position_or_len (is_seat_of id) ss → list_of id (lists_of ss) ≡ Some ((get_or ss at d).id, (get_or ss at d).items.items)) → list_of id (lists_of (s ∷ ss)) ≡ Some ((get_or ss at d).id, (get_or ss at d).items.items)
     by true t e rest = absurd (omega (arith, e))
     by false t e rest = rw t (rest (omega (arith, e)))
 
-pub seat_is_of : (id : CoreId) (seats : List Seat) (at : ℕ) (d : Seat) → at ≡ position_or_len (is_seat_of id) seats → at < length seats → same_core (get_or seats at d).id id ≡ true
+pub seat_is_of : (id : CoreId) (core_runs : List CoreRun) (at : ℕ) (d : CoreRun) → at ≡ position_or_len (is_seat_of id) core_runs → at < length core_runs → same_core (get_or core_runs at d).id id ≡ true
 seat_is_of id [] at d e lt = absurd (omega arith)
 seat_is_of id (s ∷ ss) zero d e lt = by (is_seat_of id s) refl e
   where
@@ -90,7 +90,7 @@ seat_is_of id (s ∷ ss) (suc at) d e lt = by (is_seat_of id s) refl e (λ here.
     by false t e rest = rest (omega (arith, e))
 
 -- no seat of this core, no list
-pub list_of-nobody : (id : CoreId) (seats : List Seat) → length seats ≤ position_or_len (is_seat_of id) seats → list_of id (lists_of seats) ≡ None
+pub list_of-nobody : (id : CoreId) (core_runs : List CoreRun) → length core_runs ≤ position_or_len (is_seat_of id) core_runs → list_of id (lists_of core_runs) ≡ None
 list_of-nobody id [] le = refl
 list_of-nobody id (s ∷ ss) le = by (is_seat_of id s) refl le (λ past. list_of-nobody id ss past)
   where
@@ -99,17 +99,17 @@ list_of-nobody id (s ∷ ss) le = by (is_seat_of id s) refl le (λ past. list_of
     by false t le rest = rw t (rest (omega (arith, le)))
 
 -- where a core sits
-pub seat_place : (id : CoreId) (seats : List Seat) (at : ℕ) → position (is_seat_of id) seats ≡ Some at → (at ≡ position_or_len (is_seat_of id) seats) × (at < length seats)
-seat_place id seats at e = by (nat_lt (position_or_len (is_seat_of id) seats) (length seats)) refl e
+pub core_run_place : (id : CoreId) (core_runs : List CoreRun) (at : ℕ) → position (is_seat_of id) core_runs ≡ Some at → (at ≡ position_or_len (is_seat_of id) core_runs) × (at < length core_runs)
+core_run_place id core_runs at e = by (nat_lt (position_or_len (is_seat_of id) core_runs) (length core_runs)) refl e
   where
-    by : (b : Bool) → nat_lt (position_or_len (is_seat_of id) seats) (length seats) ≡ b → cond b (Some (position_or_len (is_seat_of id) seats)) None ≡ Some at → (at ≡ position_or_len (is_seat_of id) seats) × (at < length seats)
-    by true t e = let same : position_or_len (is_seat_of id) seats ≡ at = cc in let below = ltb-true (position_or_len (is_seat_of id) seats) (length seats) t in (sym same, omega arith)
+    by : (b : Bool) → nat_lt (position_or_len (is_seat_of id) core_runs) (length core_runs) ≡ b → cond b (Some (position_or_len (is_seat_of id) core_runs)) None ≡ Some at → (at ≡ position_or_len (is_seat_of id) core_runs) × (at < length core_runs)
+    by true t e = let same : position_or_len (is_seat_of id) core_runs ≡ at = cc in let below = ltb-true (position_or_len (is_seat_of id) core_runs) (length core_runs) t in (sym same, omega arith)
     by false t e = cc
 
-pub seat_nowhere : (id : CoreId) (seats : List Seat) → position (is_seat_of id) seats ≡ None → length seats ≤ position_or_len (is_seat_of id) seats
-seat_nowhere id seats e = by (nat_lt (position_or_len (is_seat_of id) seats) (length seats)) refl e
+pub seat_nowhere : (id : CoreId) (core_runs : List CoreRun) → position (is_seat_of id) core_runs ≡ None → length core_runs ≤ position_or_len (is_seat_of id) core_runs
+seat_nowhere id core_runs e = by (nat_lt (position_or_len (is_seat_of id) core_runs) (length core_runs)) refl e
   where
-    by : (b : Bool) → nat_lt (position_or_len (is_seat_of id) seats) (length seats) ≡ b → cond b (Some (position_or_len (is_seat_of id) seats)) None ≡ None → length seats ≤ position_or_len (is_seat_of id) seats
+    by : (b : Bool) → nat_lt (position_or_len (is_seat_of id) core_runs) (length core_runs) ≡ b → cond b (Some (position_or_len (is_seat_of id) core_runs)) None ≡ None → length core_runs ≤ position_or_len (is_seat_of id) core_runs
     by true t e = cc
     by false t e = grind (arith, nat_tests, t)
 

@@ -10,7 +10,7 @@ use Rattle.osbase.specs.declared.turns.CoreStimuli.{CoreStimuli}
 use Rattle.osbase.specs.declared.turns.Report.{Report}
 use Rattle.osplan.specs.declared.plans.Plan.{Plan}
 use Rattle.osbase.specs.declared.items.Item.{Item}
-use Rattle.osturn.specs.Sound.{IsOwn, lists_in, report_by, unclocked}
+use Rattle.osrun.specs.Sound.{IsOwn, lists_in, report_by, unclocked}
 use Rattle.osworld.specs.World.{world}
 use Rattle.osworld.specs.Runs.{AreReports}
 use Rattle.osworld.proofs.Reported.{by-their-items, reports_by}

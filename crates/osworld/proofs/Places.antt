@@ -9,36 +9,36 @@ use Rattle.std.proofs.Math.Seq.{map-set_same}
 use Rattle.osbase.specs.declared.references.CoreId.{CoreId}
 use Rattle.osbase.specs.declared.limits.TheConstants.{CORES}
 use Rattle.osbase.specs.History.{same_core}
-use Rattle.osturn.specs.declared.seats.Seat.{Seat}
+use Rattle.osrun.specs.declared.core_runs.CoreRun.{CoreRun}
 use Rattle.osworld.proofs.Listed.{is_seat_of}
 
-abbrev pub place_by : List Seat → CoreId → Option ℕ
-place_by seats core = position (is_seat_of core) seats
+abbrev pub place_by : List CoreRun → CoreId → Option ℕ
+place_by core_runs core = position (is_seat_of core) core_runs
 
-numbers : List Seat → List CoreId
-numbers seats = map (λ (s : Seat). s.id) seats
+numbers : List CoreRun → List CoreId
+numbers core_runs = map (λ (s : CoreRun). s.id) core_runs
 
 -- a core sits where its number stands
-first-alike : (core : CoreId) (seats : List Seat) → position_or_len (λ (id : CoreId). same_core id core) (numbers seats) ≡ position_or_len (is_seat_of core) seats
+first-alike : (core : CoreId) (core_runs : List CoreRun) → position_or_len (λ (id : CoreId). same_core id core) (numbers core_runs) ≡ position_or_len (is_seat_of core) core_runs
 unfolding numbers
 first-alike core [] = refl
 first-alike core (s ∷ ss) = ap (λ (n : ℕ). cond (not (same_core s.id core)) (1 + n) 0) (first-alike core ss)
 
-place-alike : (core : CoreId) (seats : List Seat) → position (λ (id : CoreId). same_core id core) (numbers seats) ≡ place_by seats core
+place-alike : (core : CoreId) (core_runs : List CoreRun) → position (λ (id : CoreId). same_core id core) (numbers core_runs) ≡ place_by core_runs core
 unfolding numbers
-place-alike core seats = rw (first-alike core seats, length-map) refl
+place-alike core core_runs = rw (first-alike core core_runs, length-map) refl
 
 -- a seat that keeps its core leaves all places
-pub place_by-set : (seats : List Seat) (at : ℕ) (seat new : Seat) (core : CoreId) → seat ≡ get_or seats at seat → new.id ≡ seat.id → place_by (set seats at new) core ≡ place_by seats core
+pub place_by-set : (core_runs : List CoreRun) (at : ℕ) (core_run new : CoreRun) (core : CoreId) → core_run ≡ get_or core_runs at core_run → new.id ≡ core_run.id → place_by (set core_runs at new) core ≡ place_by core_runs core
 unfolding numbers
-place_by-set seats at seat new core is same =
-    sym (place-alike core (set seats at new))
-    ∙ ap (position (λ (id : CoreId). same_core id core)) (map-set_same (λ (s : Seat). s.id) seats at new seat (same ∙ ap (λ (s : Seat). s.id) is))
-    ∙ place-alike core seats
+place_by-set core_runs at core_run new core is same =
+    sym (place-alike core (set core_runs at new))
+    ∙ ap (position (λ (id : CoreId). same_core id core)) (map-set_same (λ (s : CoreRun). s.id) core_runs at new core_run (same ∙ ap (λ (s : CoreRun). s.id) is))
+    ∙ place-alike core core_runs
 
 -- no core of a number of 16 or above has a seat
-pub place-nowhere : (core : CoreId) (seats : List Seat) → CORES ≤ core.number → None ≡ place_by seats core
-place-nowhere core seats big = rw (past seats) (rw (not_below (length seats)) refl)
+pub place-nowhere : (core : CoreId) (core_runs : List CoreRun) → CORES ≤ core.number → None ≡ place_by core_runs core
+place-nowhere core core_runs big = rw (past core_runs) (rw (not_below (length core_runs)) refl)
   where
     not_below : (n : ℕ) → nat_lt n n ≡ false
     not_below n = grind (arith, nat_tests)
@@ -46,7 +46,7 @@ place-nowhere core seats big = rw (past seats) (rw (not_below (length seats)) re
     apart : (id : CoreId) → id.number < CORES → same_core id core ≡ false
     apart id small = grind (arith, nat_tests)
 
-    past : (seats : List Seat) → position_or_len (is_seat_of core) seats ≡ length seats
+    past : (core_runs : List CoreRun) → position_or_len (is_seat_of core) core_runs ≡ length core_runs
     past [] = refl
     past (s ∷ ss) = rw (apart s.id s.known) (ap (λ (n : ℕ). 1 + n) (past ss) ∙ omega arith)
 
@@ -63,16 +63,16 @@ set-other (x ∷ xs) (suc i) zero v ne = refl
 set-other (x ∷ xs) (suc i) (suc k) v ne = set-other xs i k v (λ e. ne (ap suc e))
 
 -- Below a number each core's place is in the table.
-abbrev pub ArePlaces : ℕ → List (Option ℕ) → List Seat → Type 0
-ArePlaces below places seats = (core : CoreId) → core.number < below → slice_get places core.number ≡ Some (place_by seats core)
+abbrev pub ArePlaces : ℕ → List (Option ℕ) → List CoreRun → Type 0
+ArePlaces below places core_runs = (core : CoreId) → core.number < below → slice_get places core.number ≡ Some (place_by core_runs core)
 
-pub places-more : (places : List (Option ℕ)) (seats : List Seat) (n i : ℕ) (place : Option ℕ) → i ≡ n → n < length places → place ≡ place_by seats (record { number = n }) → ArePlaces n places seats → ArePlaces (n + 1) (set places i place) seats
-places-more places seats n i place at within is are core below = by (nat_eq core.number n) refl
+pub places-more : (places : List (Option ℕ)) (core_runs : List CoreRun) (n i : ℕ) (place : Option ℕ) → i ≡ n → n < length places → place ≡ place_by core_runs (record { number = n }) → ArePlaces n places core_runs → ArePlaces (n + 1) (set places i place) core_runs
+places-more places core_runs n i place at within is are core below = by (nat_eq core.number n) refl
   where
-    by : (b : Bool) → nat_eq core.number n ≡ b → slice_get (set places i place) core.number ≡ Some (place_by seats core)
+    by : (b : Bool) → nat_eq core.number n ≡ b → slice_get (set places i place) core.number ≡ Some (place_by core_runs core)
     by true e =
         let same = eqb-true core.number n e in
-        ap (slice_get (set places i place)) (same ∙ sym at) ∙ set-same places i place (omega arith) ∙ ap Some (is ∙ ap (λ (k : ℕ). place_by seats (record { number = k })) (sym same))
+        ap (slice_get (set places i place)) (same ∙ sym at) ∙ set-same places i place (omega arith) ∙ ap Some (is ∙ ap (λ (k : ℕ). place_by core_runs (record { number = k })) (sym same))
     by false e =
         let other = eqb-false core.number n e in
         set-other places i core.number place (λ here. other (here ∙ at)) ∙ are core (omega arith)

@@ -9,8 +9,8 @@ use Rattle.osbase.specs.declared.references.CoreId.{CoreId}
 use Rattle.osbase.specs.declared.turns.Choice.{Choice}
 use Rattle.osbase.specs.declared.turns.CoreStimuli.{CoreStimuli}
 use Rattle.osplan.specs.declared.plans.Plan.{Plan}
-use Rattle.osworld.specs.declared.answering.Between.{Between}
-use Rattle.osturn.specs.declared.seats.Seat.{Seat}
+use Rattle.osworld.specs.declared.answering.Shared.{Shared}
+use Rattle.osrun.specs.declared.core_runs.CoreRun.{CoreRun}
 use Rattle.osworld.specs.World.{World, turn, world_from, item_total, is_unchanged}
 use Rattle.osworld.specs.Runs.{AppendsAt}
 use Rattle.osworld.specs.Playing.{IsCutShort, IsPlayed, Plays, PlaysTurns, StopsShort}
@@ -25,7 +25,7 @@ Turns = List (CoreId × Choice)
 pub world_from-grows : (plan : Plan) (stimuli : List CoreStimuli) (w : World) (ts : Turns) → item_total w ≤ item_total (world_from plan stimuli w ts)
 world_from-grows plan stimuli w ts =
     turns-keep plan stimuli (λ (next : World). item_total w ≤ item_total next)
-    (λ v core ask item p turn le. let more = total-push core item v.items p turn.listed in omega (arith, more, le)) w ts (omega arith)
+    (λ v core request item p turn le. let more = total-push core item v.items p turn.listed in omega (arith, more, le)) w ts (omega arith)
 
 pub world_from-append : (plan : Plan) (stimuli : List CoreStimuli) (w : World) (ts us : Turns) → world_from plan stimuli w (ts ++ us) ≡ world_from plan stimuli (world_from plan stimuli w ts) us
 world_from-append plan stimuli w [] us = refl
@@ -42,9 +42,9 @@ changed-on a b c first second ab bc is_first is_second = by (nat_eq a b) (nat_eq
     by false false e f = rw (is_first, is_second, e, f) (grind (arith, nat_tests, e, f))
 
 -- turns, and turns after them
-pub played-append : (plan : Plan) (stimuli : List CoreStimuli) (w : World) (ts us : Turns) (first second : Bool) (seats seats' : List Seat) (between between' : Between) → IsPlayed plan stimuli w ts first seats between
-    → ((v : World) → Plays plan stimuli v seats between → IsPlayed plan stimuli v us second seats' between') → IsPlayed plan stimuli w (ts ++ us) (second || first) seats' between'
-played-append plan stimuli w ts us first second seats seats' between between' before next =
+pub played-append : (plan : Plan) (stimuli : List CoreStimuli) (w : World) (ts us : Turns) (first second : Bool) (core_runs core_runs' : List CoreRun) (shared shared' : Shared) → IsPlayed plan stimuli w ts first core_runs shared
+    → ((v : World) → Plays plan stimuli v core_runs shared → IsPlayed plan stimuli v us second core_runs' shared') → IsPlayed plan stimuli w (ts ++ us) (second || first) core_runs' shared'
+played-append plan stimuli w ts us first second core_runs core_runs' shared shared' before next =
     let then = next (world_from plan stimuli w ts) before.plays in
     let joined = world_from-append plan stimuli w ts us in
     record {
@@ -53,25 +53,25 @@ played-append plan stimuli w ts us first second seats seats' between between' be
           (world_from-grows plan stimuli w ts) (world_from-grows plan stimuli (world_from plan stimuli w ts) us) before.tells then.tells);
     }
 
-pub played-more : (plan plan' : Plan) → plan' ≡ plan → (stimuli : List CoreStimuli) (w : World) (turns : Turns) (i : ℕ) (d : CoreId × Choice) (first second : Bool) (seats seats' : List Seat) (between between' : Between) → i < length turns → IsPlayed plan stimuli w (take i turns) first seats between
-    → ((v : World) → Plays plan' stimuli v seats between → IsPlayed plan' stimuli v (get_or turns i d ∷ []) second seats' between') → IsPlayed plan stimuli w (take (i + 1) turns) (second || first) seats' between'
-played-more plan plan' same stimuli w turns i d first second seats seats' between between' lt before next =
-    subst (λ (ts : Turns). IsPlayed plan stimuli w ts (second || first) seats' between')
+pub played-more : (plan plan' : Plan) → plan' ≡ plan → (stimuli : List CoreStimuli) (w : World) (turns : Turns) (i : ℕ) (d : CoreId × Choice) (first second : Bool) (core_runs core_runs' : List CoreRun) (shared shared' : Shared) → i < length turns → IsPlayed plan stimuli w (take i turns) first core_runs shared
+    → ((v : World) → Plays plan' stimuli v core_runs shared → IsPlayed plan' stimuli v (get_or turns i d ∷ []) second core_runs' shared') → IsPlayed plan stimuli w (take (i + 1) turns) (second || first) core_runs' shared'
+played-more plan plan' same stimuli w turns i d first second core_runs core_runs' shared shared' lt before next =
+    subst (λ (ts : Turns). IsPlayed plan stimuli w ts (second || first) core_runs' shared')
     (sym (take_more turns i d lt))
-    (played-append plan stimuli w (take i turns) (get_or turns i d ∷ []) first second seats seats' between between' before
-    (subst (λ (p : Plan). (v : World) → Plays p stimuli v seats between → IsPlayed p stimuli v (get_or turns i d ∷ []) second seats' between') same next))
+    (played-append plan stimuli w (take i turns) (get_or turns i d ∷ []) first second core_runs core_runs' shared shared' before
+    (subst (λ (p : Plan). (v : World) → Plays p stimuli v core_runs shared → IsPlayed p stimuli v (get_or turns i d ∷ []) second core_runs' shared') same next))
 
-pub cut-before : (plan plan' : Plan) → plan' ≡ plan → (stimuli : List CoreStimuli) (w : World) (turns : Turns) (i : ℕ) (d : CoreId × Choice) (changed : Bool) (seats seats' : List Seat) (between between' : Between) → i < length turns → IsPlayed plan stimuli w (take i turns) changed seats between
-    → ((v : World) → Plays plan' stimuli v seats between → IsCutShort plan' stimuli v (get_or turns i d ∷ []) seats' between') → IsCutShort plan stimuli w turns seats' between'
-cut-before plan plan' same stimuli w turns i d changed seats seats' between between' lt before stops = by cut.before cut.within cut.appends cut.plays
+pub cut-before : (plan plan' : Plan) → plan' ≡ plan → (stimuli : List CoreStimuli) (w : World) (turns : Turns) (i : ℕ) (d : CoreId × Choice) (changed : Bool) (core_runs core_runs' : List CoreRun) (shared shared' : Shared) → i < length turns → IsPlayed plan stimuli w (take i turns) changed core_runs shared
+    → ((v : World) → Plays plan' stimuli v core_runs shared → IsCutShort plan' stimuli v (get_or turns i d ∷ []) core_runs' shared') → IsCutShort plan stimuli w turns core_runs' shared'
+cut-before plan plan' same stimuli w turns i d changed core_runs core_runs' shared shared' lt before stops = by cut.before cut.within cut.appends cut.plays
   where
     here : World
     here = world_from plan stimuli w (take i turns)
 
-    cut : IsCutShort plan stimuli here (get_or turns i d ∷ []) seats' between'
-    cut = subst (λ (p : Plan). (v : World) → Plays p stimuli v seats between → IsCutShort p stimuli v (get_or turns i d ∷ []) seats' between') same stops here before.plays
+    cut : IsCutShort plan stimuli here (get_or turns i d ∷ []) core_runs' shared'
+    cut = subst (λ (p : Plan). (v : World) → Plays p stimuli v core_runs shared → IsCutShort p stimuli v (get_or turns i d ∷ []) core_runs' shared') same stops here before.plays
 
-    by : (n : ℕ) → n < 1 → AppendsAt plan stimuli here (get_or turns i d ∷ []) n → Plays plan stimuli (world_from plan stimuli here (take n (get_or turns i d ∷ []))) seats' between' → IsCutShort plan stimuli w turns seats' between'
+    by : (n : ℕ) → n < 1 → AppendsAt plan stimuli here (get_or turns i d ∷ []) n → Plays plan stimuli (world_from plan stimuli here (take n (get_or turns i d ∷ []))) core_runs' shared' → IsCutShort plan stimuli w turns core_runs' shared'
     by zero first appends plays = record {
       before = i;
       within = lt;
@@ -80,11 +80,11 @@ cut-before plan plan' same stimuli w turns i d changed seats seats' between betw
     }
     by (suc n) later appends plays = absurd (omega (arith, later))
 
-pub played-all : (plan : Plan) (stimuli : List CoreStimuli) (w : World) (turns : Turns) (i : ℕ) (changed : Bool) (seats : List Seat) (between : Between) → length turns ≤ i → IsPlayed plan stimuli w (take i turns) changed seats between → IsPlayed plan stimuli w turns changed seats between
-played-all plan stimuli w turns i changed seats between le played = subst (λ (ts : Turns). IsPlayed plan stimuli w ts changed seats between) (take_all i turns le) played
+pub played-all : (plan : Plan) (stimuli : List CoreStimuli) (w : World) (turns : Turns) (i : ℕ) (changed : Bool) (core_runs : List CoreRun) (shared : Shared) → length turns ≤ i → IsPlayed plan stimuli w (take i turns) changed core_runs shared → IsPlayed plan stimuli w turns changed core_runs shared
+played-all plan stimuli w turns i changed core_runs shared le played = subst (λ (ts : Turns). IsPlayed plan stimuli w ts changed core_runs shared) (take_all i turns le) played
 
-pub played-none : (plan : Plan) (stimuli : List CoreStimuli) (w : World) (seats : List Seat) (between : Between) → Plays plan stimuli w seats between → IsPlayed plan stimuli w [] false seats between
-played-none plan stimuli w seats between plays = record { plays = plays; tells = grind (arith, nat_tests) }
+pub played-none : (plan : Plan) (stimuli : List CoreStimuli) (w : World) (core_runs : List CoreRun) (shared : Shared) → Plays plan stimuli w core_runs shared → IsPlayed plan stimuli w [] false core_runs shared
+played-none plan stimuli w core_runs shared plays = record { plays = plays; tells = grind (arith, nat_tests) }
 
 -- ---- the same of a run
 
@@ -95,8 +95,8 @@ module _ (old run new : Run) (same : run.config ≡ old.config) (turns more : Tu
 
   pub plays-on : (changed' : Bool) → PlaysTurns more run changed' new → PlaysTurns (turns ++ more) old (changed' || changed) new
   plays-on changed' next stimuli w plays =
-      played-append old.config.now stimuli w turns more changed changed' run.seats.items new.seats.items run.between new.between (before stimuli w plays)
-      (subst (λ (p : Plan). (v : World) → Plays p stimuli v run.seats.items run.between → IsPlayed p stimuli v more changed' new.seats.items new.between) plan_same (next stimuli))
+      played-append old.config.now stimuli w turns more changed changed' run.core_runs.items new.core_runs.items run.shared new.shared (before stimuli w plays)
+      (subst (λ (p : Plan). (v : World) → Plays p stimuli v run.core_runs.items run.shared → IsPlayed p stimuli v more changed' new.core_runs.items new.shared) plan_same (next stimuli))
 
   -- or breaks off within those, whatever comes later
   pub stops-on : (later : Turns) → StopsShort more run new → StopsShort (turns ++ (more ++ later)) old new
@@ -112,8 +112,8 @@ module _ (old run new : Run) (same : run.config ≡ old.config) (turns more : Tu
       here : World
       here = world_from old.config.now stimuli w turns
 
-      cut : IsCutShort old.config.now stimuli here more new.seats.items new.between
-      cut = subst (λ (p : Plan). (v : World) → Plays p stimuli v run.seats.items run.between → IsCutShort p stimuli v more new.seats.items new.between) plan_same (stops stimuli) here (before stimuli w plays).plays
+      cut : IsCutShort old.config.now stimuli here more new.core_runs.items new.shared
+      cut = subst (λ (p : Plan). (v : World) → Plays p stimuli v run.core_runs.items run.shared → IsCutShort p stimuli v more new.core_runs.items new.shared) plan_same (stops stimuli) here (before stimuli w plays).plays
 
       le-of : {a b : ℕ} → a < b → a ≤ b
       le-of lt = omega (arith, lt)

@@ -9,19 +9,19 @@ use Rattle.osbase.specs.declared.turns.Choice.{Choice}
 use Rattle.osbase.specs.declared.turns.CoreStimuli.{CoreStimuli}
 use Rattle.osbase.specs.declared.turns.Report.{Report}
 use Rattle.osplan.specs.Stimuli.{AreKnown}
-use Rattle.osworld.specs.declared.answering.Between.{Between}
+use Rattle.osworld.specs.declared.answering.Shared.{Shared}
 use Rattle.osplan.specs.declared.plans.Plan.{Plan}
 use Rattle.osplan.specs.Limits.{is_within_limits}
-use Rattle.osturn.specs.declared.seats.Seat.{Seat}
-use Rattle.osturn.specs.Fits.{Fits, ids_of}
-use Rattle.osturn.specs.Sound.{IsOwn, lists_in, report_by, unclocked}
+use Rattle.osrun.specs.declared.core_runs.CoreRun.{CoreRun}
+use Rattle.osrun.specs.Fits.{Fits, ids_of}
+use Rattle.osrun.specs.Sound.{IsOwn, lists_in, report_by, unclocked}
 use Rattle.osworld.specs.World.{World, first_world, with_item, world}
 use Rattle.osworld.specs.Runs.{AppendsAt, AreReports}
-use Rattle.osturn.specs.Seats.{IsSeated, report_of}
+use Rattle.osrun.specs.CoreRuns.{IsCoreRun, report_of}
 use Rattle.osworld.specs.Playing.{IsCutShort, IsPlayed, Plays}
-use Rattle.osturn.proofs.Alone.{fits-alone}
-use Rattle.osturn.proofs.Grouped.{fits-apart}
-use Rattle.osturn.proofs.Seated.{seated-own}
+use Rattle.osrun.proofs.Alone.{fits-alone}
+use Rattle.osrun.proofs.Grouped.{fits-apart}
+use Rattle.osrun.proofs.CoreRunning.{seated-own}
 use Rattle.osworld.proofs.Fitted.{world_fits}
 use Rattle.osworld.proofs.Listed.{Lists, is_of}
 use Rattle.osworld.proofs.Turns.{turns-keep}
@@ -40,7 +40,7 @@ same-ids id item (q ∷ qs) = by (is_of id q) (same-ids id item qs)
 
 ids-world : (plan : Plan) (stimuli : List CoreStimuli) (turns : List (CoreId × Choice)) → ids (world plan stimuli turns).items ≡ ids_of plan
 ids-world plan stimuli turns =
-    turns-keep plan stimuli (λ (w : World). ids w.items ≡ ids_of plan) (λ w core ask item p turn same. same-ids core item w.items ∙ same) (first_world plan) turns
+    turns-keep plan stimuli (λ (w : World). ids w.items ≡ ids_of plan) (λ w core request item p turn same. same-ids core item w.items ∙ same) (first_world plan) turns
     (map-map (λ (p : CoreId × List Item). p.0) (λ (id : CoreId). let p : CoreId × List Item = (id, []) in p) (ids_of plan) ∙ itself (ids_of plan))
   where
     itself : (xs : List CoreId) → map (λ (id : CoreId). id) xs ≡ xs
@@ -48,10 +48,10 @@ ids-world plan stimuli turns =
     itself (x ∷ xs) = ap (λ (ys : List CoreId). x ∷ ys) (itself xs)
 
 -- each seat's report is its items' own
-each-own : (plan : Plan) (stimuli : List CoreStimuli) (seats : List Seat) → All (IsSeated plan stimuli) seats → AllByRecursion (IsOwn plan) (map report_of seats)
+each-own : (plan : Plan) (stimuli : List CoreStimuli) (core_runs : List CoreRun) → All (IsCoreRun plan stimuli) core_runs → AllByRecursion (IsOwn plan) (map report_of core_runs)
 each-own plan stimuli [] seated = tt
 each-own plan stimuli (s ∷ ss) seated =
-    (seated-own plan stimuli s (All-head (IsSeated plan stimuli) s ss seated), each-own plan stimuli ss (All-tail (IsSeated plan stimuli) s ss seated))
+    (seated-own plan stimuli s (All-head (IsCoreRun plan stimuli) s ss seated), each-own plan stimuli ss (All-tail (IsCoreRun plan stimuli) s ss seated))
 
 -- reports that say what their items say are known by their items
 abbrev pub reports_by : Plan → List (CoreId × List Item) → List Report
@@ -63,30 +63,30 @@ by-their-items plan (r ∷ rs) own =
     ap (λ (s : Report). s ∷ map unclocked rs) own.0 ∙ ap (λ (ss : List Report). report_by plan r.core r.items ∷ ss) (by-their-items plan rs own.1)
 
 -- turns from the beginning
-pub reports-played : (plan : Plan) → IsTrue (is_within_limits plan) → (stimuli : List CoreStimuli) → AreKnown plan stimuli → (turns : List (CoreId × Choice)) (seats : List Seat) (between : Between) → Plays plan stimuli (world plan stimuli turns) seats between → AreReports plan stimuli turns (map report_of seats)
-reports-played plan limits stimuli known turns seats between plays =
-    let lists : lists_in (map report_of seats) ≡ (world plan stimuli turns).items = map-map (λ (r : Report). (r.core, r.items)) report_of seats ∙ sym plays.lists in
-    let fits : Fits plan stimuli (lists_in (map report_of seats)) = subst (Fits plan stimuli) (sym lists) (world_fits plan stimuli turns) in
-    let own : AllByRecursion (IsOwn plan) (map report_of seats) = each-own plan stimuli seats plays.seated in
+pub reports-played : (plan : Plan) → IsTrue (is_within_limits plan) → (stimuli : List CoreStimuli) → AreKnown plan stimuli → (turns : List (CoreId × Choice)) (core_runs : List CoreRun) (shared : Shared) → Plays plan stimuli (world plan stimuli turns) core_runs shared → AreReports plan stimuli turns (map report_of core_runs)
+reports-played plan limits stimuli known turns core_runs shared plays =
+    let lists : lists_in (map report_of core_runs) ≡ (world plan stimuli turns).items = map-map (λ (r : Report). (r.core, r.items)) report_of core_runs ∙ sym plays.lists in
+    let fits : Fits plan stimuli (lists_in (map report_of core_runs)) = subst (Fits plan stimuli) (sym lists) (world_fits plan stimuli turns) in
+    let own : AllByRecursion (IsOwn plan) (map report_of core_runs) = each-own plan stimuli core_runs plays.seated in
     record {
-      are = sym (map-map unclocked report_of seats) ∙ by-their-items plan (map report_of seats) own ∙ ap (reports_by plan) lists;
+      are = sym (map-map unclocked report_of core_runs) ∙ by-their-items plan (map report_of core_runs) own ∙ ap (reports_by plan) lists;
       sound = record {
-        cores = sym (map-map (λ (p : CoreId × List Item). p.0) (λ (r : Report). let p : CoreId × List Item = (r.core, r.items) in p) (map report_of seats)) ∙ ap ids lists ∙ ids-world plan stimuli turns;
+        cores = sym (map-map (λ (p : CoreId × List Item). p.0) (λ (r : Report). let p : CoreId × List Item = (r.core, r.items) in p) (map report_of core_runs)) ∙ ap ids lists ∙ ids-world plan stimuli turns;
         own = own;
         fit = fits;
-        separate = fits-alone plan stimuli (lists_in (map report_of seats)) fits limits known;
-        groups = fits-apart plan stimuli (lists_in (map report_of seats)) fits limits;
+        separate = fits-alone plan stimuli (lists_in (map report_of core_runs)) fits limits known;
+        groups = fits-apart plan stimuli (lists_in (map report_of core_runs)) fits limits;
       };
     }
 
 -- turns that were played from the beginning, and turns before which memory was wanting
-module _ (plan plan' : Plan) (same : plan' ≡ plan) (limits : IsTrue (is_within_limits plan)) (stimuli : List CoreStimuli) (known : AreKnown plan stimuli) (turns : List (CoreId × Choice)) (seats seats' : List Seat) (between between' : Between) (begun : Plays plan stimuli (first_world plan) seats between) where
-  pub reported-played : (changed : Bool) → ((w : World) → Plays plan' stimuli w seats between → IsPlayed plan' stimuli w turns changed seats' between') → AreReports plan stimuli turns (map report_of seats')
+module _ (plan plan' : Plan) (same : plan' ≡ plan) (limits : IsTrue (is_within_limits plan)) (stimuli : List CoreStimuli) (known : AreKnown plan stimuli) (turns : List (CoreId × Choice)) (core_runs core_runs' : List CoreRun) (shared shared' : Shared) (begun : Plays plan stimuli (first_world plan) core_runs shared) where
+  pub reported-played : (changed : Bool) → ((w : World) → Plays plan' stimuli w core_runs shared → IsPlayed plan' stimuli w turns changed core_runs' shared') → AreReports plan stimuli turns (map report_of core_runs')
   reported-played changed played =
-      reports-played plan limits stimuli known turns seats' between'
-      (subst (λ (p : Plan). (w : World) → Plays p stimuli w seats between → IsPlayed p stimuli w turns changed seats' between') same played (first_world plan) begun).plays
+      reports-played plan limits stimuli known turns core_runs' shared'
+      (subst (λ (p : Plan). (w : World) → Plays p stimuli w core_runs shared → IsPlayed p stimuli w turns changed core_runs' shared') same played (first_world plan) begun).plays
 
-  pub reported-cut : ((w : World) → Plays plan' stimuli w seats between → IsCutShort plan' stimuli w turns seats' between') → (before : ℕ) × (before < length turns) × AppendsAt plan stimuli (first_world plan) turns before × AreReports plan stimuli (take before turns) (map report_of seats')
+  pub reported-cut : ((w : World) → Plays plan' stimuli w core_runs shared → IsCutShort plan' stimuli w turns core_runs' shared') → (before : ℕ) × (before < length turns) × AppendsAt plan stimuli (first_world plan) turns before × AreReports plan stimuli (take before turns) (map report_of core_runs')
   reported-cut cut =
-      let short = subst (λ (p : Plan). (w : World) → Plays p stimuli w seats between → IsCutShort p stimuli w turns seats' between') same cut (first_world plan) begun in
-      (short.before, short.within, short.appends, reports-played plan limits stimuli known (take short.before turns) seats' between' short.plays)
+      let short = subst (λ (p : Plan). (w : World) → Plays p stimuli w core_runs shared → IsCutShort p stimuli w turns core_runs' shared') same cut (first_world plan) begun in
+      (short.before, short.within, short.appends, reports-played plan limits stimuli known (take short.before turns) core_runs' shared' short.plays)

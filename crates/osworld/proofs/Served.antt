@@ -16,52 +16,52 @@ use Rattle.osmail.specs.Mail.{has_mail, oldest_of}
 use Rattle.osmail.proofs.Counts.{no_mail}
 use Rattle.osplan.specs.declared.plans.Plan.{Plan}
 use Rattle.oskernel.specs.Wants.{watch_in}
-use Rattle.osworld.specs.declared.answering.Between.{Between}
-use Rattle.osturn.specs.declared.asks.Ask.TheVariants.{Oldest}
-use Rattle.osturn.specs.declared.asks.Answer.TheVariants.{Found}
-use Rattle.osturn.specs.declared.seats.Seat.{Seat}
+use Rattle.osworld.specs.declared.answering.Shared.{Shared}
+use Rattle.osrun.specs.declared.requests.Request.TheVariants.{Oldest}
+use Rattle.osrun.specs.declared.requests.Reply.TheVariants.{Found}
+use Rattle.osrun.specs.declared.core_runs.CoreRun.{CoreRun}
 use Rattle.osworld.specs.Answering.{next_by}
-use Rattle.osturn.specs.Asking.{leads_to}
+use Rattle.osrun.specs.Requests.{request_and_item}
 use Rattle.osbase.specs.History.{same_core}
 use Rattle.osworld.specs.Playing.{IsPlayed, Plays}
 use Rattle.osworld.specs.Runs.{serves_of}
 use Rattle.osworld.specs.World.{World, is_unchanged, item_total, turn, world_from}
-use Rattle.osworld.proofs.Listed.{is_seat_of, seat_place}
+use Rattle.osworld.proofs.Listed.{is_seat_of, core_run_place}
 use Rattle.osworld.proofs.Turned.{at_core, turn-nowhere, turn-unanswered}
 
 abbrev serves : CoreId → List CoreId → List (CoreId × Choice)
 serves core froms = map (λ (from : CoreId). (core, Serve from)) froms
 
-module _ (plan : Plan) (stimuli : List CoreStimuli) (w : World) (seats : List Seat) (between : Between) (plays : Plays plan stimuli w seats between) (core : CoreId) (nothing : (nat_lt core.number CORES && has_mail between.mail core) ≡ false) where
+module _ (plan : Plan) (stimuli : List CoreStimuli) (w : World) (core_runs : List CoreRun) (shared : Shared) (plays : Plays plan stimuli w core_runs shared) (core : CoreId) (nothing : (nat_lt core.number CORES && has_mail shared.mail core) ≡ false) where
   module _ (from : CoreId) where
-    none-oldest : core.number < CORES → (b : Bool) → nat_lt from.number CORES ≡ b → cond b (oldest_of between.mail from core) None ≡ None
-    none-oldest known true below = ap (λ (letters : List Letter). slice_get letters 0) (no_mail between.mail from core (ltb-true from.number CORES below) (grind (arith, nat_tests, nothing, known)))
+    none-oldest : core.number < CORES → (b : Bool) → nat_lt from.number CORES ≡ b → cond b (oldest_of shared.mail from core) None ≡ None
+    none-oldest known true below = ap (λ (letters : List Letter). slice_get letters 0) (no_mail shared.mail from core (ltb-true from.number CORES below) (grind (arith, nat_tests, nothing, known)))
     none-oldest known false below = refl
 
-    none-named : (seat : Seat) → seat.id ≡ core → next_by plan between seat.id seat.stimuli.now seat.kernel (Serve from) ≡ None
-    none-named seat is =
-        let known : core.number < CORES = subst (λ (id : CoreId). id.number < CORES) is seat.known in
-        subst (λ (id : CoreId). leads_to id (watch_in seat.kernel) (Oldest from) (Found (cond (nat_lt from.number CORES) (oldest_of between.mail from id) None)) ≡ None) (sym is)
-        (ap (λ (o : Option Letter). leads_to core (watch_in seat.kernel) (Oldest from) (Found o)) (none-oldest known (nat_lt from.number CORES) refl))
+    none-named : (core_run : CoreRun) → core_run.id ≡ core → next_by plan shared core_run.id core_run.stimuli.now core_run.kernel (Serve from) ≡ None
+    none-named core_run is =
+        let known : core.number < CORES = subst (λ (id : CoreId). id.number < CORES) is core_run.known in
+        subst (λ (id : CoreId). request_and_item id (watch_in core_run.kernel) (Oldest from) (Found (cond (nat_lt from.number CORES) (oldest_of shared.mail from id) None)) ≡ None) (sym is)
+        (ap (λ (o : Option Letter). request_and_item core (watch_in core_run.kernel) (Oldest from) (Found o)) (none-oldest known (nat_lt from.number CORES) refl))
 
     unserved-turn : turn plan stimuli w (core, Serve from) ≡ w
-    unserved-turn = by (position (is_seat_of core) seats) refl
+    unserved-turn = by (position (is_seat_of core) core_runs) refl
       where
-        seated : (at : ℕ) → position (is_seat_of core) seats ≡ Some at → ((seat : Seat) × (at < length seats) × (slice_get seats at ≡ Some seat) × (get_or seats at seat ≡ seat)) ⊎ ((length seats ≤ at) × (slice_get seats at ≡ None)) → turn plan stimuli w (core, Serve from) ≡ w
-        seated at place (inl there) = turn-unanswered plan stimuli w seats between plays core (Serve from) at there.0 place (sym there.3) (none-named there.0 (at_core plan stimuli w seats between plays core (Serve from) at there.0 place (sym there.3)))
-        seated at place (inr past) = let within = (seat_place core seats at place).1 in absurd (omega (arith, within, past.0))
+        seated : (at : ℕ) → position (is_seat_of core) core_runs ≡ Some at → ((core_run : CoreRun) × (at < length core_runs) × (slice_get core_runs at ≡ Some core_run) × (get_or core_runs at core_run ≡ core_run)) ⊎ ((length core_runs ≤ at) × (slice_get core_runs at ≡ None)) → turn plan stimuli w (core, Serve from) ≡ w
+        seated at place (inl there) = turn-unanswered plan stimuli w core_runs shared plays core (Serve from) at there.0 place (sym there.3) (none-named there.0 (at_core plan stimuli w core_runs shared plays core (Serve from) at there.0 place (sym there.3)))
+        seated at place (inr past) = let within = (core_run_place core core_runs at place).1 in absurd (omega (arith, within, past.0))
 
-        by : (o : Option ℕ) → position (is_seat_of core) seats ≡ o → turn plan stimuli w (core, Serve from) ≡ w
-        by None nowhere = turn-nowhere plan stimuli w seats between plays core (Serve from) nowhere
-        by (Some at) place = seated at place (slice_get_cases seats at).1
+        by : (o : Option ℕ) → position (is_seat_of core) core_runs ≡ o → turn plan stimuli w (core, Serve from) ≡ w
+        by None nowhere = turn-nowhere plan stimuli w core_runs shared plays core (Serve from) nowhere
+        by (Some at) place = seated at place (slice_get_cases core_runs at).1
 
   unserved : (froms : List CoreId) → world_from plan stimuli w (serves core froms) ≡ w
   unserved [] = refl
   unserved (from ∷ froms) = ap (λ (next : World). world_from plan stimuli next (serves core froms)) (unserved-turn from) ∙ unserved froms
 
-  pub unserved-played : (froms : List CoreId) → IsPlayed plan stimuli w (map (λ (from : CoreId). (core, Serve from)) froms) false seats between
+  pub unserved-played : (froms : List CoreId) → IsPlayed plan stimuli w (map (λ (from : CoreId). (core, Serve from)) froms) false core_runs shared
   unserved-played froms = record {
-    plays = subst (λ (next : World). Plays plan stimuli next seats between) (sym (unserved froms)) plays;
+    plays = subst (λ (next : World). Plays plan stimuli next core_runs shared) (sym (unserved froms)) plays;
     tells = subst (λ (next : World). false ≡ not (is_unchanged w next)) (sym (unserved froms)) (unchanged-itself (item_total w));
   }
     where

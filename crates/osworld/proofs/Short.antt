@@ -16,8 +16,8 @@ use Rattle.osbase.specs.Sets.{core_ids}
 use Rattle.osstate.specs.State.{state_of}
 use Rattle.osadmit.specs.Admission.{admits}
 use Rattle.oskernel.specs.Step.{after, history_from, outbox_size}
-use Rattle.osturn.specs.Fits.{ids_of}
-use Rattle.osturn.specs.declared.asks.Ask.{Ask}
+use Rattle.osrun.specs.Fits.{ids_of}
+use Rattle.osrun.specs.declared.requests.Request.{Request}
 use Rattle.osworld.specs.World.{World, appends, first_world, history_in, turn, with_item, world, item_total}
 use Rattle.oskernel.proofs.Holding.{quiet_after}
 use Rattle.osworld.proofs.Listed.{Lists, is_of, list_of}
@@ -67,8 +67,8 @@ length-with_item id item (q ∷ qs) = by (is_of id q) (length-with_item id item 
 abbrev Bounded : World → Type 0
 Bounded w = are_short w.items × (length w.items ≤ 16)
 
-bounded-on : (plan : Plan) (stimuli : List CoreStimuli) (w : World) (core : CoreId) (ask : Ask) (item : Item) (p : CoreId × List Item) → Appends plan stimuli w core ask item p → Bounded w → Bounded (appends plan w core ask item)
-bounded-on plan stimuli w core ask item p turn bounded =
+bounded-on : (plan : Plan) (stimuli : List CoreStimuli) (w : World) (core : CoreId) (request : Request) (item : Item) (p : CoreId × List Item) → Appends plan stimuli w core request item p → Bounded w → Bounded (appends plan w core request item)
+bounded-on plan stimuli w core request item p turn bounded =
     let items : history_in plan w core ≡ history_from (view_of plan core) [] p.1 = ap (λ (o : Option (CoreId × List Item)). history_from (view_of plan core) [] (option_map_or (λ (q : CoreId × List Item). q.1) o [])) turn.listed in
     let few : item_count (history_in plan w core) < 2 ^ 48 = ltb-true (item_count (history_in plan w core)) (2 ^ 48) (and_parts (nat_lt (item_count (history_in plan w core)) (2 ^ 48)) (admits outbox_size (state_of (view_of plan core) (history_in plan w core)) item) turn.taken).0 in
     let all : item_count (history_in plan w core) ≡ item_count [] + length p.1 = ap item_count items ∙ counted (view_of plan core) [] p.1 in

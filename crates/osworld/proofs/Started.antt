@@ -17,17 +17,17 @@ use Rattle.osplan.specs.declared.plans.Plan.{Plan}
 use Rattle.osplan.specs.View.{view_of}
 use Rattle.osstate.specs.State.{state_of}
 use Rattle.oskernel.specs.Step.{history_from}
-use Rattle.osturn.specs.declared.seats.Seat.{Seat}
+use Rattle.osrun.specs.declared.core_runs.CoreRun.{CoreRun}
 use Rattle.osboard.specs.Boards.{first_board}
 use Rattle.osspin.specs.Spins.{no_holders}
-use Rattle.osworld.specs.declared.answering.Between.{Between}
-use Rattle.osturn.specs.Fits.{ids_of}
+use Rattle.osworld.specs.declared.answering.Shared.{Shared}
+use Rattle.osrun.specs.Fits.{ids_of}
 use Rattle.osworld.specs.World.{first_world, history_in}
 use Rattle.osworld.specs.Playing.{IsMail, lists_of, Plays}
-use Rattle.osturn.specs.Seats.{IsSeated}
+use Rattle.osrun.specs.CoreRuns.{IsCoreRun}
 use Rattle.osworld.proofs.Listed.{Lists, is_of, list_of}
-use Rattle.osturn.proofs.Configured.{id_at, ids_below, ids_below-push, ids_below-skip, is_there}
-use Rattle.osturn.proofs.Seated.{seated-first}
+use Rattle.osrun.proofs.Configured.{id_at, ids_below, ids_below-push, ids_below-skip, is_there}
+use Rattle.osrun.proofs.CoreRunning.{seated-first}
 
 abbrev pub lists_below : Plan → ℕ → Lists
 lists_below plan n = map (λ (id : CoreId). (id, [])) (ids_below plan n)
@@ -62,27 +62,27 @@ module _ (plan : Plan) where
   })
 
 -- all 16 numbers were looked at
-pub started-all : (plan : Plan) (stimuli : List CoreStimuli) (seats : List Seat) (n : ℕ) (between : Between) → All (IsSeated plan stimuli) seats → lists_of seats ≡ lists_below plan n → 16 ≤ n → n ≤ 16 → between.mail ≡ empty_mail plan.cap → between.board ≡ first_board plan.master → between.spins ≡ no_holders → Plays plan stimuli (first_world plan) seats between
-started-all plan stimuli seats n between seated lists low high is_mail is_board is_free = record {
+pub started-all : (plan : Plan) (stimuli : List CoreStimuli) (core_runs : List CoreRun) (n : ℕ) (shared : Shared) → All (IsCoreRun plan stimuli) core_runs → lists_of core_runs ≡ lists_below plan n → 16 ≤ n → n ≤ 16 → shared.mail ≡ empty_mail plan.cap → shared.board ≡ first_board plan.master → shared.spins ≡ no_holders → Plays plan stimuli (first_world plan) core_runs shared
+started-all plan stimuli core_runs n shared seated lists low high is_mail is_board is_free = record {
   seated = seated;
   lists = let whole : n ≡ 16 = omega arith in sym (lists ∙ ap (lists_below plan) whole);
-  carries = no_mail plan between.mail is_mail;
+  carries = no_mail plan shared.mail is_mail;
   shown = is_board;
   held = is_free;
 }
 
 -- one seat more
-pub started-push : (plan : Plan) (stimuli : List CoreStimuli) (seats : List Seat) (n : ℕ) (seat : Seat) → n < 16 → is_there plan (id_at n) ≡ true → All (IsSeated plan stimuli) seats × (lists_of seats ≡ lists_below plan n)
-    → seat.id ≡ id_at n → seat.kernel ≡ state_of (view_of plan (id_at n)) [] → seat.stimuli.now ≡ stimuli_of stimuli (id_at n) → seat.items.items ≡ [] → seat.marks.items ≡ []
-    → All (IsSeated plan stimuli) (seats ++ seat ∷ []) × (lists_of (seats ++ seat ∷ []) ≡ lists_below plan (n + 1))
-started-push plan stimuli seats n seat lt there before is_id is_kernel is_left no_items no_marks = (
-  All-push (IsSeated plan stimuli) seats seat before.0 (seated-first plan stimuli seat (id_at n) is_id is_kernel is_left no_items no_marks),
-  map-append (λ (s : Seat). (s.id, s.items.items)) seats (seat ∷ [])
-      ∙ ap (λ (ls : Lists). ls ++ (seat.id, seat.items.items) ∷ []) before.1
-      ∙ ap (λ (i : CoreId). lists_below plan n ++ (i, seat.items.items) ∷ []) is_id
+pub started-push : (plan : Plan) (stimuli : List CoreStimuli) (core_runs : List CoreRun) (n : ℕ) (core_run : CoreRun) → n < 16 → is_there plan (id_at n) ≡ true → All (IsCoreRun plan stimuli) core_runs × (lists_of core_runs ≡ lists_below plan n)
+    → core_run.id ≡ id_at n → core_run.kernel ≡ state_of (view_of plan (id_at n)) [] → core_run.stimuli.now ≡ stimuli_of stimuli (id_at n) → core_run.items.items ≡ [] → core_run.marks.items ≡ []
+    → All (IsCoreRun plan stimuli) (core_runs ++ core_run ∷ []) × (lists_of (core_runs ++ core_run ∷ []) ≡ lists_below plan (n + 1))
+started-push plan stimuli core_runs n core_run lt there before is_id is_kernel is_left no_items no_marks = (
+  All-push (IsCoreRun plan stimuli) core_runs core_run before.0 (seated-first plan stimuli core_run (id_at n) is_id is_kernel is_left no_items no_marks),
+  map-append (λ (s : CoreRun). (s.id, s.items.items)) core_runs (core_run ∷ [])
+      ∙ ap (λ (ls : Lists). ls ++ (core_run.id, core_run.items.items) ∷ []) before.1
+      ∙ ap (λ (i : CoreId). lists_below plan n ++ (i, core_run.items.items) ∷ []) is_id
       ∙ ap (λ (items : List Item). lists_below plan n ++ (id_at n, items) ∷ []) no_items
       ∙ sym (lists_below-push plan n lt there),
 )
 
-pub started-skip : (plan : Plan) (stimuli : List CoreStimuli) (seats : List Seat) (n : ℕ) → n < 16 → is_there plan (id_at n) ≡ false → All (IsSeated plan stimuli) seats × (lists_of seats ≡ lists_below plan n) → All (IsSeated plan stimuli) seats × (lists_of seats ≡ lists_below plan (n + 1))
-started-skip plan stimuli seats n lt nobody before = (before.0, before.1 ∙ sym (lists_below-skip plan n lt nobody))
+pub started-skip : (plan : Plan) (stimuli : List CoreStimuli) (core_runs : List CoreRun) (n : ℕ) → n < 16 → is_there plan (id_at n) ≡ false → All (IsCoreRun plan stimuli) core_runs × (lists_of core_runs ≡ lists_below plan n) → All (IsCoreRun plan stimuli) core_runs × (lists_of core_runs ≡ lists_below plan (n + 1))
+started-skip plan stimuli core_runs n lt nobody before = (before.0, before.1 ∙ sym (lists_below-skip plan n lt nobody))

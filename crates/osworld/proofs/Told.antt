@@ -14,7 +14,7 @@ module _ {A B : Type 0} (f : A → B) (all now : List A) (n : ℕ) (x : A) (as-m
   same : get_or all n x ≡ x
   same = ap (λ (xs : List A). get_or xs 0 x) (sym of-all ∙ sym so ∙ of-now) ∙ sym at
 
-  -- One more is told.
+  -- One more is reported.
   pub told : map f (take (n + 1) all) ≡ map f (take n all) ++ f x ∷ []
   told =
       ap (λ (k : ℕ). map f (take k all)) (add-one n)

@@ -9,20 +9,20 @@ use Rattle.osbase.specs.History.{History}
 use Rattle.osplan.specs.View.{View, view_of}
 use Rattle.oskernel.specs.Step.{takes, outbox_size}
 use Rattle.oskernel.specs.Wants.{watch_of}
-use Rattle.osturn.specs.declared.asks.Ask.{Ask}
-use Rattle.osturn.specs.Asking.{asked, comes_to, named}
-use Rattle.osworld.specs.World.{World, answer_in, appends, history_in, next_in, next_stimulus, turn, turn_by, world_from}
+use Rattle.osrun.specs.declared.requests.Request.{Request}
+use Rattle.osrun.specs.Requests.{request_of_turn, next_item, item_for_reply}
+use Rattle.osworld.specs.World.{World, reply_in, appends, history_in, next_in, next_stimulus, turn, turn_by, world_from}
 use Rattle.osworld.proofs.Listed.{list_of}
 
 -- A turn appends this item to this list.
-pub record Appends (plan : Plan) (stimuli : List CoreStimuli) (w : World) (core : CoreId) (ask : Ask) (item : Item) (p : CoreId × List Item) : Type 0 where
+pub record Appends (plan : Plan) (stimuli : List CoreStimuli) (w : World) (core : CoreId) (request : Request) (item : Item) (p : CoreId × List Item) : Type 0 where
   pub listed : list_of core w.items ≡ Some p
   pub choice : Choice
-  pub asks : asked (view_of plan core) (history_in plan w core) (next_stimulus stimuli w core) choice ≡ Some ask
-  pub names : named (view_of plan core) (history_in plan w core) ask (answer_in plan w core ask) ≡ Some item
+  pub asks : request_of_turn (view_of plan core) (history_in plan w core) (next_stimulus stimuli w core) choice ≡ Some request
+  pub names : item_for_reply (view_of plan core) (history_in plan w core) request (reply_in plan w core request) ≡ Some item
   pub taken : takes outbox_size (view_of plan core) (history_in plan w core) item ≡ true
 
-module _ (plan : Plan) (stimuli : List CoreStimuli) (P : World → Type 0) (keeps : (w : World) (core : CoreId) (ask : Ask) (item : Item) (p : CoreId × List Item) → Appends plan stimuli w core ask item p → P w → P (appends plan w core ask item)) where
+module _ (plan : Plan) (stimuli : List CoreStimuli) (P : World → Type 0) (keeps : (w : World) (core : CoreId) (request : Request) (item : Item) (p : CoreId × List Item) → Appends plan stimuli w core request item p → P w → P (appends plan w core request item)) where
   turn-keeps : (w : World) (t : CoreId × Choice) → P w → P (turn plan stimuli w t)
   turn-keeps w t has = by (list_of t.0 w.items) refl
     where
@@ -32,21 +32,21 @@ module _ (plan : Plan) (stimuli : List CoreStimuli) (P : World → Type 0) (keep
       past : History
       past = history_in plan w t.0
 
-      item_keeps : (p : CoreId × List Item) → list_of t.0 w.items ≡ Some p → (ask : Ask) → asked view past (next_stimulus stimuli w t.0) t.1 ≡ Some ask → (item : Item) → named view past ask (answer_in plan w t.0 ask) ≡ Some item → (b : Bool) → takes outbox_size view past item ≡ b → P (cond b (appends plan w t.0 ask item) w)
-      item_keeps p listed ask asks item names true taken = keeps w t.0 ask item p (record { listed = listed; choice = t.1; asks = asks; names = names; taken = taken }) has
-      item_keeps p listed ask asks item names false taken = has
+      item_keeps : (p : CoreId × List Item) → list_of t.0 w.items ≡ Some p → (request : Request) → request_of_turn view past (next_stimulus stimuli w t.0) t.1 ≡ Some request → (item : Item) → item_for_reply view past request (reply_in plan w t.0 request) ≡ Some item → (b : Bool) → takes outbox_size view past item ≡ b → P (cond b (appends plan w t.0 request item) w)
+      item_keeps p listed request asks item names true taken = keeps w t.0 request item p (record { listed = listed; choice = t.1; asks = asks; names = names; taken = taken }) has
+      item_keeps p listed request asks item names false taken = has
 
-      named_keeps : (p : CoreId × List Item) → list_of t.0 w.items ≡ Some p → (ask : Ask) → asked view past (next_stimulus stimuli w t.0) t.1 ≡ Some ask → (o : Option Item) → named view past ask (answer_in plan w t.0 ask) ≡ o → P (turn_by plan w t.0 (option_map (λ (i : Item). let t : Ask × Item = (ask, i) in t) o))
-      named_keeps p listed ask asks None names = has
-      named_keeps p listed ask asks (Some item) names = item_keeps p listed ask asks item names (takes outbox_size view past item) refl
+      named_keeps : (p : CoreId × List Item) → list_of t.0 w.items ≡ Some p → (request : Request) → request_of_turn view past (next_stimulus stimuli w t.0) t.1 ≡ Some request → (o : Option Item) → item_for_reply view past request (reply_in plan w t.0 request) ≡ o → P (turn_by plan w t.0 (option_map (λ (i : Item). let t : Request × Item = (request, i) in t) o))
+      named_keeps p listed request asks None names = has
+      named_keeps p listed request asks (Some item) names = item_keeps p listed request asks item names (takes outbox_size view past item) refl
 
-      asked_keeps : (p : CoreId × List Item) → list_of t.0 w.items ≡ Some p → (o : Option Ask) → asked view past (next_stimulus stimuli w t.0) t.1 ≡ o → P (turn_by plan w t.0 (comes_to t.0 (watch_of view past) (answer_in plan w t.0) o))
+      asked_keeps : (p : CoreId × List Item) → list_of t.0 w.items ≡ Some p → (o : Option Request) → request_of_turn view past (next_stimulus stimuli w t.0) t.1 ≡ o → P (turn_by plan w t.0 (next_item t.0 (watch_of view past) (reply_in plan w t.0) o))
       asked_keeps p listed None asks = has
-      asked_keeps p listed (Some ask) asks = named_keeps p listed ask asks (named view past ask (answer_in plan w t.0 ask)) refl
+      asked_keeps p listed (Some request) asks = named_keeps p listed request asks (item_for_reply view past request (reply_in plan w t.0 request)) refl
 
       by : (o : Option (CoreId × List Item)) → list_of t.0 w.items ≡ o → P (cond (is_some o) (turn_by plan w t.0 (next_in plan stimuli w t.0 t.1)) w)
       by None nobody = has
-      by (Some p) listed = asked_keeps p listed (asked view past (next_stimulus stimuli w t.0) t.1) refl
+      by (Some p) listed = asked_keeps p listed (request_of_turn view past (next_stimulus stimuli w t.0) t.1) refl
 
   pub turns-keep : (w : World) (ts : List (CoreId × Choice)) → P w → P (world_from plan stimuli w ts)
   turns-keep w [] has = has

@@ -3,9 +3,9 @@ use native.Mathlib.Omega.{arith}
 use Rattle.std.proofs.Common.{◌≡◌, true, None}
 use Rattle.osbase.specs.declared.references.CoreId.{CoreId}
 use Rattle.oskernel.specs.declared.wants.Watch.{Watch}
-use Rattle.osworld.specs.declared.answering.Between.{Between}
-use Rattle.osworld.specs.Answering.{answer_by, is_undisturbed}
-use Rattle.osturn.specs.Asking.{leads_to, look_asked}
+use Rattle.osworld.specs.declared.answering.Shared.{Shared}
+use Rattle.osworld.specs.Answering.{reply_by, is_undisturbed}
+use Rattle.osrun.specs.Requests.{request_and_item, look_request}
 
-pub undisturbed-nothing : (between : Between) (id : CoreId) (watch : Watch) → is_undisturbed watch between.board ≡ true → leads_to id watch (look_asked watch) (answer_by between id (look_asked watch)) ≡ None
-undisturbed-nothing between id watch is = grind (arith, is)
+pub undisturbed-nothing : (shared : Shared) (id : CoreId) (watch : Watch) → is_undisturbed watch shared.board ≡ true → request_and_item id watch (look_request watch) (reply_by shared id (look_request watch)) ≡ None
+undisturbed-nothing shared id watch is = grind (arith, is)

@@ -11,20 +11,20 @@ use Rattle.osbase.specs.History.{posted, received_count, same_core}
 use Rattle.osmail.specs.Mail.{Mail, box_of}
 use Rattle.osplan.specs.declared.plans.Plan.{Plan}
 use Rattle.oskernel.specs.Wants.{watch_in}
-use Rattle.osturn.specs.declared.asks.Ask.{Ask}
-use Rattle.osturn.specs.declared.asks.Answer.{Answer}
-use Rattle.osworld.specs.declared.answering.Between.{Between}
-use Rattle.osturn.specs.declared.seats.Seat.{Seat}
+use Rattle.osrun.specs.declared.requests.Request.{Request}
+use Rattle.osrun.specs.declared.requests.Reply.{Reply}
+use Rattle.osworld.specs.declared.answering.Shared.{Shared}
+use Rattle.osrun.specs.declared.core_runs.CoreRun.{CoreRun}
 use Rattle.osworld.specs.declared.worlds.World.{World as Run}
 use Rattle.osworld.specs.Answering.{next_by}
-use Rattle.osturn.specs.Asking.{leads_to}
+use Rattle.osrun.specs.Requests.{request_and_item}
 use Rattle.osworld.specs.Runs.{AppendsAt, HasAtLeast, default_turns, is_default, round_of}
 use Rattle.osworld.specs.World.{World, board_in, first_world, history_in, holders_in, is_unchanged, world, world_from}
-use Rattle.osturn.specs.Seats.{IsSeated}
+use Rattle.osrun.specs.CoreRuns.{IsCoreRun}
 
 -- The item lists of seats.
-abbrev pub lists_of : List Seat → List (CoreId × List Item)
-lists_of seats = map (λ (s : Seat). (s.id, s.items.items)) seats
+abbrev pub lists_of : List CoreRun → List (CoreId × List Item)
+lists_of core_runs = map (λ (s : CoreRun). (s.id, s.items.items)) core_runs
 
 -- What was posted from one core to another and not received.
 abbrev pub waiting : Plan → World → CoreId → CoreId → List Letter
@@ -38,66 +38,66 @@ pub record IsMail (plan : Plan) (w : World) (mail : Mail) : Type 0 where
   pub order : (from to : CoreId) → received_count from (history_in plan w to) ≤ length (posted to (history_in plan w from))
 
 -- The seats, the mailboxes, the board and the spinlocks stand for this world.
-pub record Plays (plan : Plan) (stimuli : List CoreStimuli) (w : World) (seats : List Seat) (between : Between) : Type 0 where
-  pub seated : All (IsSeated plan stimuli) seats
-  pub lists : w.items ≡ lists_of seats
-  pub carries : IsMail plan w between.mail
-  pub shown : between.board ≡ board_in plan w
-  pub held : between.spins ≡ holders_in w
+pub record Plays (plan : Plan) (stimuli : List CoreStimuli) (w : World) (core_runs : List CoreRun) (shared : Shared) : Type 0 where
+  pub seated : All (IsCoreRun plan stimuli) core_runs
+  pub lists : w.items ≡ lists_of core_runs
+  pub carries : IsMail plan w shared.mail
+  pub shown : shared.board ≡ board_in plan w
+  pub held : shared.spins ≡ holders_in w
 
 -- The run in memory stands for this world.
 abbrev pub StandsFor : List CoreStimuli → World → Run → Type 0
-StandsFor stimuli w run = Plays run.config.now stimuli w run.seats.items run.between
+StandsFor stimuli w run = Plays run.config.now stimuli w run.core_runs.items run.shared
 
 -- Turns of a run are the world's turns, and the answer says whether one of them appended an item.
-pub record IsPlayed (plan : Plan) (stimuli : List CoreStimuli) (w : World) (turns : List (CoreId × Choice)) (changed : Bool) (seats : List Seat) (between : Between) : Type 0 where
-  pub plays : Plays plan stimuli (world_from plan stimuli w turns) seats between
+pub record IsPlayed (plan : Plan) (stimuli : List CoreStimuli) (w : World) (turns : List (CoreId × Choice)) (changed : Bool) (core_runs : List CoreRun) (shared : Shared) : Type 0 where
+  pub plays : Plays plan stimuli (world_from plan stimuli w turns) core_runs shared
   pub tells : changed ≡ not (is_unchanged w (world_from plan stimuli w turns))
 
 -- Memory was wanting before a turn that appends an item, and those before it were played.
-pub record IsCutShort (plan : Plan) (stimuli : List CoreStimuli) (w : World) (turns : List (CoreId × Choice)) (seats : List Seat) (between : Between) : Type 0 where
+pub record IsCutShort (plan : Plan) (stimuli : List CoreStimuli) (w : World) (turns : List (CoreId × Choice)) (core_runs : List CoreRun) (shared : Shared) : Type 0 where
   pub before : ℕ
   pub within : before < length turns
   pub appends : AppendsAt plan stimuli w turns before
-  pub plays : Plays plan stimuli (world_from plan stimuli w (take before turns)) seats between
+  pub plays : Plays plan stimuli (world_from plan stimuli w (take before turns)) core_runs shared
 
 -- A run was begun and nothing is played yet.
-abbrev pub IsBegun : Plan → List Seat → Between → Type 0
-IsBegun plan seats between = (stimuli : List CoreStimuli) × Plays plan stimuli (first_world plan) seats between
+abbrev pub IsBegun : Plan → List CoreRun → Shared → Type 0
+IsBegun plan core_runs shared = (stimuli : List CoreStimuli) × Plays plan stimuli (first_world plan) core_runs shared
 
 -- The turns are one round of the default schedule.
 abbrev pub IsRound : Plan → List (CoreId × Choice) → Type 0
 IsRound plan turns = turns ≡ round_of plan
 
 -- The default schedule was played: it has so many rounds.
-pub record IsDefaultPlayed (plan : Plan) (stimuli : List CoreStimuli) (rounds : ℕ) (seats : List Seat) (between : Between) : Type 0 where
+pub record IsDefaultPlayed (plan : Plan) (stimuli : List CoreStimuli) (rounds : ℕ) (core_runs : List CoreRun) (shared : Shared) : Type 0 where
   pub least : IsTrue (is_default plan stimuli rounds)
-  pub plays : Plays plan stimuli (world plan stimuli (default_turns plan rounds)) seats between
+  pub plays : Plays plan stimuli (world plan stimuli (default_turns plan rounds)) core_runs shared
 
 -- Memory was wanting before a turn of the default schedule.
-pub record IsDefaultCutShort (plan : Plan) (stimuli : List CoreStimuli) (seats : List Seat) (between : Between) : Type 0 where
+pub record IsDefaultCutShort (plan : Plan) (stimuli : List CoreStimuli) (core_runs : List CoreRun) (shared : Shared) : Type 0 where
   pub rounds : ℕ
   pub goes_on : HasAtLeast plan stimuli rounds
-  pub cut : IsCutShort plan stimuli (first_world plan) (default_turns plan rounds) seats between
+  pub cut : IsCutShort plan stimuli (first_world plan) (default_turns plan rounds) core_runs shared
 
 -- A turn of the core that sits at this place asks this, and leads on by this answer.
-pub record IsAnswered (plan : Plan) (seats : List Seat) (between : Between) (at : ℕ) (core : CoreId) (choice : Choice) (ask : Ask) (answer : Answer) : Type 0 where
-  pub place : position (λ (s : Seat). same_core s.id core) seats ≡ Some at
-  pub leads : (seat : Seat) → slice_get seats at ≡ Some seat → next_by plan between seat.id seat.stimuli.now seat.kernel choice ≡ leads_to seat.id (watch_in seat.kernel) ask answer
+pub record IsAnswered (plan : Plan) (core_runs : List CoreRun) (shared : Shared) (at : ℕ) (core : CoreId) (choice : Choice) (request : Request) (answer : Reply) : Type 0 where
+  pub place : position (λ (s : CoreRun). same_core s.id core) core_runs ≡ Some at
+  pub leads : (core_run : CoreRun) → slice_get core_runs at ≡ Some core_run → next_by plan shared core_run.id core_run.stimuli.now core_run.kernel choice ≡ request_and_item core_run.id (watch_in core_run.kernel) request answer
 
 -- What a function that plays turns does, whatever world the run stood for.
 abbrev pub PlaysTurns : List (CoreId × Choice) → Run → Bool → Run → Type 0
 PlaysTurns turns old changed new =
-    (stimuli : List CoreStimuli) (w : World) → StandsFor stimuli w old → IsPlayed old.config.now stimuli w turns changed new.seats.items new.between
+    (stimuli : List CoreStimuli) (w : World) → StandsFor stimuli w old → IsPlayed old.config.now stimuli w turns changed new.core_runs.items new.shared
 
 abbrev pub StopsShort : List (CoreId × Choice) → Run → Run → Type 0
 StopsShort turns old new =
-    (stimuli : List CoreStimuli) (w : World) → StandsFor stimuli w old → IsCutShort old.config.now stimuli w turns new.seats.items new.between
+    (stimuli : List CoreStimuli) (w : World) → StandsFor stimuli w old → IsCutShort old.config.now stimuli w turns new.core_runs.items new.shared
 
 abbrev pub PlaysDefault : Run → ℕ → Run → Type 0
 PlaysDefault old rounds new =
-    (stimuli : List CoreStimuli) → StandsFor stimuli (first_world old.config.now) old → IsDefaultPlayed old.config.now stimuli rounds new.seats.items new.between
+    (stimuli : List CoreStimuli) → StandsFor stimuli (first_world old.config.now) old → IsDefaultPlayed old.config.now stimuli rounds new.core_runs.items new.shared
 
 abbrev pub StopsDefaultShort : Run → Run → Type 0
 StopsDefaultShort old new =
-    (stimuli : List CoreStimuli) → StandsFor stimuli (first_world old.config.now) old → IsDefaultCutShort old.config.now stimuli new.seats.items new.between
+    (stimuli : List CoreStimuli) → StandsFor stimuli (first_world old.config.now) old → IsDefaultCutShort old.config.now stimuli new.core_runs.items new.shared

@@ -14,14 +14,14 @@ use Rattle.osplan.specs.View.{view_of}
 use Rattle.osstate.specs.Readings.{phase_at}
 use Rattle.osworld.specs.declared.runs.RunFault.{RunFault}
 use Rattle.osworld.specs.declared.runs.RunFault.TheVariants.{NotBegun, NoMemory}
-use Rattle.osturn.specs.Fits.{history_by, ids_of}
-use Rattle.osturn.specs.Sound.{AreSound, report_by}
+use Rattle.osrun.specs.Fits.{history_by, ids_of}
+use Rattle.osrun.specs.Sound.{AreSound, report_by}
 use Rattle.osworld.specs.World.{World, board_in, first_world, is_unchanged, world, world_from}
-use Rattle.osturn.specs.Seats.{is_ended_phase}
+use Rattle.osrun.specs.CoreRuns.{is_ended_phase}
 
 -- ---- listed turns
 
--- The reports say what the items of the world after these turns come to, of each configured core its whole list; and they are sound.
+-- The reports are those of the items of the world after these turns, of each configured core its whole list; and they are sound.
 pub record AreReports (plan : Plan) (stimuli : List CoreStimuli) (turns : List (CoreId × Choice)) (reports : List Report) : Type 0 where
   pub are : reports ≡ map (λ (p : CoreId × List Item). report_by plan p.0 p.1) (world plan stimuli turns).items
   pub sound : AreSound plan stimuli reports
@@ -41,7 +41,7 @@ IsBrokenOff plan stimuli turns (NoMemory reports) =
 
 -- ---- the default schedule
 
--- One round: each core by ascending number serves every other core by ascending number, goes on with its own
+-- One round: each core by ascending number serves every other core by ascending number, does its own
 -- work, and looks at the board. [own]
 abbrev pub serves_of : List CoreId → CoreId → List (CoreId × Choice)
 serves_of ids id = map (λ from. (id, Serve from)) (filter (λ from. not (same_core from id)) ids)

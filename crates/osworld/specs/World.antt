@@ -13,17 +13,17 @@ use Rattle.osplan.specs.declared.plans.Plan.{Plan}
 use Rattle.osplan.specs.View.{view_of}
 use Rattle.oskernel.specs.Step.{takes, outbox_size}
 use Rattle.oskernel.specs.Wants.{watch_of}
-use Rattle.osseat.specs.Histories.{state_after}
+use Rattle.osshared.specs.Histories.{state_after}
 use Rattle.osboard.specs.declared.calls.BoardState.{BoardState}
 use Rattle.osboard.specs.Boards.{board_reply, first_board, one_board}
 use Rattle.osspin.specs.Spins.{no_holders, spin_reply, spinlocks}
-use Rattle.osturn.specs.declared.asks.Ask.{Ask}
-use Rattle.osturn.specs.declared.asks.Ask.TheVariants.{OfBoard, OfSpins, Room, Oldest}
-use Rattle.osturn.specs.declared.asks.Answer.{Answer}
-use Rattle.osturn.specs.declared.asks.Answer.TheVariants.{Replied, Spun, HasRoom, Found, Unasked}
-use Rattle.osturn.specs.Asking.{Calls, asked, comes_to, joined, no_calls, spin_call_of, told_by}
-use Rattle.osturn.specs.Fits.{history_by, ids_of, items_of}
-use Rattle.osturn.specs.Seats.{stimulus_count}
+use Rattle.osrun.specs.declared.requests.Request.{Request}
+use Rattle.osrun.specs.declared.requests.Request.TheVariants.{OfBoard, OfSpins, Room, Oldest}
+use Rattle.osrun.specs.declared.requests.Reply.{Reply}
+use Rattle.osrun.specs.declared.requests.Reply.TheVariants.{Replied, Spun, HasRoom, Found, Unasked}
+use Rattle.osrun.specs.Requests.{Calls, request_of_turn, next_item, joined, no_calls, spin_call_of, call_of_turn}
+use Rattle.osrun.specs.Fits.{history_by, ids_of, items_of}
+use Rattle.osrun.specs.CoreRuns.{stimulus_count}
 
 -- All cores after some turns: the items of each configured core, the oldest first, and the calls of the board and the spinlocks that
 -- became items. Nothing else is kept: where a core stands is read off its own items. [own]
@@ -56,37 +56,37 @@ has_room plan w from to =
     nat_lt to.number CORES
     && nat_lt (length (posted to (history_in plan w from))) (received_count from (history_in plan w to) + plan.cap)
 
--- What a core's turn is answered: the board's or a spinlock's reply; whether there is room; the oldest letter from the
+-- The reply to the request of a core's turn: the board's or a spinlock's reply; whether there is room; the oldest letter from the
 -- other core that is not received yet. [own]
-abbrev pub answer_in : Plan → World → CoreId → Ask → Answer
-answer_in plan w id (OfBoard call) = Replied (board_reply id call (board_in plan w))
-answer_in plan w id (OfSpins wish) = Spun (spin_reply id (spin_call_of wish) (holders_in w))
-answer_in plan w id (Room to) = HasRoom (has_room plan w id to)
-answer_in plan w id (Oldest from) = Found (slice_get (posted id (history_in plan w from)) (received_count from (history_in plan w id)))
-answer_in plan w id ask = Unasked
+abbrev pub reply_in : Plan → World → CoreId → Request → Reply
+reply_in plan w id (OfBoard call) = Replied (board_reply id call (board_in plan w))
+reply_in plan w id (OfSpins wish) = Spun (spin_reply id (spin_call_of wish) (holders_in w))
+reply_in plan w id (Room to) = HasRoom (has_room plan w id to)
+reply_in plan w id (Oldest from) = Found (slice_get (posted id (history_in plan w from)) (received_count from (history_in plan w id)))
+reply_in plan w id request = Unasked
 
 abbrev pub next_stimulus : List CoreStimuli → World → CoreId → Option Stimulus
 next_stimulus stimuli w id = slice_get (stimuli_of stimuli id) (stimulus_count (items_in w id))
 
--- What a turn asks, and the item that it names.
-abbrev pub next_in : Plan → List CoreStimuli → World → CoreId → Choice → Option (Ask × Item)
+-- A turn's request, and the item in which the reply results.
+abbrev pub next_in : Plan → List CoreStimuli → World → CoreId → Choice → Option (Request × Item)
 next_in plan stimuli w id choice =
     let h = history_in plan w id in
-    comes_to id (watch_of (view_of plan id) h) (answer_in plan w id) (asked (view_of plan id) h (next_stimulus stimuli w id) choice)
+    next_item id (watch_of (view_of plan id) h) (reply_in plan w id) (request_of_turn (view_of plan id) h (next_stimulus stimuli w id) choice)
 
--- The item is appended to its core's list, and the call that its turn asked, if it asked one, to the others.
+-- The item is appended to its core's list, and the call of its turn, if there is one, to the others.
 abbrev pub with_item : CoreId → Item → List (CoreId × List Item) → List (CoreId × List Item)
 with_item id item [] = []
 with_item id item (p ∷ ps) = if same_core p.0 id then (p.0, p.1 ++ item ∷ []) ∷ ps else p ∷ with_item id item ps
 
-abbrev pub appends : Plan → World → CoreId → Ask → Item → World
-appends plan w id ask item = record {
+abbrev pub appends : Plan → World → CoreId → Request → Item → World
+appends plan w id request item = record {
   items = with_item id item w.items;
-  calls = joined w.calls (told_by id ask (answer_in plan w id ask));
+  calls = joined w.calls (call_of_turn id request (reply_in plan w id request));
 }
 
 -- A turn appends the one item that it names, if the core takes it, or changes nothing. [own]
-abbrev pub turn_by : Plan → World → CoreId → Option (Ask × Item) → World
+abbrev pub turn_by : Plan → World → CoreId → Option (Request × Item) → World
 turn_by plan w id None = w
 turn_by plan w id (Some t) =
     if takes outbox_size (view_of plan id) (history_in plan w id) t.1 then appends plan w id t.0 t.1 else w

@@ -1,4 +1,4 @@
-//! What a turn is answered, and what it changes beside the core that takes its item.
+//! The reply to a turn's request, and what the turn changes beside the core that takes its item.
 
 ghost use Rattle.std.specs.Prelude.{◌≡◌, ◌<◌, ◌≤◌, ◌&&◌, nat_lt, if◌then◌else◌, None, IfNone, IfOk, IfSome};
 ghost use Rattle.osbase.specs.declared.limits.TheConstants.{CORES};
@@ -6,16 +6,16 @@ ghost use Rattle.osmail.specs.Mail.{empty_mail, has_mail, has_room, oldest_of};
 ghost use Rattle.osboard.specs.Boards.{first_board};
 ghost use Rattle.osspin.specs.Spins.{no_holders};
 ghost use Rattle.oskernel.specs.Wants.{watch_in};
-ghost use Rattle.osturn.specs.Asking.{leads_to};
-ghost use Rattle.osworld.specs.Answering.{answer_by, carried, is_undisturbed, IsPlaced, next_by, told};
+ghost use Rattle.osrun.specs.Requests.{request_and_item};
+ghost use Rattle.osworld.specs.Answering.{reply_by, mail_after, is_undisturbed, IsPlaced, next_by, after_call};
 
 use osbase::{CORES, Choice, CoreId, Envelope, Item, Letter, MAILBOX};
 use osboard::BoardList;
 use oskernel::Watch;
 use osmail::ListMail;
 use osplan::Plan;
+use osrun::{CoreRun, Reply, Request, spin_call_of};
 use osspin::SpinList;
-use osturn::{Answer, Ask, Seat, spin_call_of};
 use std::alloc::{AllocError, Global};
 
 /// The mailboxes of a listed run.
@@ -23,22 +23,22 @@ pub type Mailboxes = ListMail<MAILBOX>;
 
 /// What the cores of a listed run share: the mailboxes between them, the board and the spinlocks.
 #[derive(Drop)]
-pub struct Between {
+pub struct Shared {
     pub mail: Mailboxes,
     pub board: BoardList,
     pub spins: SpinList,
 }
 
-impl Between {
+impl Shared {
     /// Nothing was sent, the master alone is started, and no core holds a spinlock.
     pub fn new(alloc: Global, plan: &Plan) -> Result<Self, AllocError>
         requires some { 1 ≤ plan.now.cap }
         requires fits { plan.now.cap ≤ MAILBOX }
-        ensures mail { IfOk result (λ between. between.mail ≡ empty_mail plan.now.cap) }
-        ensures board { IfOk result (λ between. between.board ≡ first_board plan.now.master) }
-        ensures spins { IfOk result (λ between. between.spins ≡ no_holders) }
+        ensures mail { IfOk result (λ shared. shared.mail ≡ empty_mail plan.now.cap) }
+        ensures board { IfOk result (λ shared. shared.board ≡ first_board plan.now.master) }
+        ensures spins { IfOk result (λ shared. shared.spins ≡ no_holders) }
     {
-        Ok(Between {
+        Ok(Shared {
             mail: Mailboxes::new(alloc, plan.cap as usize)?,
             board: BoardList::new(plan.master),
             spins: SpinList::new(),
@@ -57,81 +57,91 @@ impl Between {
         }
     }
 
-    /// What a core's turn is answered: none where it serves a core from which there is no envelope, as most turns
+    /// The reply to the request of a core's turn; `None` if it serves a core from which there is no envelope, as most turns
     /// do. Nothing changes yet.
-    pub fn answer_to(&self, id: CoreId, ask: Ask) -> Option<Answer>
+    pub fn reply_to(&self, id: CoreId, request: Request) -> Option<Reply>
         requires { id.number < CORES }
-        ensures answer { IfSome result (λ answer. answer ≡ answer_by self.now id ask) }
-        ensures none { IfNone result (answer_by self.now id ask ≡ Answer.Found None) }
+        ensures answer { IfSome result (λ answer. answer ≡ reply_by self.now id request) }
+        ensures none { IfNone result (reply_by self.now id request ≡ Reply.Found None) }
     {
-        match ask {
-            Ask::OfBoard(call) => Some(Answer::Replied(self.board.reply(id, call))),
-            Ask::OfSpins(wish) => Some(Answer::Spun(self.spins.reply(id, spin_call_of(wish)))),
-            Ask::Room(to) => Some(Answer::HasRoom(has_room(&self.mail, id, to))),
-            Ask::Oldest(from) => {
+        match request {
+            Request::OfBoard(call) => Some(Reply::Replied(self.board.reply(id, call))),
+            Request::OfSpins(wish) => Some(Reply::Spun(self.spins.reply(id, spin_call_of(wish)))),
+            Request::Room(to) => Some(Reply::HasRoom(has_room(&self.mail, id, to))),
+            Request::Oldest(from) => {
                 let letter = oldest(&self.mail, id, from)?;
-                Some(Answer::Found(Some(letter)))
+                Some(Reply::Found(Some(letter)))
             }
-            Ask::StartUnknown(_) | Ask::TakeStimulus(_) => Some(Answer::Unasked),
+            Request::StartUnknown(_) | Request::TakeStimulus(_) => Some(Reply::Unasked),
         }
     }
 
-    /// What a turn of this core asks and is answered: none where it asks nothing, serves a core from which there is no
-    /// envelope, or looks at a board that leads it to nothing, as most turns do.
-    pub fn answered(&self, plan: &Plan, seat: &Seat, choice: Choice) -> Option<(Ask, Answer)>
-        ensures answer { IfSome result (λ t. t.1 ≡ answer_by self.now seat.now.id t.0) }
-        ensures leads { IfSome result (λ t. next_by plan.now self.now seat.now.id seat.now.stimuli.now seat.now.kernel choice ≡ leads_to seat.now.id (watch_in seat.now.kernel) t.0 t.1) }
-        ensures none { IfNone result (next_by plan.now self.now seat.now.id seat.now.stimuli.now seat.now.kernel choice ≡ None) }
+    /// The request of a turn of this core, with the reply; `None` if it requests nothing, serves a core from which there is
+    /// no envelope, or looks at a board that shows it nothing new, as most turns do.
+    pub fn request_and_reply(
+        &self,
+        plan: &Plan,
+        core_run: &CoreRun,
+        choice: Choice,
+    ) -> Option<(Request, Reply)>
+        ensures answer { IfSome result (λ t. t.1 ≡ reply_by self.now core_run.now.id t.0) }
+        ensures leads { IfSome result (λ t. next_by plan.now self.now core_run.now.id core_run.now.stimuli.now core_run.now.kernel choice ≡ request_and_item core_run.now.id (watch_in core_run.now.kernel) t.0 t.1) }
+        ensures none { IfNone result (next_by plan.now self.now core_run.now.id core_run.now.stimuli.now core_run.now.kernel choice ≡ None) }
     {
         match choice {
-            Choice::Look if self.is_undisturbed(seat) => None,
-            _ => self.replied(plan, seat, choice),
+            Choice::Look if self.is_undisturbed(core_run) => None,
+            _ => self.request_and_reply_always(plan, core_run, choice),
         }
     }
 
-    // A look at the board that leads the core to nothing, as most do: it watches for nothing, or for a shutdown of all cores
-    // that nobody has asked for.
-    fn is_undisturbed(&self, seat: &Seat) -> bool
-        ensures { result ≡ is_undisturbed (watch_in seat.now.kernel) self.now.board }
+    // A look at the board that results in nothing, as most do: the core watches for nothing, or for a shutdown of all cores
+    // that nobody has requested.
+    fn is_undisturbed(&self, core_run: &CoreRun) -> bool
+        ensures { result ≡ is_undisturbed (watch_in core_run.now.kernel) self.now.board }
     {
-        match seat.kernel.watch() {
+        match core_run.kernel.watch() {
             Watch::Nothing => true,
             Watch::Halt => self.board.look_halt().is_none(),
             _ => false,
         }
     }
 
-    // What a turn is answered, whatever it leads to.
-    fn replied(&self, plan: &Plan, seat: &Seat, choice: Choice) -> Option<(Ask, Answer)>
-        ensures answer { IfSome result (λ t. t.1 ≡ answer_by self.now seat.now.id t.0) }
-        ensures leads { IfSome result (λ t. next_by plan.now self.now seat.now.id seat.now.stimuli.now seat.now.kernel choice ≡ leads_to seat.now.id (watch_in seat.now.kernel) t.0 t.1) }
-        ensures none { IfNone result (next_by plan.now self.now seat.now.id seat.now.stimuli.now seat.now.kernel choice ≡ None) }
+    // The same of any turn, without that test.
+    fn request_and_reply_always(
+        &self,
+        plan: &Plan,
+        core_run: &CoreRun,
+        choice: Choice,
+    ) -> Option<(Request, Reply)>
+        ensures answer { IfSome result (λ t. t.1 ≡ reply_by self.now core_run.now.id t.0) }
+        ensures leads { IfSome result (λ t. next_by plan.now self.now core_run.now.id core_run.now.stimuli.now core_run.now.kernel choice ≡ request_and_item core_run.now.id (watch_in core_run.now.kernel) t.0 t.1) }
+        ensures none { IfNone result (next_by plan.now self.now core_run.now.id core_run.now.stimuli.now core_run.now.kernel choice ≡ None) }
     {
-        let ask = seat.asked(plan, choice)?;
-        let answer = self.answer_to(seat.id, ask)?;
-        Some((ask, answer))
+        let request = core_run.request_of_turn(plan, choice)?;
+        let answer = self.reply_to(core_run.id, request)?;
+        Some((request, answer))
     }
 
-    /// Tells the board or the spinlocks what a turn asked of them.
-    pub fn tell(&mut self, core: CoreId, ask: Ask)
-        ensures { self.new ≡ told core ask self.old }
+    /// Makes the call of the board or the spinlocks that a turn requested.
+    pub fn apply(&mut self, core: CoreId, request: Request)
+        ensures { self.new ≡ after_call core request self.old }
     {
-        match ask {
-            Ask::OfBoard(call) => {
+        match request {
+            Request::OfBoard(call) => {
                 let _ = self.board.call(core, call);
             }
-            Ask::OfSpins(wish) => {
+            Request::OfSpins(wish) => {
                 let _ = self.spins.call(core, spin_call_of(wish));
             }
             _ => {}
         }
     }
 
-    /// Carries the envelope of the item that a core takes: the outbox's front into a mailbox, or out of one.
-    pub fn carry(&mut self, core: CoreId, front: Option<(CoreId, Envelope)>, item: &Item)
+    /// Moves the envelope of the item that a core takes: the outbox's front into a mailbox, or out of one.
+    pub fn deliver(&mut self, core: CoreId, front: Option<(CoreId, Envelope)>, item: &Item)
         requires core { core.number < CORES }
         requires placed { IsPlaced self.old.mail core item.now }
-        ensures { self.new ≡ record self.old { mail = carried core front item.now self.old.mail } }
+        ensures { self.new ≡ record self.old { mail = mail_after core front item.now self.old.mail } }
     {
         match (*item, front) {
             (Item::Posted(to), Some((_, envelope))) => {

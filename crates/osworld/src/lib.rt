@@ -9,5 +9,7 @@ mod worlds;
 
 pub use orders::order;
 pub use osbase::Report;
-pub use osturn::{Answer, Ask, SpinWish, have_all_ended, look_asked, named, own_asked};
+pub use osrun::{
+    Reply, Request, SpinWish, have_all_ended, item_for_reply, look_request, own_request,
+};
 pub use runs::{RunFault, default_schedule, run_default, run_world};

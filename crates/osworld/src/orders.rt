@@ -4,7 +4,7 @@ ghost use Rattle.std.specs.Prelude.{◌≡◌, ◌↔◌, IsTrue, IfSome, List, 
 ghost use Rattle.std.specs.List.{AllByRecursion};
 ghost use Rattle.osbase.specs.declared.turns.Report.{Report as ReportValue};
 ghost use Rattle.osplan.specs.Stimuli.{AreKnown};
-ghost use Rattle.osturn.specs.Sound.{IsOwn, lists_in, unclocked};
+ghost use Rattle.osrun.specs.Sound.{IsOwn, lists_in, unclocked};
 ghost use Rattle.osworld.specs.Runs.{AreReports};
 
 use crate::runs::run_world;
@@ -14,7 +14,7 @@ use osplan::Config;
 use ossame::are_same_items;
 use std::alloc::Global;
 
-/// Turns by which `run_world` comes to exactly these reports, but for the clocks of their items: so what holds of a listed run
+/// Turns by which `run_world` has exactly these reports, but for the clocks of their items: so what holds of a listed run
 /// holds of the run by threads that had these reports. None where none were found, or where memory is refused. Every
 /// answer is checked by a listed run.
 pub fn order(

@@ -10,7 +10,7 @@ ghost use Rattle.osworld.specs.Playing.{IsBegun, IsRound, Plays, PlaysDefault, S
 use crate::worlds::World;
 use osbase::{Choice, CoreId, List, Report, Schedule, Stimuli, Turn};
 use osplan::Config;
-use osturn::ids_of;
+use osrun::ids_of;
 use std::alloc::{AllocError, Global};
 use thiserror::Error;
 
@@ -72,9 +72,9 @@ pub fn run_default(
 }
 
 /// The default schedule: whole rounds, in each of which each core by ascending number serves every other
-/// core, goes on with its own work and looks at the board; up to the first round at whose end every started
-/// core has ended, or in which nothing changed. Want of memory leaves the reports of the turns that were
-/// played to find it: a beginning of it, or all of them where the schedule itself could not grow.
+/// core, does its own work and looks at the board; up to the first round at whose end every started core has
+/// ended, or in which nothing changed. If memory runs out, there are the reports of the turns that were played
+/// to find it: a prefix of it, or all of them if the schedule itself could not grow.
 pub fn default_schedule(
     alloc: Global,
     config: &Config,
@@ -104,9 +104,9 @@ pub fn default_schedule(
 // Plays whole rounds of these cores up to the end of the default schedule, and says how many.
 fn play_rounds(world: &mut World, ids: &[CoreId]) -> Result<u64, AllocError>
     requires round { IsRound world.old.config.now (round_by ids.now) }
-    requires begun { IsBegun world.old.config.now world.old.seats.items world.old.between }
+    requires begun { IsBegun world.old.config.now world.old.core_runs.items world.old.shared }
     ensures reports { world.new.reports ≡ world.old.reports }
-    ensures len { vec_len world.new.seats ≡ vec_len world.old.seats }
+    ensures len { vec_len world.new.core_runs ≡ vec_len world.old.core_runs }
     ensures ok { IfOk result (λ rounds. PlaysDefault world.old rounds world.new) }
     ensures err { OnErr result (StopsDefaultShort world.old world.new) }
 {
@@ -141,9 +141,9 @@ fn repeated(alloc: Global, round: &[Turn], rounds: u64) -> Result<Schedule, Allo
 // The world before the first turn.
 fn begin<'a>(alloc: Global, config: &'a Config, stimuli: &'a Stimuli) -> Result<World<'a>, RunFault>
     ensures config { IfOk result (λ world. world.config.now ≡ config.now) }
-    ensures plays { IfOk result (λ world. Plays config.now stimuli.now (first_world config.now) world.seats.items world.between) }
+    ensures plays { IfOk result (λ world. Plays config.now stimuli.now (first_world config.now) world.core_runs.items world.shared) }
     ensures reports { IfOk result (λ world. world.reports.items ≡ []) }
-    ensures room { IfOk result (λ world. vec_len world.seats ≤ vec_capacity world.reports) }
+    ensures room { IfOk result (λ world. vec_len world.core_runs ≤ vec_capacity world.reports) }
     ensures nothing { IfErr result (λ fault. fault ≡ RunFault.NotBegun) }
     ensures limits { IsTrue (is_within_limits config.now) }
 {

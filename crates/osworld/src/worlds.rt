@@ -8,19 +8,19 @@ ghost use Rattle.osbase.specs.declared.references.CoreId.{CoreId as CoreIdValue}
 ghost use Rattle.osbase.specs.declared.turns.Choice.{Choice as ChoiceValue};
 ghost use Rattle.osbase.specs.History.{same_core};
 ghost use Rattle.osplan.specs.Limits.{is_within_limits};
-ghost use Rattle.osturn.specs.declared.seats.Seat.{Seat as SeatValue};
+ghost use Rattle.osrun.specs.declared.core_runs.CoreRun.{CoreRun as CoreRunValue};
 ghost use Rattle.osbase.specs.Sets.{has_core};
-ghost use Rattle.osworld.specs.Answering.{answer_by};
+ghost use Rattle.osworld.specs.Answering.{reply_by};
 ghost use Rattle.osworld.specs.World.{first_world};
-ghost use Rattle.osturn.specs.Seats.{is_ended_phase, report_of};
+ghost use Rattle.osrun.specs.CoreRuns.{is_ended_phase, report_of};
 ghost use Rattle.osworld.specs.Runs.{round_by, serves_of, turns_in_round};
 
-use crate::answering::Between;
+use crate::answering::Shared;
 use osbase::{CORE_NUMBERS, CORES, Choice, CoreId, CoreStimuli, Item, Report, Turn};
 use oskernel::Want;
 use osplan::Config;
+use osrun::{CoreRun, Reply, Request};
 use ossame::is_same_item;
-use osturn::{Answer, Ask, Seat};
 use std::alloc::{AllocError, Global};
 
 /// The cores of a configuration in ascending order, and what stands between them. A turn finds its core's seat by the
@@ -28,11 +28,11 @@ use std::alloc::{AllocError, Global};
 #[derive(Drop)]
 pub struct World<'a> {
     config: &'a Config,
-    seats: Vec<Seat<'a>>,
+    core_runs: Vec<CoreRun<'a>>,
     places: [Option<usize>; CORES],
     reports: Vec<Report>,
-    between: Between,
-    ghost placed: { (core : CoreIdValue) → core.number < CORES → slice_get places core.number ≡ Some (position (λ (s : SeatValue). same_core s.id core) seats.items) } by { Prim.hlevel props },
+    shared: Shared,
+    ghost placed: { (core : CoreIdValue) → core.number < CORES → slice_get places core.number ≡ Some (position (λ (s : CoreRunValue). same_core s.id core) core_runs.items) } by { Prim.hlevel props },
 }
 
 impl<'a> World<'a> {
@@ -45,34 +45,34 @@ impl<'a> World<'a> {
         stimuli: &'a [CoreStimuli],
     ) -> Result<Self, AllocError>
         ensures config { IfOk result (λ world. world.config.now ≡ config.now) }
-        ensures plays { IfOk result (λ world. Plays config.now stimuli.now (first_world config.now) world.seats.items world.between) }
+        ensures plays { IfOk result (λ world. Plays config.now stimuli.now (first_world config.now) world.core_runs.items world.shared) }
         ensures reports { IfOk result (λ world. world.reports.items ≡ []) }
-        ensures room { IfOk result (λ world. vec_len world.seats ≤ vec_capacity world.reports) }
+        ensures room { IfOk result (λ world. vec_len world.core_runs ≤ vec_capacity world.reports) }
         ensures limits { IsTrue (is_within_limits config.now) }
     {
         let plan = config.plan();
-        let mut seats = Vec::with_capacity(alloc, plan.cores.len())?;
+        let mut core_runs = Vec::with_capacity(alloc, plan.cores.len())?;
         for number in 0..CORE_NUMBERS {
             let id = CoreId { number };
             if plan.core(id).is_some() {
-                seats.push(Seat::new(alloc, config, id, stimuli))?;
+                core_runs.push(CoreRun::new(alloc, config, id, stimuli))?;
             }
         }
         Ok(World {
             config,
-            reports: Vec::with_capacity(alloc, seats.len())?,
-            places: places_of(seats.as_slice()),
-            seats,
-            between: Between::new(alloc, plan)?,
+            reports: Vec::with_capacity(alloc, core_runs.len())?,
+            places: places_of(core_runs.as_slice()),
+            core_runs,
+            shared: Shared::new(alloc, plan)?,
         })
     }
 
-    /// Plays turns in order, and says whether one of them appended an item. Want of memory comes before
-    /// the turn whose growth was refused, and that turn changes nothing.
+    /// Plays turns in order, and says whether one of them appended an item. If memory runs out, it does so before
+    /// the turn whose allocation failed, and that turn changes nothing.
     pub fn play(&mut self, turns: &[Turn]) -> Result<bool, AllocError>
         ensures config { self.new.config ≡ self.old.config }
         ensures reports { self.new.reports ≡ self.old.reports }
-        ensures len { vec_len self.new.seats ≡ vec_len self.old.seats }
+        ensures len { vec_len self.new.core_runs ≡ vec_len self.old.core_runs }
         ensures ok { IfOk result (λ changed. PlaysTurns turns.now self.old changed self.new) }
         ensures err { OnErr result (StopsShort turns.now self.old self.new) }
     {
@@ -88,7 +88,7 @@ impl<'a> World<'a> {
     pub fn play_round(&mut self, ids: &[CoreId]) -> Result<bool, AllocError>
         ensures config { self.new.config ≡ self.old.config }
         ensures reports { self.new.reports ≡ self.old.reports }
-        ensures len { vec_len self.new.seats ≡ vec_len self.old.seats }
+        ensures len { vec_len self.new.core_runs ≡ vec_len self.old.core_runs }
         ensures ok { IfOk result (λ changed. PlaysTurns (round_by ids.now) self.old changed self.new) }
         ensures err { OnErr result (StopsShort (round_by ids.now) self.old self.new) }
     {
@@ -103,7 +103,7 @@ impl<'a> World<'a> {
     fn play_core(&mut self, ids: &[CoreId], id: CoreId) -> Result<bool, AllocError>
         ensures config { self.new.config ≡ self.old.config }
         ensures reports { self.new.reports ≡ self.old.reports }
-        ensures len { vec_len self.new.seats ≡ vec_len self.old.seats }
+        ensures len { vec_len self.new.core_runs ≡ vec_len self.old.core_runs }
         ensures ok { IfOk result (λ changed. PlaysTurns (turns_in_round ids.now id) self.old changed self.new) }
         ensures err { OnErr result (StopsShort (turns_in_round ids.now id) self.old self.new) }
     {
@@ -117,13 +117,13 @@ impl<'a> World<'a> {
     fn serve_all(&mut self, ids: &[CoreId], id: CoreId) -> Result<bool, AllocError>
         ensures config { self.new.config ≡ self.old.config }
         ensures reports { self.new.reports ≡ self.old.reports }
-        ensures len { vec_len self.new.seats ≡ vec_len self.old.seats }
+        ensures len { vec_len self.new.core_runs ≡ vec_len self.old.core_runs }
         ensures ok { IfOk result (λ changed. PlaysTurns (serves_of ids.now id) self.old changed self.new) }
         ensures err { OnErr result (StopsShort (serves_of ids.now id) self.old self.new) }
     {
         let mut changed = false;
         for other in ids {
-            if !self.between.has_mail(id) {
+            if !self.shared.has_mail(id) {
                 return Ok(changed);
             }
             changed = self.serve(id, *other)? | changed;
@@ -135,7 +135,7 @@ impl<'a> World<'a> {
     fn serve(&mut self, id: CoreId, other: CoreId) -> Result<bool, AllocError>
         ensures config { self.new.config ≡ self.old.config }
         ensures reports { self.new.reports ≡ self.old.reports }
-        ensures len { vec_len self.new.seats ≡ vec_len self.old.seats }
+        ensures len { vec_len self.new.core_runs ≡ vec_len self.old.core_runs }
         ensures ok { IfOk result (λ changed. PlaysTurns (serves_of (other ∷ []) id) self.old changed self.new) }
         ensures err { OnErr result (StopsShort (serves_of (other ∷ []) id) self.old self.new) }
     {
@@ -150,7 +150,7 @@ impl<'a> World<'a> {
     pub fn turn(&mut self, core: CoreId, choice: Choice) -> Result<bool, AllocError>
         ensures config { self.new.config ≡ self.old.config }
         ensures reports { self.new.reports ≡ self.old.reports }
-        ensures len { vec_len self.new.seats ≡ vec_len self.old.seats }
+        ensures len { vec_len self.new.core_runs ≡ vec_len self.old.core_runs }
         ensures ok { IfOk result (λ changed. PlaysTurns ((core, choice) ∷ []) self.old changed self.new) }
         ensures err { OnErr result (StopsShort ((core, choice) ∷ []) self.old self.new) }
     {
@@ -160,36 +160,40 @@ impl<'a> World<'a> {
         let Some(at) = self.place_of(core) else {
             return Ok(false);
         };
-        let seat = &self.seats[at];
-        match self.between.answered(self.config.plan(), seat, choice) {
-            Some((ask, answer)) => self.go_on(at, ask, &answer),
+        let core_run = &self.core_runs[at];
+        match self
+            .shared
+            .request_and_reply(self.config.plan(), core_run, choice)
+        {
+            Some((request, answer)) => self.take_item(at, request, &answer),
             None => Ok(false),
         }
     }
 
-    // What comes of an answer: the item to which it leads, if the core takes it. It is a call of its own, so that a turn
+    // The item in which a reply results, if the core takes it. It is a call of its own, so that a turn
     // without an answer, as most are, costs none of it.
     #[inline(never)]
-    fn go_on(&mut self, at: usize, ask: Ask, answer: &Answer) -> Result<bool, AllocError>
-        requires at { at < vec_len self.old.seats }
-        requires answer { (seat : SeatValue) → slice_get self.old.seats.items at ≡ Some seat → answer.now ≡ answer_by self.old.between seat.id ask }
+    fn take_item(&mut self, at: usize, request: Request, answer: &Reply) -> Result<bool, AllocError>
+        requires at { at < vec_len self.old.core_runs }
+        requires answer { (core_run : CoreRunValue) → slice_get self.old.core_runs.items at ≡ Some core_run → answer.now ≡ reply_by self.old.shared core_run.id request }
         ensures config { self.new.config ≡ self.old.config }
         ensures reports { self.new.reports ≡ self.old.reports }
-        ensures len { vec_len self.new.seats ≡ vec_len self.old.seats }
-        ensures ok { IfOk result (λ changed. (core : CoreIdValue) (choice : ChoiceValue) → IsAnswered self.old.config.now self.old.seats.items self.old.between at core choice ask answer.now → PlaysTurns ((core, choice) ∷ []) self.old changed self.new) }
-        ensures err { OnErr result ((core : CoreIdValue) (choice : ChoiceValue) → IsAnswered self.old.config.now self.old.seats.items self.old.between at core choice ask answer.now → StopsShort ((core, choice) ∷ []) self.old self.new) }
+        ensures len { vec_len self.new.core_runs ≡ vec_len self.old.core_runs }
+        ensures ok { IfOk result (λ changed. (core : CoreIdValue) (choice : ChoiceValue) → IsAnswered self.old.config.now self.old.core_runs.items self.old.shared at core choice request answer.now → PlaysTurns ((core, choice) ∷ []) self.old changed self.new) }
+        ensures err { OnErr result ((core : CoreIdValue) (choice : ChoiceValue) → IsAnswered self.old.config.now self.old.core_runs.items self.old.shared at core choice request answer.now → StopsShort ((core, choice) ∷ []) self.old self.new) }
     {
-        let seat = &mut self.seats[at];
-        let Some(item) = seat.named(ask, answer) else {
+        let core_run = &mut self.core_runs[at];
+        let Some(item) = core_run.item_for_reply(request, answer) else {
             return Ok(false);
         };
-        if !seat.kernel.may_take(&item) {
+        if !core_run.kernel.may_take(&item) {
             return Ok(false);
         }
-        seat.make_room()?;
-        self.between.tell(seat.id, ask);
-        self.between.carry(seat.id, seat.kernel.front(), &item);
-        seat.take(item);
+        core_run.make_room()?;
+        self.shared.apply(core_run.id, request);
+        self.shared
+            .deliver(core_run.id, core_run.kernel.front(), &item);
+        core_run.take(item);
         Ok(true)
     }
 
@@ -198,7 +202,7 @@ impl<'a> World<'a> {
         ensures { IsTrue result → PlaysTurns ((core, choice) ∷ []) self.now false self.now }
     {
         match choice {
-            Choice::Serve(_) => !self.between.has_mail(core),
+            Choice::Serve(_) => !self.shared.has_mail(core),
             _ => false,
         }
     }
@@ -207,11 +211,13 @@ impl<'a> World<'a> {
     /// append another item.
     pub fn choice_for(&self, core: CoreId, item: &Item) -> Option<Choice> {
         let at = self.place_of(core)?;
-        let seat = &self.seats[at];
-        let choice = choice_of(seat, item);
-        let (ask, answer) = self.between.answered(self.config.plan(), seat, choice)?;
-        let named = seat.named(ask, &answer)?;
-        if is_same_item(named, *item) && seat.kernel.may_take(&named) {
+        let core_run = &self.core_runs[at];
+        let choice = choice_of(core_run, item);
+        let (request, answer) = self
+            .shared
+            .request_and_reply(self.config.plan(), core_run, choice)?;
+        let named = core_run.item_for_reply(request, &answer)?;
+        if is_same_item(named, *item) && core_run.kernel.may_take(&named) {
             Some(choice)
         } else {
             None
@@ -220,33 +226,31 @@ impl<'a> World<'a> {
 
     /// Whether every started core has ended.
     pub fn is_over(&self) -> bool
-        ensures { result ≡ list_all (λ (s : SeatValue). not (has_core self.now.between.board.view.started s.id) || is_ended_phase s.kernel.progress.phase) self.now.seats.items }
+        ensures { result ≡ list_all (λ (s : CoreRunValue). not (has_core self.now.shared.board.view.started s.id) || is_ended_phase s.kernel.progress.phase) self.now.core_runs.items }
     {
-        let started = self.between.board.look().started;
-        self.seats
-            .iter()
-            .all(|seat| !started.contains(seat.id) || seat.has_ended())
+        let started = self.shared.board.look().started;
+        self.core_runs.iter().all(|core_run| !started.contains(core_run.id) || core_run.has_ended())
     }
 
     /// The report of each core, in ascending order.
     pub fn finish(self) -> Vec<Report>
         requires none { self.reports.items ≡ [] }
-        requires room { vec_len self.seats ≤ vec_capacity self.reports }
-        ensures { result.items ≡ map report_of self.entry.seats.items }
+        requires room { vec_len self.core_runs ≤ vec_capacity self.reports }
+        ensures { result.items ≡ map report_of self.entry.core_runs.items }
     {
         let World {
-            mut seats,
+            mut core_runs,
             mut reports,
             ..
         } = self;
-        report_each(seats.as_mut_slice(), &mut reports);
+        report_each(core_runs.as_mut_slice(), &mut reports);
         reports
     }
 
     // Where a core sits.
     fn place_of(&self, core: CoreId) -> Option<usize>
-        ensures place { result ≡ position (λ (s : SeatValue). same_core s.id core) self.now.seats.items }
-        ensures within { IfSome result (λ at. at < vec_len self.now.seats) }
+        ensures place { result ≡ position (λ (s : CoreRunValue). same_core s.id core) self.now.core_runs.items }
+        ensures within { IfSome result (λ at. at < vec_len self.now.core_runs) }
     {
         let number = usize::from(core.number);
         if number < CORES {
@@ -259,11 +263,11 @@ impl<'a> World<'a> {
 
 // The choice by which a core takes this item, if it does. It takes a halt by its own turn where it asks for one itself, and
 // else by a look.
-fn choice_of(seat: &Seat, item: &Item) -> Choice {
+fn choice_of(core_run: &CoreRun, item: &Item) -> Choice {
     match item {
         Item::On | Item::Pass1(_) | Item::Pass2(_) | Item::PassEnd | Item::Last(_) => Choice::Look,
         Item::Received { from, .. } => Choice::Serve(*from),
-        Item::Halt { .. } => match seat.kernel.want() {
+        Item::Halt { .. } => match core_run.kernel.want() {
             Want::AskHalt(_) => Choice::Own,
             _ => Choice::Look,
         },
@@ -272,30 +276,32 @@ fn choice_of(seat: &Seat, item: &Item) -> Choice {
 }
 
 // The report of each seat, in order.
-fn report_each(seats: &mut [Seat], reports: &mut Vec<Report>)
+fn report_each(core_runs: &mut [CoreRun], reports: &mut Vec<Report>)
     requires none { reports.old.items ≡ [] }
-    requires room { length seats.old ≤ vec_capacity reports.old }
-    ensures { reports.new.items ≡ map report_of seats.old }
+    requires room { length core_runs.old ≤ vec_capacity reports.old }
+    ensures { reports.new.items ≡ map report_of core_runs.old }
 {
-    for seat in seats.iter_mut() {
-        reports.push_reserved(seat.report());
+    for core_run in core_runs.iter_mut() {
+        reports.push_reserved(core_run.report());
     }
 }
 
 // Where each core sits.
-fn places_of(seats: &[Seat]) -> [Option<usize>; CORES]
-    ensures { (core : CoreIdValue) → core.number < CORES → slice_get result core.number ≡ Some (position (λ (s : SeatValue). same_core s.id core) seats.now) }
+fn places_of(core_runs: &[CoreRun]) -> [Option<usize>; CORES]
+    ensures { (core : CoreIdValue) → core.number < CORES → slice_get result core.number ≡ Some (position (λ (s : CoreRunValue). same_core s.id core) core_runs.now) }
 {
     let mut places = [None; CORES];
     for number in 0..CORE_NUMBERS {
-        places[usize::from(number)] = place_in(seats, CoreId { number });
+        places[usize::from(number)] = place_in(core_runs, CoreId { number });
     }
     places
 }
 
 // Where this core sits.
-fn place_in(seats: &[Seat], core: CoreId) -> Option<usize>
-    ensures { result ≡ position (λ (s : SeatValue). same_core s.id core) seats.now }
+fn place_in(core_runs: &[CoreRun], core: CoreId) -> Option<usize>
+    ensures { result ≡ position (λ (s : CoreRunValue). same_core s.id core) core_runs.now }
 {
-    seats.iter().position(|seat| seat.id.number == core.number)
+    core_runs
+        .iter()
+        .position(|core_run| core_run.id.number == core.number)
 }

@@ -4,9 +4,9 @@ use Rattle.std.specs.{List.list_all, Option.option_map_or}
 use Rattle.std.proofs.lemmas.Bool.{and_parts, ltb-true, not-true}
 use Rattle.serde_json.specs.Data.{Data, Items, Members, array, object, no_items, item, no_members, member, depth, items_depth, members_depth}
 use Rattle.serde_json.specs.{View.items_of, Written.has_float, Written.items_have_float, Written.members_have_float}
-use Rattle.oscheck.specs.Words.{Plan}
-use Rattle.osdraft.proofs.Loops.{always}
-use Rattle.osdata.specs.Data.{or_null_data}
+use Rattle.osvalidate.specs.Words.{Plan}
+use Rattle.osload.proofs.Loops.{always}
+use Rattle.osvalues.specs.Data.{or_null_data}
 use Rattle.oswrite.specs.Writing.{config_data}
 
 -- ---- data without floats that nests no deeper than a number says

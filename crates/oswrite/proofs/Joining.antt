@@ -2,8 +2,8 @@
 use Rattle.std.proofs.Common.{◌≡◌, ℕ, true, not, ◌==◌, List, [], ◌∷◌, ◌++◌, length, map, refl, ap, ◌∙◌}
 use Rattle.std.specs.List.{list_all, slice_split, join_by, join_with_byte, flat_map}
 use Rattle.std.proofs.lemmas.{Bool.not-true, List.append-nil}
-use Rattle.osforms.proofs.Joining.{has_none, split-joined, some-more}
-use Rattle.osread.specs.Reading.{parts_of}
+use Rattle.ossyntax.proofs.Joining.{has_none, split-joined, some-more}
+use Rattle.osjson.specs.Reading.{parts_of}
 
 -- joined by one byte in either form
 join-bytes : {X : Type 0} (f : X → List ℕ) (byte : ℕ) (x : X) (xs : List X) → join_by f (byte ∷ []) (x ∷ xs) ≡ join_with_byte byte (map f (x ∷ xs))

@@ -1,22 +1,22 @@
--- An object's name stands for the object, since no other has it.
+-- An object's name refers to the object, since no other has it.
 use Rattle.std.proofs.Common.{◌≡◌, ℕ, zero, suc, ◌+◌, ◌≤◌, true, not, List, [], ◌∷◌, length, map, get_or, Option, Some, option_and_then, refl, sym, ap, ◌∙◌, subst, arith, ◌<◌, nat_lt, None, option_map, unwrap_or, IsTrue, is_some}
 use Rattle.std.specs.{List.list_any, List.enumerate_from, List.find, List.flat_map, List.slice_get, List.list_all, List.Contains, List.position_or_len, Str.bytes_eq, Option.option_map_or}
 use Rattle.std.proofs.lemmas.Bool.{and_parts, not-true, false_from_ne_true, false≢true, eqb-true, ltb-true}
 use Rattle.std.proofs.lemmas.{List.length-map, List.get_or-map, Simd.map-map, Slice.Eq.bytes_eq-Decides, List.Folds.flat_map-map, List.Folds.list_all-map, List.Folds.find_at, Option.slice_get-map, Option.slice_get-get_or}
 use Rattle.std.proofs.lemmas.{List.Elements.Contains-append_left, List.Elements.Contains-append_right, List.FromFn.get_or-enumerate_from, List.FromFn.length-enumerate_from, Option.get_or_from_slice_get, Option.slice_get_within}
-use Rattle.oscheck.specs.Words.{Core, CoreId, Declaration, Named, ObjectKind, Plan, Object, Spinlock, SpinlockText}
+use Rattle.osvalidate.specs.Words.{Core, CoreId, Declaration, Named, ObjectKind, Plan, Object, Spinlock, SpinlockText}
 use Rattle.osbase.specs.{History.same_core, Objects.same_kind, declared.objects.TheConstants.NOBODY, Names.is_name}
 use Rattle.osbase.proofs.{Same.same_core-true, Same.same_kind-self, Places.passes-at}
-use Rattle.osforms.proofs.Operations.{IsNamed}
+use Rattle.ossyntax.proofs.Operations.{IsNamed}
 use Rattle.osplan.specs.{declared.plans.TheConstants.COMMON, declared.plans.TheConstants.KINDS, View.core_of, Limits.is_object, Limits.is_within_limits, Limits.sizes_of, Names.name_of}
-use Rattle.osplan.specs.Expressible.{are_distinct, declared_names, is_core_expressible, is_expressible, is_mode_expressible}
+use Rattle.osplan.specs.Representable.{are_distinct, declared_names, is_core_representable, is_representable, is_mode_representable}
 use Rattle.osplan.specs.Objects.{common_names, is_common, names_in, object_count}
 use Rattle.osplan.proofs.{Tests.all-weaker, Tests.find-holds, Tests.find-passes, Within.core-fits, Within.core-text-parts, Within.few-modes, Within.few-objects, Within.few-spinlocks, Within.limit-parts, Within.names-formed, Within.text-parts}
-use Rattle.osshape.specs.Declarations.{common_of, id_of, declaration, declarations, declared_as, declared_by, has_name, names_of, place_in, place_of}
-use Rattle.osshape.specs.Shape.{common_in, objects_in, unnumbered}
-use Rattle.osshape.proofs.{Indexing.among, Naming.common-named, Naming.names-of-all, Naming.names-of-text}
-use Rattle.osdraft.proofs.Found.{byte-small}
-use Rattle.oswrite.proofs.Said.{config_said, core_said, spinlock_said}
+use Rattle.osschema.specs.Declarations.{common_of, id_of, declaration, declarations, declared_as, declared_by, has_name, names_of, place_in, place_of}
+use Rattle.osschema.specs.Shape.{common_in, objects_in, unnumbered}
+use Rattle.osschema.proofs.{Indexing.among, Naming.common-named, Naming.names-of-all, Naming.names-of-text}
+use Rattle.osload.proofs.Found.{byte-small}
+use Rattle.oswrite.proofs.Said.{config_as_text, core_as_text, spinlock_as_text}
 
 -- Where no name stands twice, each object is found by its name.
 stands-found : (objects : List Declaration) (d : Declaration) → are_distinct (names_of objects) ≡ true → Contains objects d → find (has_name d.name) objects ≡ Some d
@@ -49,27 +49,27 @@ kind-has id objects kinds kind i object there is =
     (i, omega (arith, within, many, length-map indexed (declaration id kind)), get_or-map (declaration id kind) indexed i (i, object) _ (omega arith) ∙ ap (declaration id kind) here)
 
 module _ (plan : Plan) where
-  core-has : (core : Core) (kind : ObjectKind) (i : ℕ) (object : Named) → slice_get (objects_in kind (core_said plan core)) i ≡ Some object → Contains (declared_by (core_said plan core)) (declaration (id_of (core_said plan core)) kind (i, object))
+  core-has : (core : Core) (kind : ObjectKind) (i : ℕ) (object : Named) → slice_get (objects_in kind (core_as_text plan core)) i ≡ Some object → Contains (declared_by (core_as_text plan core)) (declaration (id_of (core_as_text plan core)) kind (i, object))
   core-has core ObjectKind.Mode i object is = cc
   core-has core ObjectKind.Spinlock i object is = cc
-  core-has core kind i object is = kind-has (id_of (core_said plan core)) (λ kind. objects_in kind (core_said plan core)) KINDS kind i object refl is
+  core-has core kind i object is = kind-has (id_of (core_as_text plan core)) (λ kind. objects_in kind (core_as_text plan core)) KINDS kind i object refl is
 
-  common-has : (kind : ObjectKind) (i : ℕ) (object : Named) → slice_get (common_in kind (config_said plan)) i ≡ Some object → Contains (flat_map (common_of (config_said plan)) COMMON) (declaration NOBODY kind (i, object))
-  common-has ObjectKind.Mode i object is = kind-has NOBODY (λ kind. common_in kind (config_said plan)) COMMON ObjectKind.Mode i object refl is
-  common-has ObjectKind.Spinlock i object is = kind-has NOBODY (λ kind. common_in kind (config_said plan)) COMMON ObjectKind.Spinlock i object refl is
+  common-has : (kind : ObjectKind) (i : ℕ) (object : Named) → slice_get (common_in kind (config_as_text plan)) i ≡ Some object → Contains (flat_map (common_of (config_as_text plan)) COMMON) (declaration NOBODY kind (i, object))
+  common-has ObjectKind.Mode i object is = kind-has NOBODY (λ kind. common_in kind (config_as_text plan)) COMMON ObjectKind.Mode i object refl is
+  common-has ObjectKind.Spinlock i object is = kind-has NOBODY (λ kind. common_in kind (config_as_text plan)) COMMON ObjectKind.Spinlock i object refl is
   common-has kind i object is = cc
 
   -- ---- the names that a text declares are the configuration's
 
-  kind-named : (core : Core) (kind : ObjectKind) → names_in kind core ≡ map (λ (named : Named). named.name) (objects_in kind (core_said plan core))
+  kind-named : (core : Core) (kind : ObjectKind) → names_in kind core ≡ map (λ (named : Named). named.name) (objects_in kind (core_as_text plan core))
   kind-named core ObjectKind.Mode = refl
   kind-named core kind = grind (arith, map-map)
 
-  common-said : (kind : ObjectKind) → common_names kind plan ≡ map (λ (named : Named). named.name) (common_in kind (config_said plan))
-  common-said = common-named plan (config_said plan) refl (sym (map-map (λ (spinlock : SpinlockText). spinlock.name) (spinlock_said plan) plan.spinlocks))
+  common-said : (kind : ObjectKind) → common_names kind plan ≡ map (λ (named : Named). named.name) (common_in kind (config_as_text plan))
+  common-said = common-named plan (config_as_text plan) refl (sym (map-map (λ (spinlock : SpinlockText). spinlock.name) (spinlock_as_text plan) plan.spinlocks))
 
-  names-said : declared_names plan ≡ names_of (declarations (config_said plan))
-  names-said = names-of-text plan (config_said plan) common-said (sym (ap names_of (flat_map-map declared_by (core_said plan) plan.cores) ∙ names-of-all (λ core. core) (core_said plan) kind-named plan.cores))
+  names-said : declared_names plan ≡ names_of (declarations (config_as_text plan))
+  names-said = names-of-text plan (config_as_text plan) common-said (sym (ap names_of (flat_map-map declared_by (core_as_text plan) plan.cores) ∙ names-of-all (λ core. core) (core_as_text plan) kind-named plan.cores))
 
   kind-many : (core : Core) (kind : ObjectKind) → length (names_in kind core) ≡ object_count kind core
   kind-many core ObjectKind.Mode = refl
@@ -77,9 +77,9 @@ module _ (plan : Plan) where
 
 -- ---- what the name of an object stands for
 
-module _ (plan : Plan) (inside : IsTrue (is_within_limits plan)) (sayable : IsTrue (is_expressible plan)) where
+module _ (plan : Plan) (inside : IsTrue (is_within_limits plan)) (sayable : IsTrue (is_representable plan)) where
   abbrev declared : List Declaration
-  declared = declarations (config_said plan)
+  declared = declarations (config_as_text plan)
 
   -- No name stands twice.
   pub apart : are_distinct (names_of declared) ≡ true
@@ -103,7 +103,7 @@ module _ (plan : Plan) (inside : IsTrue (is_within_limits plan)) (sayable : IsTr
   common-fits : (kind : ObjectKind) → (list_all is_name (common_names kind plan) ≡ true) × (length (common_names kind plan) ≤ 255)
   common-fits ObjectKind.Mode =
       let few = few-modes (sizes_of plan) (limit-parts plan inside).sizes in
-      (all-weaker is_mode_expressible is_name (λ name h. (and_parts (is_name name) _ h).0) plan.modes (text-parts plan sayable).modes, omega (arith, few))
+      (all-weaker is_mode_representable is_name (λ name h. (and_parts (is_name name) _ h).0) plan.modes (text-parts plan sayable).modes, omega (arith, few))
   common-fits ObjectKind.Spinlock =
       let few = few-spinlocks (sizes_of plan) (limit-parts plan inside).sizes in
       let name = λ (spinlock : Spinlock). spinlock.name in
@@ -114,7 +114,7 @@ module _ (plan : Plan) (inside : IsTrue (is_within_limits plan)) (sayable : IsTr
   named-if object None is known =
       let kind = object.kind in
       let index = object.place.index in
-      let t = config_said plan in
+      let t = config_as_text plan in
       let names = common_names kind plan in
       let parts = and_parts (same_core object.place.core NOBODY) (nat_lt index (length names)) known in
       let within = ltb-true index (length names) parts.1 in
@@ -124,17 +124,17 @@ module _ (plan : Plan) (inside : IsTrue (is_within_limits plan)) (sayable : IsTr
   named-if object (Some core) is known =
       let kind = object.kind in
       let index = object.place.index in
-      let t = config_said plan in
-      let text = core_said plan core in
+      let t = config_as_text plan in
+      let text = core_as_text plan core in
       let test = λ (c : Core). same_core c.id object.place.core in
-      let parts = core-text-parts core (find-passes test is_core_expressible plan.cores core (text-parts plan sayable).cores is) in
+      let parts = core-text-parts core (find-passes test is_core_representable plan.cores core (text-parts plan sayable).cores is) in
       let fits = core-fits plan object.place.core core inside is in
       let within = ltb-true index (object_count kind core) known in
       let number = byte-small core.id.number (omega (arith, ltb-true core.id.number 16 fits.number)) ∙ eqb-true core.id.number object.place.core.number (find-holds test plan.cores core is) in
       named-by object (id_of text) (names_in kind core) (objects_in kind text) (ap (λ (n : ℕ). let id : CoreId = record { number = n } in id) number) (rw is refl) (kind-named plan core kind)
       (names-formed core parts kind) (omega (arith, within, kind-many plan core kind)) (omega (arith, within, few-objects core fits kind, kind-many plan core kind))
-      (λ o here. Contains-append_right (flat_map (common_of t) COMMON) (flat_map declared_by t.cores) _ (rw (flat_map-map declared_by (core_said plan) plan.cores)
-      (flat-has (λ core. declared_by (core_said plan core)) plan.cores (position_or_len test plan.cores) core _ (sym (find_at test plan.cores) ∙ is) (core-has plan core kind index o here))))
+      (λ o here. Contains-append_right (flat_map (common_of t) COMMON) (flat_map declared_by t.cores) _ (rw (flat_map-map declared_by (core_as_text plan) plan.cores)
+      (flat-has (λ core. declared_by (core_as_text plan core)) plan.cores (position_or_len test plan.cores) core _ (sym (find_at test plan.cores) ∙ is) (core-has plan core kind index o here))))
 
   -- The name of each object of the configuration is in form, and stands for it.
   pub object-named : (object : Object) → is_object plan object ≡ true → IsNamed (place_of declared) (name_of plan) object

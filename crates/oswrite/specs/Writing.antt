@@ -3,7 +3,7 @@ use Rattle.std.specs.Prelude.{ℕ, List, codes}
 use Rattle.serde_json.specs.Data.{Data, object, no_members, member}
 use Rattle.serde_json.specs.Written.{compact_text}
 use Rattle.osplan.specs.declared.plans.Plan.{Plan}
-use Rattle.osdata.specs.Data.{core_data, id_data, list_data, name_data, spinlock_data, whole_data}
+use Rattle.osvalues.specs.Data.{core_data, id_data, list_data, name_data, spinlock_data, whole_data}
 
 -- A configuration, with every member of its text, in ascending order of names: the size of a mailbox, its cores, the master core, its
 -- application modes, its spinlocks and the version of the format. [own]

@@ -2,11 +2,11 @@
 
 ghost use Rattle.std.specs.Prelude.{◌≡◌, IfErr, IfOk, Some, string_bytes};
 ghost use Rattle.serde_json.specs.View.{view};
-ghost use Rattle.osdraft.specs.Meaning.{config_of};
+ghost use Rattle.osload.specs.Meaning.{config_of};
 ghost use Rattle.oswrite.specs.Writing.{config_data, config_text};
 
-use osdata::{cores_value, modes_value, spinlocks_value};
 use osplan::{ConfFault, Config, Plan};
+use osvalues::{cores_value, modes_value, spinlocks_value};
 use serde_json::{Value, json};
 use std::alloc::{AllocError, Global};
 

@@ -3,7 +3,7 @@
 ghost use Rattle.std.specs.Prelude.{◌≡◌, ◌∷◌, ◌<◌, ◌≤◌, ◌^◌, IsTrue, length, option_copied, option_map, Some, suc};
 ghost use Rattle.std.specs.List.{list_all};
 ghost use Rattle.osbase.specs.declared.references.AlarmRef.{AlarmRef as AlarmRefValue};
-ghost use Rattle.osbase.specs.History.{Noted, AlarmCancelled, AlarmSet, Counted};
+ghost use Rattle.osbase.specs.History.{Noted, AlarmCancelled, AlarmSet, CounterIncremented};
 ghost use Rattle.osbase.specs.Objects.{alarm_object, counter_object};
 ghost use Rattle.osplan.specs.Clocked.{are_clocks_within};
 ghost use Rattle.osplan.specs.Objects.{is_own_object, may_act};
@@ -20,13 +20,13 @@ use osclock::AlarmList;
 use osplan::{Alarm, Counter, own};
 
 impl<'a, const P: usize, const J: usize, const OUT: usize> CoreState<'a, P, J, OUT> {
-    /// One of the core's counters goes on by one, and with it each alarm and each schedule table of it (OSEK/VDX OS 2.2.3,
+    /// One of the core's counters is incremented, and with it each of its alarms and schedule tables moves on (OSEK/VDX OS 2.2.3,
     /// section 9.1 and 9.2; AUTOSAR SWS OS 4.x, section 7.3).
     pub fn count(&mut self, counter: CounterRef)
         requires own { IsTrue (is_own_object self.old.view.own (counter_object counter)) }
         requires count { self.old.progress.entries < 2 ^ 63 }
-        ensures state { self.new ≡ state_after (Noted (Counted counter)) self.old }
-        ensures remarks { Remarks 1 (λ v h. Noted (Counted counter) ∷ h) self.old self.new }
+        ensures state { self.new ≡ state_after (Noted (CounterIncremented counter)) self.old }
+        ensures remarks { Remarks 1 (λ v h. Noted (CounterIncremented counter) ∷ h) self.old self.new }
     {
         self.clocks.count(self.core, counter);
         self.tables.count(self.core, counter);

@@ -3,7 +3,7 @@
 ghost use Rattle.std.specs.Prelude.{◌≡◌, IfSome, IsTrue, length, nat_lt};
 ghost use Rattle.osbase.specs.Spins.{got_spinlocks, has_spinlock, is_owing, newest_of, newest_owed};
 ghost use Rattle.osplan.specs.Spinlocks.{comes_after};
-ghost use Rattle.osgrant.specs.Grants.{is_held_by};
+ghost use Rattle.osgot.specs.Grants.{is_held_by};
 ghost use Rattle.osstate.specs.Does.{Reads};
 ghost use Rattle.osstate.specs.Sound.{is_lock_known};
 
@@ -52,7 +52,7 @@ impl<'a, const P: usize, const J: usize, const OUT: usize> CoreState<'a, P, J, O
         self.border.spins.newest_of(runner)
     }
 
-    /// The spinlock of which the release is owed first.
+    /// The spinlock whose release is owed first.
     pub fn owed_spinlock(&self) -> Option<SpinlockId>
         ensures value { result ≡ newest_owed self.now.border.spins }
         ensures reads { Reads (λ v h. newest_owed (got_spinlocks h)) self.now result }

@@ -3,7 +3,7 @@
 ghost use Rattle.std.specs.Prelude.{◌≡◌, ◌<◌, ◌≤◌, ◌^◌, ◌∷◌, ℕ, IsTrue, IfSome, length, option_copied, suc, sum_by};
 ghost use Rattle.std.specs.List.{list_all};
 ghost use Rattle.osbase.specs.declared.references.TableRef.{TableRef as TableRefValue};
-ghost use Rattle.osbase.specs.History.{Noted, TableNext, TableQuit, TableStarted};
+ghost use Rattle.osbase.specs.History.{Noted, TableNext, TableStopped, TableStarted};
 ghost use Rattle.osbase.specs.Objects.{counter_object, table_object};
 ghost use Rattle.osplan.specs.Clocked.{are_clocks_within};
 ghost use Rattle.osplan.specs.Objects.{is_own_object, may_act, table_actions};
@@ -35,13 +35,13 @@ impl<'a, const P: usize, const J: usize, const OUT: usize> CoreState<'a, P, J, O
     }
 
     /// One of the core's tables is stopped, or waits no longer (AUTOSAR SWS OS 4.x, SWS_Os_00281).
-    pub fn quit_table(&mut self, table: TableRef)
+    pub fn stop_table(&mut self, table: TableRef)
         requires own { IsTrue (is_own_object self.old.view.own (table_object table)) }
         requires count { self.old.progress.entries < 2 ^ 63 }
-        ensures state { self.new ≡ state_after (Noted (TableQuit table)) self.old }
-        ensures remarks { Remarks 1 (λ v h. Noted (TableQuit table) ∷ h) self.old self.new }
+        ensures state { self.new ≡ state_after (Noted (TableStopped table)) self.old }
+        ensures remarks { Remarks 1 (λ v h. Noted (TableStopped table) ∷ h) self.old self.new }
     {
-        self.tables.quit(self.core, table);
+        self.tables.stop(self.core, table);
         self.progress.entries += 1;
     }
 

@@ -6,7 +6,7 @@ use osbase::{
 use osconf::{Config, read_config};
 use oskernel::{STEP_MARKS, Want};
 use osplay::{Difference, blocks_of, same};
-use osturn::CoreKernel;
+use osrun::CoreKernel;
 use std::alloc::Global;
 use std::process::Abort;
 use std::slice;

@@ -1,13 +1,13 @@
 ghost use Rattle.std.specs.Prelude.{◌≡◌, ◌<◌, ◌+◌, ◌≤◌, ℕ, [], All, IfOk, map, slice_index_or, vec_capacity, vec_len};
-ghost use Rattle.osseat.specs.Histories.{Thinned};
-ghost use Rattle.osseat.specs.Runs.{IsOneRun, IsRunOf};
-ghost use Rattle.osseat.specs.Seats.{AllApart};
+ghost use Rattle.osshared.specs.Histories.{Thinned};
+ghost use Rattle.osshared.specs.Runs.{IsOneRun, IsRunOf};
+ghost use Rattle.osshared.specs.Seats.{AllApart};
 ghost use Rattle.osbase.specs.declared.limits.TheConstants.{CORES};
 ghost use Rattle.osboard.specs.Boards.{IsLook, one_board};
 
 use osbase::{CORES, CoreId, CoreMode, List, ModeId, Status};
 use osboard::{Board, BoardCall, BoardList, BoardReply, BoardSeat, BoardView};
-use osseat::Entry;
+use osshared::Entry;
 use std::alloc::{AllocError, Global};
 use std::test::Fail;
 use std::thread;

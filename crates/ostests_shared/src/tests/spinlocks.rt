@@ -1,12 +1,12 @@
 ghost use Rattle.std.specs.Prelude.{◌≡◌, ◌<◌, [], ℕ, All, IfOk, IfSome, map, slice_index_or, vec_len};
-ghost use Rattle.osseat.specs.Histories.{Thinned};
-ghost use Rattle.osseat.specs.Runs.{IsOneRun, IsRunOf};
-ghost use Rattle.osseat.specs.Seats.{AllApart};
+ghost use Rattle.osshared.specs.Histories.{Thinned};
+ghost use Rattle.osshared.specs.Runs.{IsOneRun, IsRunOf};
+ghost use Rattle.osshared.specs.Seats.{AllApart};
 ghost use Rattle.osbase.specs.declared.limits.TheConstants.{SPINLOCKS};
 ghost use Rattle.osspin.specs.Spins.{IsRefusedCall, spinlocks};
 
 use osbase::{CoreId, List, SPINLOCKS, SpinlockId};
-use osseat::Entry;
+use osshared::Entry;
 use osspin::{SpinAction, SpinBank, SpinCall, SpinList, SpinReply, SpinSeat};
 use std::alloc::{AllocError, Global};
 use std::test::Fail;

@@ -2,7 +2,7 @@
 
 ghost use Rattle.std.specs.List.{AllByRecursion};
 ghost use Rattle.osplan.specs.Stimuli.{AreKnown};
-ghost use Rattle.osturn.specs.Sound.{IsOwn};
+ghost use Rattle.osrun.specs.Sound.{IsOwn};
 
 use super::gates::{FOUR_CORES, STIMULI, Watcher};
 use super::spinlocks::OWED;

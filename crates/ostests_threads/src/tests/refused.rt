@@ -3,7 +3,7 @@
 
 ghost use Rattle.std.specs.Prelude.{◌≡◌, ◌<◌, ◌∷◌, [], IfOk, vec_len, vec_capacity};
 ghost use Rattle.osbase.specs.declared.references.CoreId.{CoreId as CoreIdValue};
-ghost use Rattle.osseat.specs.Seats.{fresh};
+ghost use Rattle.osshared.specs.Seats.{fresh};
 ghost use Rattle.osmail.specs.Ends.{sent_to, taken_from};
 ghost use Rattle.osthreads.specs.Seats.{first_seats, shared};
 
@@ -14,9 +14,9 @@ use osbase::{
 use osboard::{Board, BoardSeat};
 use osconf::read_config;
 use osmail::{LockedMail, Mail, MailStep, RingEnd, RingMail};
+use osrun::ids_of;
 use osspin::{Clocks, SpinBank, SpinSeat};
 use osthreads::{Gate, Run, Seats, Stop, Wakers, Worked, core_worker};
-use osturn::ids_of;
 use std::alloc::{AllocError, Global};
 use std::process::Abort;
 use std::sync::Wait;

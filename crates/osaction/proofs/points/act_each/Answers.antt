@@ -9,7 +9,7 @@ use Rattle.osstate.specs.Does.{HasRoom}
 use Rattle.oscall.specs.Border.{core_of_call, is_known_call}
 use Rattle.osaction.specs.Points.{is_of_kind}
 use Rattle.osaction.proofs.Joining.{joined, known-call, place-left}
-use Rattle.osact.proofs.InTurn.{left-out, next-kept, one-acted, places-left, room-left, still-passes}
+use Rattle.osservice.proofs.InTurn.{left-out, next-kept, one-acted, places-left, room-left, still-passes}
 use Rattle.osaction.proofs.points.act_each.Goals as goal
 use Rattle.osaction.proofs.points.act_each.Goals.{then-is_of_kind, else-is_of_kind}
 

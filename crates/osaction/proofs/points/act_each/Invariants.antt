@@ -2,7 +2,7 @@ use Rattle.std.proofs.Common.{take}
 use Rattle.osaction.specs.Actions.{acts}
 use Rattle.osaction.specs.Points.{of_kind}
 use Rattle.osaction.proofs.Joining.{posted_by_action}
-use Rattle.osact.proofs.InTurn.{InTurn}
+use Rattle.osservice.proofs.InTurn.{InTurn}
 use Rattle.osaction.proofs.points.act_each.Given as goal
 
 abbrev pub invariant-loop-action : goal.invariant-loop-action

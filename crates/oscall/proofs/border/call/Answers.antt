@@ -6,8 +6,8 @@ use Rattle.osstate.specs.Readings.{knows_started}
 use Rattle.osstate.specs.State.{KernelState}
 use Rattle.osstate.proofs.Effecting.{as_effect}
 use Rattle.osstate.proofs.ReadLemmas.{read}
-use Rattle.osact.specs.Acts.{does}
-use Rattle.osact.specs.Returning.{returns as returning}
+use Rattle.osservice.specs.Acts.{does}
+use Rattle.osservice.specs.Returning.{returns as returning}
 use Rattle.oscall.specs.Border.{core_of_call, crosses}
 use Rattle.oscall.proofs.border.call.Goals as goal
 

@@ -1,10 +1,10 @@
 use Rattle.std.proofs.Common.{refl, lit≤}
 use Rattle.osstate.proofs.Effecting.{as_effect, unprinted}
-use Rattle.osact.specs.Checks.{is_ok_status}
-use Rattle.osact.specs.Seen.{seen_of}
-use Rattle.osact.specs.Service.{status_of}
-use Rattle.osalarmcall.specs.Alarms.{inquiry}
-use Rattle.osact.proofs.Remarking.{either-way, unmoved}
+use Rattle.osservice.specs.Checks.{is_ok_status}
+use Rattle.osservice.specs.Seen.{seen_of}
+use Rattle.osservice.specs.Service.{status_of}
+use Rattle.osservice_alarms.specs.Alarms.{inquiry}
+use Rattle.osservice.proofs.Remarking.{either-way, unmoved}
 use Rattle.oscall.proofs.border.serve.Goals as goal
 
 pub returns-in-ActivateTask-clause-effects : goal.returns-in-ActivateTask-clause-effects

@@ -4,7 +4,7 @@ use Rattle.osbase.specs.declared.items.CoreSet.{CoreSet}
 use Rattle.osstate.specs.State.{KernelState}
 use Rattle.osstate.proofs.Effecting.{as_effect}
 use Rattle.osstate.proofs.ReadLemmas.{read}
-use Rattle.osact.specs.Acts.{does}
+use Rattle.osservice.specs.Acts.{does}
 use Rattle.oscall.specs.Shutdown.{core_count}
 use Rattle.oscall.specs.Variables.{sets}
 use Rattle.oscall.proofs.shutdown.count_cores.Goals as goal

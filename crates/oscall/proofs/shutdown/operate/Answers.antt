@@ -1,6 +1,6 @@
 use Rattle.std.proofs.Common.{refl, lit≤}
 use Rattle.osstate.proofs.Effecting.{as_effect, unprinted}
-use Rattle.osact.proofs.Offering.{offered}
+use Rattle.osservice.proofs.Offering.{offered}
 use Rattle.oscall.specs.Shutdown.{goes_down, shuts_down_all}
 use Rattle.oscall.proofs.shutdown.operate.Goals as goal
 

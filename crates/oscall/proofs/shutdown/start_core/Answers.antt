@@ -2,8 +2,8 @@ use Rattle.std.proofs.Common.{None, ap, sym, lit≤}
 use Rattle.osbase.specs.declared.statuses.Status.{Status}
 use Rattle.osbase.specs.declared.statuses.ServiceId.TheVariants as Service
 use Rattle.osstate.proofs.Effecting.{as_effect}
-use Rattle.osact.specs.Acts.{does}
-use Rattle.osact.specs.Returning.{returns as returning}
+use Rattle.osservice.specs.Acts.{does}
+use Rattle.osservice.specs.Returning.{returns as returning}
 use Rattle.oscall.proofs.shutdown.start_core.Goals as goal
 
 pub returns : goal.returns

@@ -3,7 +3,7 @@ use Rattle.std.proofs.lemmas.Int.{to_z-of_z}
 use Rattle.oscript.specs.declared.Frame.{Frame}
 use Rattle.oscript.specs.Frames.{value_of}
 use Rattle.osstate.proofs.Effecting.{as_effect}
-use Rattle.osact.specs.Acts.{does}
+use Rattle.osservice.specs.Acts.{does}
 use Rattle.oscall.specs.Variables.{sets, sum_of}
 use Rattle.oscall.proofs.variables.add.Goals as goal
 

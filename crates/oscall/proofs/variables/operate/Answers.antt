@@ -1,7 +1,7 @@
 use Rattle.std.proofs.Common.{SFits, w64, refl, rules, lit≤}
 use Rattle.std.proofs.lemmas.Int.{to_z-of_z}
 use Rattle.osstate.proofs.Effecting.{as_effect, unprinted}
-use Rattle.osact.proofs.Offering.{offered}
+use Rattle.osservice.proofs.Offering.{offered}
 use Rattle.oscall.specs.Variables.{adds, is_done, sets}
 use Rattle.oscall.proofs.variables.operate.Goals as goal
 

@@ -1,7 +1,7 @@
 use Rattle.std.proofs.Common.{SFits, w64, refl, lit≤}
 use Rattle.std.proofs.lemmas.Int.{to_z-of_z}
 use Rattle.osstate.proofs.Effecting.{as_effect, then, unprinted}
-use Rattle.osact.specs.Acts.{does}
+use Rattle.osservice.specs.Acts.{does}
 use Rattle.oscall.specs.Variables.{sets}
 use Rattle.oscall.proofs.variables.set.Goals as goal
 

@@ -3,7 +3,7 @@ use Rattle.std.proofs.lemmas.Int.{to_z-of_z}
 use Rattle.osbase.specs.Words.{status_number}
 use Rattle.oscript.specs.declared.Frame.{Frame}
 use Rattle.osstate.proofs.Effecting.{as_effect}
-use Rattle.osact.specs.Acts.{does}
+use Rattle.osservice.specs.Acts.{does}
 use Rattle.oscall.specs.Variables.{sets}
 use Rattle.oscall.proofs.variables.store_status.Goals as goal
 

@@ -7,11 +7,11 @@ use Rattle.osstate.specs.Readings.{knows_started}
 use Rattle.osstate.specs.State.{KernelState}
 use Rattle.osstate.proofs.Effecting.{as_effect}
 use Rattle.osstate.proofs.ReadLemmas.{read}
-use Rattle.osact.specs.Acts.{does}
-use Rattle.osact.specs.Callers.{holding_checks}
-use Rattle.osact.specs.Returning.{returns as returning}
-use Rattle.osact.specs.Seen.{seen_of}
-use Rattle.osact.proofs.Answering.{granted, refused}
+use Rattle.osservice.specs.Acts.{does}
+use Rattle.osservice.specs.Callers.{holding_checks}
+use Rattle.osservice.specs.Returning.{returns as returning}
+use Rattle.osservice.specs.Seen.{seen_of}
+use Rattle.osservice.proofs.Answering.{granted, refused}
 use Rattle.oschain.specs.Chaining.{chains_to}
 use Rattle.oschain.proofs.chaining.chain_across.Goals as goal
 

@@ -11,9 +11,9 @@ use Rattle.osstate.specs.Sound.{activation_limit}
 use Rattle.osstate.specs.State.{KernelState}
 use Rattle.osstate.proofs.Effecting.{as_effect, then}
 use Rattle.osstate.proofs.JobLists.{job_count-without_oldest}
-use Rattle.osact.specs.Acts.{both, does}
-use Rattle.osact.specs.Returning.{returns as returning}
-use Rattle.ostaskcall.specs.Tasks.{activates, ends}
+use Rattle.osservice.specs.Acts.{both, does}
+use Rattle.osservice.specs.Returning.{returns as returning}
+use Rattle.osservice_tasks.specs.Tasks.{activates, ends}
 use Rattle.oschain.proofs.chaining.chain_here.Goals as goal
 
 -- once the caller has ended, the task has fewer jobs than it may have

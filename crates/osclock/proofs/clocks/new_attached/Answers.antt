@@ -1,7 +1,7 @@
 use Rattle.std.proofs.Common.{ℕ, ap, length, rules, ◌∙◌}
-use Rattle.osattach.specs.Attached.{firsts_by}
+use Rattle.osattached.specs.Attached.{firsts_by}
 use Rattle.osbase.specs.Families.{goes_by}
-use Rattle.osattach.proofs.Own.{member}
+use Rattle.osattached.proofs.Own.{member}
 use Rattle.osclock.specs.Clocks.{alarm_family, alarm_ref}
 use Rattle.osclock.proofs.clocks.new_attached.Goals as goal
 

@@ -1,5 +1,5 @@
 use Rattle.osplan.proofs.Clocked.{clock-parts}
-use Rattle.osattach.proofs.Own.{own-object}
+use Rattle.osattached.proofs.Own.{own-object}
 use Rattle.osclock.proofs.Places.{placed}
 use Rattle.osclock.proofs.clocks.object_at.Goals as goal
 

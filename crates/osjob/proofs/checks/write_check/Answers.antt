@@ -1,6 +1,6 @@
 use Rattle.std.proofs.Common.{codes}
 use Rattle.std.specs.List.{flat_map}
-use Rattle.osturn.specs.Fits.{ids_of}
+use Rattle.osrun.specs.Fits.{ids_of}
 use Rattle.ostrace.proofs.Writing.{Writes-begun, Writes-then, Wrote-all}
 use Rattle.osjob.specs.Checks.{standing_line}
 use Rattle.osjob.proofs.checks.write_check.Goals as goal

@@ -1,5 +1,5 @@
 use Rattle.ostrace.proofs.Writing.{Wrote}
-use Rattle.osturn.proofs.Configured.{is_there}
+use Rattle.osrun.proofs.Configured.{is_there}
 use Rattle.osjob.specs.Checks.{standing_line}
 use Rattle.osjob.proofs.Lines.{lines_below}
 use Rattle.osjob.proofs.checks.write_standings.Given as goal

@@ -1,7 +1,7 @@
 use Rattle.std.proofs.Common.{◌++◌, filter}
 use Rattle.std.specs.List.{flat_map}
 use Rattle.osbase.specs.Sets.{core_ids, has_core}
-use Rattle.ostext.specs.Trace.{line_end}
+use Rattle.ostrace_text.specs.Trace.{line_end}
 use Rattle.ostrace.proofs.Writing.{Writes-begun, Writes-then, Wrote-all}
 use Rattle.osjob.specs.Groups.{group_head, number_word}
 use Rattle.osjob.proofs.Grouping.{is_line}

@@ -1,4 +1,4 @@
-use Rattle.osturn.proofs.Configured.{is_there}
+use Rattle.osrun.proofs.Configured.{is_there}
 use Rattle.osjob.specs.Groups.{group_line}
 use Rattle.osjob.proofs.Lines.{Writes-no_line, Wrote-line}
 use Rattle.osjob.proofs.groups.write_groups.Goals as goal

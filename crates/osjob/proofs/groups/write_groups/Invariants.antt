@@ -1,5 +1,5 @@
 use Rattle.ostrace.proofs.Writing.{Wrote}
-use Rattle.osturn.proofs.Configured.{is_there}
+use Rattle.osrun.proofs.Configured.{is_there}
 use Rattle.osjob.specs.Groups.{group_line}
 use Rattle.osjob.proofs.Lines.{lines_below}
 use Rattle.osjob.proofs.groups.write_groups.Given as goal

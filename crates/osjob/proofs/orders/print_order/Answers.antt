@@ -1,6 +1,6 @@
 use Rattle.std.proofs.Common.{◌≡◌, ◌∙◌, Ok, refl}
 use Rattle.std.proofs.lemmas.Result.{err_from_is_err_and}
-use Rattle.osturn.specs.Ends.{have_all_ended}
+use Rattle.osrun.specs.Ends.{have_all_ended}
 use Rattle.osjob.specs.Performs.{fails, outcome_of, prints}
 use Rattle.osjob.specs.Runs.{order_line}
 use Rattle.osjob.proofs.Ordering.{is_ordered}

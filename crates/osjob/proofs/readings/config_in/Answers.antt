@@ -1,5 +1,5 @@
 use Rattle.std.proofs.lemmas.Result.{err_from_is_err_and}
-use Rattle.osdraft.specs.Meaning.{faults_of}
+use Rattle.osload.specs.Meaning.{faults_of}
 use Rattle.osjob.proofs.Reading.{IsFaultOf-read}
 use Rattle.osjob.proofs.readings.config_in.Goals as goal
 

@@ -1,5 +1,5 @@
 use Rattle.std.proofs.lemmas.Result.{err_from_is_err_and}
-use Rattle.osgiven.specs.Given.{schedule_faults}
+use Rattle.osinput.specs.Given.{schedule_faults}
 use Rattle.osjob.proofs.Reading.{IsFaultOf-read}
 use Rattle.osjob.proofs.readings.schedule_in.Goals as goal
 

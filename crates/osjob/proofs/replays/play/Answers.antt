@@ -1,5 +1,5 @@
 use Rattle.std.proofs.Common.{Err, Ok, refl}
-use Rattle.ostext.specs.Trace.{block_of}
+use Rattle.ostrace_text.specs.Trace.{block_of}
 use Rattle.osjob.specs.Performs.{fails, prints}
 use Rattle.osjob.specs.declared.faults.Fault.TheVariants.{ItemRefused, NoMemoryToRun}
 use Rattle.osjob.specs.declared.outcomes.Outcome.TheVariants.{Done}

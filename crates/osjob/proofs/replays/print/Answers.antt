@@ -1,5 +1,5 @@
 use Rattle.std.proofs.lemmas.Result.{err_from_is_err_and}
-use Rattle.ostext.specs.Trace.{block_of}
+use Rattle.ostrace_text.specs.Trace.{block_of}
 use Rattle.osjob.proofs.Printing.{Prints-failed, Prints-ok, Writes-block}
 use Rattle.osjob.proofs.replays.print.Goals as goal
 

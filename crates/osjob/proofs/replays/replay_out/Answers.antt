@@ -1,6 +1,6 @@
 use Rattle.std.proofs.Common.{arith, refl}
 use Rattle.std.proofs.lemmas.Result.{err_from_is_err_and}
-use Rattle.osdraft.specs.Meaning.{config_of}
+use Rattle.osload.specs.Meaning.{config_of}
 use Rattle.osjob.specs.Performs.{fails}
 use Rattle.osjob.specs.Replays.{in_config, in_core, in_log}
 use Rattle.osjob.specs.Runs.{at_config, at_stimuli}

@@ -3,8 +3,8 @@ use Rattle.std.specs.Prelude.{IsSome}
 use Rattle.std.proofs.lemmas.Result.{err_from_is_err_and}
 use Rattle.oscommand.specs.Jobs.{path_in}
 use Rattle.osjob.specs.Performs.{in_config, in_items, in_schedule, in_stimuli}
-use Rattle.osgiven.specs.Given.{stimuli_meant}
-use Rattle.osdraft.specs.Meaning.{config_of}
+use Rattle.osinput.specs.Given.{stimuli_of_text}
+use Rattle.osload.specs.Meaning.{config_of}
 use Rattle.osjob.specs.Runs.{at_config, at_schedule, at_stimuli}
 use Rattle.osjob.proofs.Reading.{IsGiven-kept, IsGiven-read, Means-there, config-kept}
 use Rattle.osjob.proofs.runs.input_of.Goals as goal
@@ -13,7 +13,7 @@ pub stimuli_in-requires : goal.stimuli_in-requires
 stimuli_in-requires g c = Means-there config_of _ 0 c.in_ok-config.config c.in_ok-config.ensures.ok
 
 pub schedule_in-requires : goal.schedule_in-requires
-schedule_in-requires g c = Means-there (stimuli_meant c.in_ok-config.config) _ 1 c.in_ok-stimuli.stimuli c.in_ok-stimuli.ensures.ok
+schedule_in-requires g c = Means-there (stimuli_of_text c.in_ok-config.config) _ 1 c.in_ok-stimuli.stimuli c.in_ok-stimuli.ensures.ok
 
 pub returns-in_err-config-clause-input : goal.returns-in_err-config-clause-input
 returns-in_err-config-clause-input g c =

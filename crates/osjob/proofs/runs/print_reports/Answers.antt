@@ -1,5 +1,5 @@
 use Rattle.std.proofs.Common.{Ok, refl}
-use Rattle.osturn.specs.Ends.{have_all_ended}
+use Rattle.osrun.specs.Ends.{have_all_ended}
 use Rattle.osjob.specs.Performs.{outcome_of, prints}
 use Rattle.osjob.specs.Runs.{run_text}
 use Rattle.osjob.proofs.runs.print_reports.Goals as goal

@@ -2,9 +2,9 @@ use Rattle.std.proofs.Common.{refl, arith, lit≤}
 use Rattle.osbase.specs.declared.marks.Mark.TheVariants as Mark
 use Rattle.osbase.specs.Phases.{is_down}
 use Rattle.osstate.proofs.Effecting.{as_effect, unprinted}
-use Rattle.osact.specs.Acts.{nothing, prints}
-use Rattle.osact.proofs.Remarking.{unmoved}
-use Rattle.osact.proofs.Going.{course-fails, course-holds}
+use Rattle.osservice.specs.Acts.{nothing, prints}
+use Rattle.osservice.proofs.Remarking.{unmoved}
+use Rattle.osservice.proofs.Going.{course-fails, course-holds}
 use Rattle.oskernel.proofs.effects.call_shutdown_hook.Goals as goal
 
 pub returns-then-not-is_down : goal.returns-then-not-is_down

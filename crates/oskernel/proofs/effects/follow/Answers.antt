@@ -1,6 +1,6 @@
 use Rattle.std.proofs.Common.{◌≡◌, ◌≤◌, ◌+◌, List, [], length, refl, ap, arith, rules, lit≤}
 use Rattle.osbase.specs.declared.histories.Sent.{Sent}
-use Rattle.osplan.specs.Objects.{posted_at_once}
+use Rattle.osplan.specs.Objects.{most_posts_per_tick}
 use Rattle.osstate.proofs.Effecting.{as_effect}
 use Rattle.oskernel.proofs.effects.follow.Goals as goal
 
@@ -28,8 +28,8 @@ returns-in-Halt g c = rw c.in-Halt.is (as_effect (λ v h stands. refl) (lit≤ t
 pub returns-in-Last : goal.returns-in-Last
 returns-in-Last g c = rw c.in-Last.is (as_effect (λ v h stands. refl) (lit≤ tt) (lit≤ tt) c.end.ensures)
 
-pub go_on-requires : goal.go_on-requires
-go_on-requires g c =
+pub dispatch_stimulus-requires : goal.dispatch_stimulus-requires
+dispatch_stimulus-requires g c =
     let empty : c.args.state.now.border.outbox ≡ [] = c.requires.empty (rw c.in-Stim.is refl) in
-    let outbox : length c.args.state.now.border.outbox + (1 + posted_at_once c.args.state.now.view.own) ≤ g.row.OUT = omega (arith, ap (λ (xs : List Sent). length xs) empty, c.requires.places) in
+    let outbox : length c.args.state.now.border.outbox + (1 + most_posts_per_tick c.args.state.now.view.own) ≤ g.row.OUT = omega (arith, ap (λ (xs : List Sent). length xs) empty, c.requires.places) in
     search (rules, outbox)

@@ -1,10 +1,10 @@
 use Rattle.std.proofs.Common.{refl, arith}
 use Rattle.osbase.specs.Phases.{is_going}
 use Rattle.osstate.proofs.Effecting.{as_effect, unprinted}
-use Rattle.osact.specs.Acts.{nothing}
-use Rattle.osact.proofs.Remarking.{unmoved}
+use Rattle.osservice.specs.Acts.{nothing}
+use Rattle.osservice.proofs.Remarking.{unmoved}
 use Rattle.oscall.specs.Border.{serves_action}
-use Rattle.osact.proofs.Going.{course-fails, course-holds}
+use Rattle.osservice.proofs.Going.{course-fails, course-holds}
 use Rattle.oskernel.proofs.effects.serve_action.Goals as goal
 
 pub returns-then-is_going : goal.returns-then-is_going

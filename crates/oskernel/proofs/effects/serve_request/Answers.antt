@@ -3,9 +3,9 @@ use Rattle.osbase.specs.declared.messages.Message.TheVariants as Message
 use Rattle.osbase.specs.declared.statuses.Status.TheVariants.{EOsCore}
 use Rattle.osbase.specs.Phases.{is_going}
 use Rattle.osstate.proofs.Effecting.{as_effect, unprinted}
-use Rattle.osact.specs.Acts.{Sends, nothing, one_then}
+use Rattle.osservice.specs.Acts.{Sends, nothing, one_then}
 use Rattle.oscall.specs.Border.{serves_request}
-use Rattle.osact.proofs.Going.{course-fails, course-holds}
+use Rattle.osservice.proofs.Going.{course-fails, course-holds}
 use Rattle.oskernel.proofs.effects.serve_request.Goals as goal
 
 pub returns-then-is_going : goal.returns-then-is_going

@@ -2,15 +2,15 @@ use Rattle.std.proofs.Common.{◌≡◌, ◌≤◌, ℕ, rules, sym, subst, arit
 use Rattle.osbase.specs.declared.marks.Mark.{Mark}
 use Rattle.osbase.specs.declared.references.Runner.{Runner}
 use Rattle.oscript.specs.declared.Op.{Op}
-use Rattle.osplan.specs.Objects.{posted_at_once}
+use Rattle.osplan.specs.Objects.{most_posts_per_tick}
 use Rattle.osstate.specs.State.{KernelState}
-use Rattle.osact.specs.Terms.{MayOperate}
-use Rattle.ostaskcall.specs.Tasks.{task_acts}
-use Rattle.osalarmcall.specs.Counters.{counter_acts}
-use Rattle.ostablecall.specs.Tables.{table_acts}
+use Rattle.osservice.specs.Terms.{MayOperate}
+use Rattle.osservice_tasks.specs.Tasks.{task_acts}
+use Rattle.osservice_alarms.specs.Counters.{counter_acts}
+use Rattle.osservice_tables.specs.Tables.{table_acts}
 use Rattle.oschain.specs.Chaining.{chain_acts}
 use Rattle.oscall.specs.Variables.{script_acts}
-use Rattle.osdue.specs.Incrementing.{increment_acts}
+use Rattle.osexpiry.specs.Incrementing.{increment_acts}
 use Rattle.oskernel.proofs.Families.{next, same-still}
 use Rattle.oskernel.proofs.operations.act_alone.Goals as goal
 
@@ -32,7 +32,7 @@ operate-requires-3 g c = (
 pub operate-requires-5 : goal.operate-requires-5
 operate-requires-5 g c = (
   search rules,
-  may-still (λ s. posted_at_once s.view.own) (omega arith)
+  may-still (λ s. most_posts_per_tick s.view.own) (omega arith)
       (same-still (same-still (same-still (c.operate.ensures.others c.if-operate.false) (c.operate-2.ensures.others c.if-operate-2.false)) (c.operate-3.ensures.others c.if-operate-3.false)) (c.operate-4.ensures.others c.if-operate-4.false))
       c.requires,
 )

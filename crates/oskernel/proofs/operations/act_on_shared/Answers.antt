@@ -1,5 +1,5 @@
 use Rattle.oscall.specs.Shutdown.{core_acts}
-use Rattle.osspincall.specs.Spinlocks.{spin_acts}
+use Rattle.osservice_spins.specs.Spinlocks.{spin_acts}
 use Rattle.oskernel.proofs.Families.{last, next}
 use Rattle.oskernel.proofs.operations.act_on_shared.Goals as goal
 

@@ -1,6 +1,6 @@
 use Rattle.std.proofs.Common.{◌&&◌, Bool, ap, sym, ◌∙◌}
-use Rattle.osact.specs.Callers.{has_suspended}
-use Rattle.osact.specs.Seen.{seen_of}
+use Rattle.osservice.specs.Callers.{has_suspended}
+use Rattle.osservice.specs.Seen.{seen_of}
 use Rattle.oskernel.proofs.operations.is_ignored_now.Goals as goal
 
 pub returns-then-is_ignored : goal.returns-then-is_ignored

@@ -6,8 +6,8 @@ use Rattle.oscript.specs.declared.Op.{Op}
 use Rattle.oscript.specs.Calls.{call_of_op}
 use Rattle.osplan.specs.View.{View}
 use Rattle.osstate.proofs.Effecting.{as_effect, unprinted}
-use Rattle.osact.specs.Acts.{Acts, does}
-use Rattle.osact.specs.Seen.{seen_of}
+use Rattle.osservice.specs.Acts.{Acts, does}
+use Rattle.osservice.specs.Seen.{seen_of}
 use Rattle.oscall.specs.Variables.{is_done}
 use Rattle.oskernel.specs.Operations.{is_ignored_now, operates, operates_by, operates_unless, refused_now}
 use Rattle.oskernel.proofs.operations.operate.Goals as goal
@@ -29,4 +29,4 @@ returns-in-Some g c =
 
 pub returns-in-None : goal.returns-in-None
 returns-in-None g c =
-    as_effect (λ v h stands. minded c.args.step.runner c.args.step.op _ v h (sym (c.is_ignored_now.ensures v h stands) ∙ c.if-is_ignored_now.false) (c.in-None.ensures v h stands)) (lit≤ tt) (lit≤ tt) c.perform.ensures
+    as_effect (λ v h stands. minded c.args.step.runner c.args.step.op _ v h (sym (c.is_ignored_now.ensures v h stands) ∙ c.if-is_ignored_now.false) (c.in-None.ensures v h stands)) (lit≤ tt) (lit≤ tt) c.do_operation.ensures

@@ -10,9 +10,9 @@ use Rattle.osclock.specs.Clocks.{alarm_ref}
 use Rattle.osclock.proofs.Places.{alarm-is, alarm-own}
 use Rattle.osclock.proofs.Starts.{starts-within}
 use Rattle.osstate.specs.State.{KernelState}
-use Rattle.osact.specs.Acts.{does, nothing}
-use Rattle.osact.proofs.Remarking.{as_remarks}
-use Rattle.osalarmcall.specs.Alarms.{sets_alarm}
+use Rattle.osservice.specs.Acts.{does, nothing}
+use Rattle.osservice.proofs.Remarking.{as_remarks}
+use Rattle.osservice_alarms.specs.Alarms.{sets_alarm}
 use Rattle.oskernel.specs.Step.{starts_if, starts_in}
 use Rattle.oskernel.specs.Taking.{agreement_on}
 use Rattle.oskernel.proofs.Autostart.{quiet-alarm}

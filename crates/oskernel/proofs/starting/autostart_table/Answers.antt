@@ -10,8 +10,8 @@ use Rattle.osplan.specs.View.{own_table}
 use Rattle.ostable.specs.Tables.{table_ref}
 use Rattle.ostable.proofs.Places.{table-is, table-own}
 use Rattle.osstate.specs.State.{KernelState}
-use Rattle.osact.specs.Acts.{does, nothing, notes}
-use Rattle.osact.proofs.Remarking.{as_remarks}
+use Rattle.osservice.specs.Acts.{does, nothing, notes}
+use Rattle.osservice.proofs.Remarking.{as_remarks}
 use Rattle.oskernel.specs.Step.{starts_if, starts_in}
 use Rattle.oskernel.specs.Taking.{agreement_on}
 use Rattle.oskernel.proofs.Autostart.{offset-within, quiet-table}

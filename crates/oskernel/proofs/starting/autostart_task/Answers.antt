@@ -7,8 +7,8 @@ use Rattle.osstate.specs.Readings.{task_ref}
 use Rattle.osstate.specs.Sound.{activation_limit}
 use Rattle.osstate.specs.State.{KernelState}
 use Rattle.osstate.proofs.Effecting.{as_effect}
-use Rattle.osact.specs.Acts.{does}
-use Rattle.ostaskcall.specs.Tasks.{activates}
+use Rattle.osservice.specs.Acts.{does}
+use Rattle.osservice_tasks.specs.Tasks.{activates}
 use Rattle.oskernel.proofs.Autostart.{later-places}
 use Rattle.oskernel.proofs.starting.autostart_task.Goals as goal
 

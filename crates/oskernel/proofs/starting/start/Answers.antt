@@ -3,7 +3,7 @@ use Rattle.osbase.specs.declared.items.Agreement.{Agreement}
 use Rattle.osstate.specs.State.{KernelState}
 use Rattle.osstate.proofs.Effecting.{as_effect, then, unprinted}
 use Rattle.osstate.proofs.ReadLemmas.{read}
-use Rattle.osact.specs.Acts.{does}
+use Rattle.osservice.specs.Acts.{does}
 use Rattle.oskernel.specs.Step.{starts}
 use Rattle.oskernel.proofs.starting.start.Goals as goal
 

@@ -3,11 +3,11 @@ use Rattle.std.specs.List.{slice_get}
 use Rattle.osplan.specs.declared.plans.Core.{Core}
 use Rattle.osplan.specs.Clocked.{are_clocks_within}
 use Rattle.osplan.specs.View.{View}
-use Rattle.osact.specs.Acts.{does}
+use Rattle.osservice.specs.Acts.{does}
 use Rattle.oskernel.specs.Step.{autostarts_alarm}
 use Rattle.oskernel.specs.Taking.{agreement_on}
 use Rattle.oskernel.proofs.Autostart.{quiet-alarm}
-use Rattle.osact.proofs.Numbered.{all-noted, object-at, one-noted}
+use Rattle.osservice.proofs.Numbered.{all-noted, object-at, one-noted}
 use Rattle.oskernel.proofs.starting.start_alarms.Goals as goal
 
 pub autostart_alarm-requires : goal.autostart_alarm-requires

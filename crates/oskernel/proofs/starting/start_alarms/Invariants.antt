@@ -3,7 +3,7 @@ use Rattle.osplan.specs.declared.plans.Core.{Core}
 use Rattle.osstate.specs.Does.{Remarks}
 use Rattle.oskernel.specs.Step.{autostarts_alarm}
 use Rattle.oskernel.specs.Taking.{agreement_on}
-use Rattle.osact.proofs.Numbered.{acted}
+use Rattle.osservice.proofs.Numbered.{acted}
 use Rattle.oskernel.proofs.starting.start_alarms.Given as goal
 
 abbrev pub invariant-loop-alarm : goal.invariant-loop-alarm

@@ -3,7 +3,7 @@ use Rattle.osplan.specs.declared.plans.Core.{Core}
 use Rattle.osstate.specs.Does.{Remarks}
 use Rattle.oskernel.specs.Step.{autostarts_table}
 use Rattle.oskernel.specs.Taking.{agreement_on}
-use Rattle.osact.proofs.Numbered.{acted}
+use Rattle.osservice.proofs.Numbered.{acted}
 use Rattle.oskernel.proofs.starting.start_tables.Given as goal
 
 abbrev pub invariant-loop-table : goal.invariant-loop-table

@@ -2,12 +2,12 @@ use Rattle.std.proofs.Common.{◌≡◌, ℕ, Some, rules, refl, ap, sym, subst,
 use Rattle.std.specs.List.{slice_get}
 use Rattle.osplan.specs.declared.plans.Core.{Core}
 use Rattle.osstate.proofs.Effecting.{as_effect, unprinted}
-use Rattle.osact.specs.Acts.{does}
-use Rattle.osact.proofs.Remarking.{unmoved}
+use Rattle.osservice.specs.Acts.{does}
+use Rattle.osservice.proofs.Remarking.{unmoved}
 use Rattle.oskernel.specs.Step.{autostarts_task}
 use Rattle.oskernel.specs.Taking.{agreement_on, have_places}
 use Rattle.oskernel.proofs.Autostart.{first-places}
-use Rattle.osact.proofs.Numbered.{all-acted, object-at, one-more}
+use Rattle.osservice.proofs.Numbered.{all-acted, object-at, one-more}
 use Rattle.oskernel.proofs.starting.start_tasks.Goals as goal
 
 pub loop-task-init : goal.loop-task-init

@@ -3,7 +3,7 @@ use Rattle.osplan.specs.declared.plans.Core.{Core}
 use Rattle.osstate.specs.Does.{Effects}
 use Rattle.oskernel.specs.Step.{autostarts_task}
 use Rattle.oskernel.specs.Taking.{agreement_on, have_places}
-use Rattle.osact.proofs.Numbered.{acted}
+use Rattle.osservice.proofs.Numbered.{acted}
 use Rattle.oskernel.proofs.starting.start_tasks.Given as goal
 
 abbrev pub invariant-loop-task : goal.invariant-loop-task

@@ -1,5 +1,5 @@
 use Rattle.std.proofs.Common.{◌≡◌, ◌∷◌, drop}
-use Rattle.osforms.specs.Form.{rest_words}
+use Rattle.ossyntax.specs.ParsedOp.{rest_words}
 use Rattle.oslog.specs.Items.{first_item, item_as}
 use Rattle.oslog.proofs.reading.first_item.Given as goal
 

@@ -1,6 +1,6 @@
 use Rattle.std.proofs.Common.{rules, ◌≡◌, ℕ, List, Option, None, option_map, drop, sym, ap, ◌∙◌, arith}
 use Rattle.std.specs.Borrow.{Bor}
-use Rattle.osforms.specs.Form.{rest_words}
+use Rattle.ossyntax.specs.ParsedOp.{rest_words}
 use Rattle.oslog.specs.Words.{read_words}
 use Rattle.oslog.specs.declared.forms.Parts.{Parts}
 use Rattle.oslog.proofs.Steps.{no-word}

@@ -1,5 +1,5 @@
 use Rattle.std.proofs.Common.{◌≡◌, drop}
-use Rattle.osforms.specs.Form.{rest_words}
+use Rattle.ossyntax.specs.ParsedOp.{rest_words}
 use Rattle.oslog.specs.Forms.{no_parts}
 use Rattle.oslog.specs.Words.{read_words}
 use Rattle.oslog.proofs.reading.read_words.Given as goal

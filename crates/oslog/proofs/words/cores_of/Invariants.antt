@@ -1,6 +1,6 @@
 use Rattle.std.proofs.Common.{◌≡◌, ◌-◌, ◌≤◌}
 use Rattle.osbase.specs.History.{no_cores}
-use Rattle.osforms.specs.Form.{rest_words}
+use Rattle.ossyntax.specs.ParsedOp.{rest_words}
 use Rattle.oslog.specs.Words.{cores_from}
 use Rattle.oslog.proofs.words.cores_of.Given as goal
 

@@ -6,7 +6,7 @@ use Rattle.osplan.proofs.spinlocks.comes_after.Goals as goal
 links-many : (spinlocks : List Spinlock) → length (links_of spinlocks) ≡ length spinlocks
 links-many spinlocks = length-map spinlocks (λ (spinlock : Spinlock). spinlock.next)
 
--- the links that are left, of which one is taken
+-- the links that are left once one is taken
 left : (spinlocks : List Spinlock) (k : ℕ) → k < length spinlocks → suc (length spinlocks - suc k) + k ≡ length (links_of spinlocks)
 left spinlocks k inside = omega (arith, inside, links-many spinlocks)
 

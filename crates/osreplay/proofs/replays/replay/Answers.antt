@@ -3,19 +3,19 @@ use Rattle.std.proofs.lemmas.List.{take_all}
 use Rattle.std.proofs.lemmas.Option.{slice_get-get_or}
 use Rattle.osbase.specs.declared.items.Item.{Item}
 use Rattle.osplan.proofs.Numbered.{configured-low}
-use Rattle.osturn.proofs.Seated.{seated-first}
+use Rattle.osrun.proofs.CoreRunning.{seated-first}
 use Rattle.osreplay.specs.Replays.{IsReplayed}
 use Rattle.osreplay.proofs.Replaying.{cut-short, refuses, reports, takes-on}
 use Rattle.osreplay.proofs.replays.replay.Goals as goal
 
-pub new-seat-requires-clause-number : goal.new-seat-requires-clause-number
-new-seat-requires-clause-number c = configured-low c.args.config.now c.args.core c.plan-plan.ensures.limits c.requires
+pub new-core_run-requires-clause-number : goal.new-core_run-requires-clause-number
+new-core_run-requires-clause-number c = configured-low c.args.config.now c.args.core c.plan-plan.ensures.limits c.requires
 
 pub loop-item-init : goal.loop-item-init
 loop-item-init c =
-    let new = c.new-seat.ensures in (
+    let new = c.new-core_run.ensures in (
       record {
-        seated = seated-first c.args.config.now [] c.new-seat.result c.args.core new.core new.kernel new.stimuli new.items new.marks;
+        seated = seated-first c.args.config.now [] c.new-core_run.result c.args.core new.core new.kernel new.stimuli new.items new.marks;
         id_is = new.core;
         items_are = new.items;
       },
@@ -24,27 +24,25 @@ loop-item-init c =
 
 pub returns-then-not-may_take-clause-fault : goal.returns-then-not-may_take-clause-fault
 returns-then-not-may_take-clause-fault c =
-    refuses c.args.config.now c.args.core c.args.items.now c.loop-item.item-index c.loop-item.seat c.loop-item.invariant.0 _ (slice_get-get_or _ _ _ c.loop-item-test.true)
+    refuses c.args.config.now c.args.core c.args.items.now c.loop-item.item-index c.loop-item.core_run c.loop-item.invariant.0 _ (slice_get-get_or _ _ _ c.loop-item-test.true)
     c.may_take.result c.may_take.ensures.reads c.if-not-may_take.true c.loop-item.taken c.loop-item.invariant.1 c.report.result c.report.ensures
 
 pub returns-then-is_err-clause-fault : goal.returns-then-is_err-clause-fault
 returns-then-is_err-clause-fault c =
-    let room = c.make_room.ensures in
-    cut-short c.args.config.now c.args.core c.args.items.now c.loop-item.item-index c.loop-item-test.true c.loop-item.seat c.make_room.new.self c.loop-item.invariant.0
-    (record { id = room.id; left = room.stimuli; items = room.taken; marks = room.printed; kernel = room.kernel }) c.report-then-is_err.result c.report-then-is_err.ensures
+    cut-short c.args.config.now c.args.core c.args.items.now c.loop-item.item-index c.loop-item-test.true c.loop-item.core_run c.make_room.new.self c.loop-item.invariant.0
+    c.make_room.ensures.keeps c.report-then-is_err.result c.report-then-is_err.ensures
 
 pub loop-item-preserved : goal.loop-item-preserved
-loop-item-preserved c =
-    let room = c.make_room.ensures in (
-      takes-on c.args.config.now c.args.core c.args.items.now c.loop-item.item-index c.loop-item.seat c.loop-item.invariant.0 _ (slice_get-get_or _ _ _ c.loop-item-test.true)
-          c.may_take.result c.may_take.ensures.reads c.if-not-may_take.false
-          c.make_room.new.self c.take.new.self (record { id = room.id; left = room.stimuli; items = room.taken; marks = room.printed; kernel = room.kernel })
-          (record { id = c.take.ensures.id; left = c.take.ensures.stimuli; items = c.take.ensures.taken; does = c.take.ensures.does }),
-      ap (λ (k : ℕ). k + 1) c.loop-item.invariant.1,
-    )
+loop-item-preserved c = (
+  takes-on c.args.config.now c.args.core c.args.items.now c.loop-item.item-index c.loop-item.core_run c.loop-item.invariant.0 _ (slice_get-get_or _ _ _ c.loop-item-test.true)
+      c.may_take.result c.may_take.ensures.reads c.if-not-may_take.false
+      c.make_room.new.self c.take.new.self c.make_room.ensures.keeps
+      c.take.ensures,
+  ap (λ (k : ℕ). k + 1) c.loop-item.invariant.1,
+)
 
 pub returns-clause-ok : goal.returns-clause-ok
 returns-clause-ok c =
     let items = c.args.items.now in
     subst (λ (is : List Item). IsReplayed c.args.config.now c.args.core is c.report-2.result) (take_all c.loop-item.item-index items c.loop-item-test.false)
-    (reports c.args.config.now c.args.core _ c.loop-item.seat c.report-2.result c.loop-item.invariant.0 c.report-2.ensures)
+    (reports c.args.config.now c.args.core _ c.loop-item.core_run c.report-2.result c.loop-item.invariant.0 c.report-2.ensures)

@@ -1,7 +1,7 @@
 use Rattle.std.proofs.Common.{ℕ, ap, length, rules, ◌∙◌}
-use Rattle.osattach.specs.Attached.{firsts_by}
+use Rattle.osattached.specs.Attached.{firsts_by}
 use Rattle.osbase.specs.Families.{goes_by}
-use Rattle.osattach.proofs.Own.{member}
+use Rattle.osattached.proofs.Own.{member}
 use Rattle.ostable.specs.Tables.{table_family, table_ref}
 use Rattle.ostable.proofs.tables.new_timed.Goals as goal
 

@@ -1,5 +1,5 @@
 use Rattle.osplan.proofs.Clocked.{clock-parts}
-use Rattle.osattach.proofs.Own.{own-object}
+use Rattle.osattached.proofs.Own.{own-object}
 use Rattle.ostable.proofs.Places.{placed}
 use Rattle.ostable.proofs.tables.object_at.Goals as goal
 

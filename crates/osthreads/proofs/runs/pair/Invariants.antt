@@ -1,6 +1,6 @@
 use Rattle.std.proofs.Common.{◌≡◌, ◌++◌, List}
 use Rattle.osbase.specs.declared.references.CoreId.{CoreId}
-use Rattle.osseat.specs.Seats.{Held}
+use Rattle.osshared.specs.Seats.{Held}
 use Rattle.osboard.specs.declared.calls.BoardCall.{BoardCall}
 use Rattle.osboard.specs.declared.calls.BoardReply.{BoardReply}
 use Rattle.osthreads.specs.Seats.{paired}

@@ -4,12 +4,12 @@ use Rattle.osplan.specs.declared.plans.Plan.{Plan}
 use Rattle.osplan.specs.Limits.{is_within_limits, sizes_of}
 use Rattle.osplan.specs.View.{core_of}
 use Rattle.osmail.specs.Rings.{AreCores}
-use Rattle.osseat.specs.Seats.{AllApart, fresh}
+use Rattle.osshared.specs.Seats.{AllApart, fresh}
 use Rattle.osboard.specs.declared.calls.BoardCall.{BoardCall}
 use Rattle.osboard.specs.declared.calls.BoardReply.{BoardReply}
 use Rattle.osspin.specs.declared.calls.SpinCall.{SpinCall}
 use Rattle.osspin.specs.declared.calls.SpinReply.{SpinReply}
-use Rattle.osturn.specs.Fits.{ids_of}
+use Rattle.osrun.specs.Fits.{ids_of}
 use Rattle.osthreads.specs.declared.seats.Seats.{Seats}
 use Rattle.osthreads.specs.Seats.{paired, shared}
 use Rattle.osthreads.specs.Threads.{AreEndsFor, equipped}

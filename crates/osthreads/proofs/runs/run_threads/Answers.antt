@@ -1,13 +1,13 @@
 use Rattle.std.proofs.Common.{List, map, refl, sym, ap, subst, ◌∙◌, arith}
 use Rattle.osbase.specs.declared.references.CoreId.{CoreId}
 use Rattle.osbase.specs.declared.turns.CoreStimuli.{CoreStimuli}
-use Rattle.osseat.specs.declared.histories.Plan.{Plan as SeatPlan}
-use Rattle.osseat.specs.Seats.{AllAt, IsOneHistory, cores_of}
+use Rattle.osshared.specs.declared.histories.Plan.{Plan as SeatPlan}
+use Rattle.osshared.specs.Seats.{AllAt, IsOneHistory, cores_of}
 use Rattle.osmail.specs.declared.rings.RingEnd.{RingEnd}
 use Rattle.osmail.specs.Rings.{AreDelivered, end_id, past_of}
 use Rattle.osboard.specs.Boards.{one_board}
 use Rattle.osspin.specs.Spins.{spinlocks}
-use Rattle.osturn.specs.Fits.{ids_of}
+use Rattle.osrun.specs.Fits.{ids_of}
 use Rattle.osthreads.specs.declared.ending.Ending.{Ending}
 use Rattle.osthreads.specs.Runs.{AreFinished}
 use Rattle.osthreads.specs.Seats.{shared}

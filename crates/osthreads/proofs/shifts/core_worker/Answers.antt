@@ -1,9 +1,9 @@
 use Rattle.std.proofs.Common.{Bor, length, refl, ap, sym, ◌∙◌, arith}
 use Rattle.osthreads.specs.declared.run.Run.{Run}
 use Rattle.osstate.specs.State.{KernelState}
-use Rattle.osturn.specs.Seats.{is_ended_phase}
+use Rattle.osrun.specs.CoreRuns.{is_ended_phase}
 use Rattle.osthreads.specs.Seats.{made_from}
-use Rattle.osthreads.proofs.Asking.{known-low}
+use Rattle.osthreads.proofs.Requests.{known-low}
 use Rattle.osthreads.proofs.Senders.{someone}
 use Rattle.osthreads.proofs.Shifting.{begun, first-running, handed-back, own-before}
 use Rattle.osthreads.proofs.shifts.core_worker.Goals as goal
@@ -39,13 +39,13 @@ loop-init g c = (
   refl,
 )
 
-pub returns-in-Some-go_on-clause-worked : goal.returns-in-Some-go_on-clause-worked
-returns-in-Some-go_on-clause-worked g c =
-    handed-back (g.M.Mail.sent) (g.M.Mail.taken) c.args.run.now c.in-Some-go_on.stop c.go_on.new.self c.hand_back.result c.go_on.new.self.worker.stamps.clocks.items
-    (ap (λ (r : Bor Run). r.now) c.go_on.ensures.run ∙ c.loop.invariant.0) c.requires.cores
-    (c.in-Some-go_on.ensures.some c.args.run.now.stimuli.now c.loop.invariant.2)
+pub returns-in-Some-play_turn-clause-worked : goal.returns-in-Some-play_turn-clause-worked
+returns-in-Some-play_turn-clause-worked g c =
+    handed-back (g.M.Mail.sent) (g.M.Mail.taken) c.args.run.now c.in-Some-play_turn.stop c.play_turn.new.self c.hand_back.result c.play_turn.new.self.worker.stamps.clocks.items
+    (ap (λ (r : Bor Run). r.now) c.play_turn.ensures.same.run ∙ c.loop.invariant.0) c.requires.cores
+    (c.in-Some-play_turn.ensures.some c.args.run.now.stimuli.now c.loop.invariant.2)
     (someone c.args.run.now.config.now c.plan-plan.ensures.limits c.args.seats.board.core c.requires.configured)
     c.hand_back.ensures.report c.hand_back.ensures.seats c.hand_back.ensures.mail c.hand_back.ensures.stop
 
-pub returns-in-Some-go_on-clause-which : goal.returns-in-Some-go_on-clause-which
-returns-in-Some-go_on-clause-which g c = ap (g.M.Mail.which) c.hand_back.ensures.mail ∙ c.go_on.ensures.which ∙ c.loop.invariant.3
+pub returns-in-Some-play_turn-clause-which : goal.returns-in-Some-play_turn-clause-which
+returns-in-Some-play_turn-clause-which g c = ap (g.M.Mail.which) c.hand_back.ensures.mail ∙ c.play_turn.ensures.same.end ∙ c.loop.invariant.3

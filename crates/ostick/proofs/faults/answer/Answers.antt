@@ -3,7 +3,7 @@ use Rattle.osbase.specs.declared.references.Runner.{Runner}
 use Rattle.osbase.specs.declared.statuses.Status.{Status}
 use Rattle.osplan.specs.declared.protection.Protection.{Protection}
 use Rattle.osstate.proofs.Effecting.{as_effect}
-use Rattle.osact.specs.Acts.{Acts, does}
+use Rattle.osservice.specs.Acts.{Acts, does}
 use Rattle.oscall.specs.Shutdown.{goes_down}
 use Rattle.ostick.specs.Faults.{answers_fault}
 use Rattle.ostick.proofs.faults.answer.Goals as goal

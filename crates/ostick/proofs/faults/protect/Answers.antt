@@ -3,8 +3,8 @@ use Rattle.osbase.specs.declared.histories.Job.{Job}
 use Rattle.osstate.specs.Queries.{running_in}
 use Rattle.osstate.proofs.Effecting.{as_effect}
 use Rattle.osstate.proofs.ReadLemmas.{read}
-use Rattle.osact.specs.Acts.{does}
-use Rattle.osact.specs.Seen.{seen_of}
+use Rattle.osservice.specs.Acts.{does}
+use Rattle.osservice.specs.Seen.{seen_of}
 use Rattle.ostick.specs.Faults.{protects}
 use Rattle.ostick.proofs.faults.protect.Goals as goal
 

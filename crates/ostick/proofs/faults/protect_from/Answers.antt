@@ -1,8 +1,8 @@
 use Rattle.std.proofs.Common.{Option, ap, sym, arith, lit≤}
 use Rattle.osbase.specs.declared.statuses.Status.{Status}
 use Rattle.osstate.proofs.Effecting.{as_effect, then, unprinted}
-use Rattle.osact.specs.Acts.{does}
-use Rattle.osact.proofs.Remarking.{unmoved}
+use Rattle.osservice.specs.Acts.{does}
+use Rattle.osservice.proofs.Remarking.{unmoved}
 use Rattle.ostick.specs.Faults.{faults_with}
 use Rattle.ostick.proofs.faults.protect_from.Goals as goal
 

@@ -1,6 +1,6 @@
 use Rattle.std.proofs.Common.{refl, arith}
 use Rattle.osstate.proofs.Effecting.{as_effect, unprinted}
-use Rattle.osact.proofs.Remarking.{unmoved}
+use Rattle.osservice.proofs.Remarking.{unmoved}
 use Rattle.ostick.proofs.ticks.count_by_tick.Goals as goal
 
 pub returns-else-not-counter-clause-effects : goal.returns-else-not-counter-clause-effects

@@ -9,13 +9,13 @@ use Rattle.osplan.specs.Objects.{is_own_object}
 use Rattle.osplan.specs.View.{View}
 use Rattle.ostable.specs.Tables.{timed_by}
 use Rattle.osstate.proofs.Effecting.{as_effect, unprinted}
-use Rattle.osact.proofs.Remarking.{unmoved}
-use Rattle.osdue.specs.Advancing.{counts, posted_by}
-use Rattle.osact.specs.Acts.{does, nothing, when}
-use Rattle.osdue.proofs.Owned.{alarms-few}
-use Rattle.osdue.proofs.Postings.{tables-few}
+use Rattle.osservice.proofs.Remarking.{unmoved}
+use Rattle.osexpiry.specs.Advancing.{counts, posted_by}
+use Rattle.osservice.specs.Acts.{does, nothing, when}
+use Rattle.osexpiry.proofs.Owned.{alarms-few}
+use Rattle.osexpiry.proofs.Postings.{tables-few}
 use Rattle.ostick.specs.Ticks.{counts_if_hardware}
-use Rattle.osact.proofs.Numbered.{all-acted, one-more}
+use Rattle.osservice.proofs.Numbered.{all-acted, one-more}
 use Rattle.ostick.proofs.Ticking.{alarms-within, alarms_at, amounts, posted-within, posted_at, tables-within, tables_at, total-more}
 use Rattle.ostick.proofs.ticks.count_each.Goals as goal
 

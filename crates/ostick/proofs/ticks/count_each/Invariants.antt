@@ -2,7 +2,7 @@ use Rattle.std.proofs.Common.{◌≡◌, ◌+◌, ◌*◌, ◌≤◌, length}
 use Rattle.osplan.specs.declared.plans.Core.{Core}
 use Rattle.osstate.specs.Does.{Effects}
 use Rattle.ostick.specs.Ticks.{counts_if_hardware}
-use Rattle.osact.proofs.Numbered.{acted}
+use Rattle.osservice.proofs.Numbered.{acted}
 use Rattle.ostick.proofs.Ticking.{alarms_at, posted_at, tables_at, total}
 use Rattle.ostick.proofs.ticks.count_each.Given as goal
 

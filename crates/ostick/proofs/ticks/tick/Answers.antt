@@ -1,10 +1,10 @@
 use Rattle.std.proofs.Common.{refl, lit≤}
 use Rattle.osbase.specs.Phases.{is_going}
 use Rattle.osstate.proofs.Effecting.{as_effect, then, unprinted}
-use Rattle.osact.specs.Acts.{nothing}
-use Rattle.osact.proofs.Remarking.{unmoved}
+use Rattle.osservice.specs.Acts.{nothing}
+use Rattle.osservice.proofs.Remarking.{unmoved}
 use Rattle.ostick.specs.Ticks.{counts_each}
-use Rattle.osact.proofs.Going.{course-fails, course-holds}
+use Rattle.osservice.proofs.Going.{course-fails, course-holds}
 use Rattle.ostick.proofs.ticks.tick.Goals as goal
 
 pub returns-then-is_going : goal.returns-then-is_going

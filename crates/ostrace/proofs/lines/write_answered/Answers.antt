@@ -1,6 +1,6 @@
 use Rattle.std.proofs.Common.{◌∷◌, codes}
 use Rattle.std.specs.Fmt.{decimal}
-use Rattle.ostext.specs.Trace.{call_words, led, value_words}
+use Rattle.ostrace_text.specs.Trace.{call_words, led, value_words}
 use Rattle.ostrace.specs.Gathers.{Gathers}
 use Rattle.std.proofs.Common.{rules}
 use Rattle.ostrace.proofs.Gathering.{Gathers-spaced, Gathers-spaced_begun}

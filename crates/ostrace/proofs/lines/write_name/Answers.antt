@@ -1,5 +1,5 @@
 use Rattle.std.proofs.Common.{◌∷◌, []}
-use Rattle.ostext.specs.Trace.{led}
+use Rattle.ostrace_text.specs.Trace.{led}
 use Rattle.ostrace.proofs.Gathering.{Gathers-begun, Gathers-then}
 use Rattle.ostrace.proofs.lines.write_name.Goals as goal
 

@@ -1,6 +1,6 @@
 use Rattle.std.proofs.Common.{◌∷◌, [], codes}
 use Rattle.osplan.specs.Names.{runner_name}
-use Rattle.ostext.specs.Trace.{variable_name}
+use Rattle.ostrace_text.specs.Trace.{variable_name}
 use Rattle.ostrace.proofs.Gathering.{Gathers-spaced, Gathers-spaced_begun}
 use Rattle.ostrace.proofs.lines.write_named_variable.Goals as goal
 

@@ -1,6 +1,6 @@
 use Rattle.std.proofs.Common.{◌∷◌, []}
 use Rattle.std.specs.Fmt.{decimal}
-use Rattle.ostext.specs.Trace.{call_words}
+use Rattle.ostrace_text.specs.Trace.{call_words}
 use Rattle.ostrace.proofs.Gathering.{Gathers-spaced, Gathers-spaced_begun}
 use Rattle.ostrace.proofs.lines.write_remote.Goals as goal
 

@@ -1,7 +1,7 @@
 use Rattle.std.proofs.Common.{◌∷◌, [], codes}
 use Rattle.std.specs.Fmt.{decimal}
 use Rattle.osbase.specs.Words.{status_name}
-use Rattle.ostext.specs.Trace.{call_words}
+use Rattle.ostrace_text.specs.Trace.{call_words}
 use Rattle.ostrace.proofs.Gathering.{Gathers-spaced, Gathers-spaced_begun}
 use Rattle.ostrace.proofs.lines.write_served.Goals as goal
 

@@ -1,6 +1,6 @@
 use Rattle.std.proofs.Common.{◌∷◌, []}
-use Rattle.osforms.specs.Form.{arg_text}
-use Rattle.osforms.specs.Operation.{named}
+use Rattle.ossyntax.specs.ParsedOp.{arg_text}
+use Rattle.ossyntax.specs.Operation.{named}
 use Rattle.osplan.specs.Names.{name_of}
 use Rattle.ostrace.proofs.Gathering.{Gathers-led, Gathers-led_begun}
 use Rattle.ostrace.proofs.lines.write_three.Goals as goal

@@ -2,7 +2,7 @@ use Rattle.std.proofs.Common.{◌∷◌, []}
 use Rattle.std.specs.Fmt.{signed_decimal}
 use Rattle.osbase.specs.declared.statuses.Status.TheVariants.{EOk}
 use Rattle.osbase.specs.Words.{status_name}
-use Rattle.ostext.specs.Trace.{led}
+use Rattle.ostrace_text.specs.Trace.{led}
 use Rattle.ostrace.specs.Gathers.{Gathers}
 use Rattle.std.proofs.Common.{rules}
 use Rattle.ostrace.proofs.Gathering.{Gathers-led, Gathers-led_begun}

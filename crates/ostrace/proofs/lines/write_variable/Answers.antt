@@ -1,7 +1,7 @@
 use Rattle.std.proofs.Common.{◌∷◌, [], codes}
 use Rattle.std.specs.Fmt.{signed_decimal}
 use Rattle.osplan.specs.Names.{runner_name}
-use Rattle.ostext.specs.Trace.{led, variable_name}
+use Rattle.ostrace_text.specs.Trace.{led, variable_name}
 use Rattle.ostrace.specs.Gathers.{Gathers}
 use Rattle.std.proofs.Common.{rules}
 use Rattle.ostrace.proofs.Gathering.{Gathers-spaced, Gathers-spaced_begun}

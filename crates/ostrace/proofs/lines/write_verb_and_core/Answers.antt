@@ -1,6 +1,6 @@
 use Rattle.std.proofs.Common.{◌∷◌, []}
 use Rattle.std.specs.Fmt.{decimal}
-use Rattle.ostext.specs.Trace.{led}
+use Rattle.ostrace_text.specs.Trace.{led}
 use Rattle.ostrace.proofs.Gathering.{Gathers-begun, Gathers-then}
 use Rattle.ostrace.proofs.lines.write_verb_and_core.Goals as goal
 

@@ -1,6 +1,6 @@
 use Rattle.std.proofs.Common.{◌∙◌, ◌++◌, ◌∷◌, [], ap, sym, take}
 use Rattle.std.proofs.lemmas.List.{take_more}
-use Rattle.ostext.specs.Trace.{block_of}
+use Rattle.ostrace_text.specs.Trace.{block_of}
 use Rattle.ostrace.proofs.Gathering.{Gathers-all, Gathers-broken_at, GathersAll-next}
 use Rattle.ostrace.proofs.reports.gather_blocks.Goals as goal
 

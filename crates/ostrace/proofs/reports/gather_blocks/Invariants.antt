@@ -1,5 +1,5 @@
 use Rattle.std.proofs.Common.{take}
-use Rattle.ostext.specs.Trace.{text_of}
+use Rattle.ostrace_text.specs.Trace.{text_of}
 use Rattle.ostrace.proofs.Gathering.{GathersAll}
 use Rattle.ostrace.proofs.reports.gather_blocks.Given as goal
 

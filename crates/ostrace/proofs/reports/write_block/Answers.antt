@@ -1,4 +1,4 @@
-use Rattle.ostext.specs.Trace.{lines_of}
+use Rattle.ostrace_text.specs.Trace.{lines_of}
 use Rattle.ostrace.proofs.Gathering.{Gathers-begun, Gathers-then}
 use Rattle.ostrace.proofs.reports.write_block.Goals as goal
 

@@ -1,4 +1,4 @@
-use Rattle.ostext.specs.Trace.{line_end}
+use Rattle.ostrace_text.specs.Trace.{line_end}
 use Rattle.ostrace.proofs.Gathering.{Gathers-begun, Gathers-then}
 use Rattle.ostrace.proofs.reports.write_ended_title.Goals as goal
 

@@ -1,6 +1,6 @@
 use Rattle.std.proofs.Common.{◌++◌}
 use Rattle.std.proofs.lemmas.List.{take_more}
-use Rattle.ostext.specs.Trace.{line_end, line_of}
+use Rattle.ostrace_text.specs.Trace.{line_end, line_of}
 use Rattle.ostrace.proofs.Gathering.{Gathers-all, Gathers-broken_at, GathersAll-next}
 use Rattle.ostrace.proofs.reports.write_lines.Goals as goal
 

@@ -1,5 +1,5 @@
 use Rattle.std.proofs.Common.{take}
-use Rattle.ostext.specs.Trace.{lines_of}
+use Rattle.ostrace_text.specs.Trace.{lines_of}
 use Rattle.ostrace.proofs.Gathering.{GathersAll}
 use Rattle.ostrace.proofs.reports.write_lines.Given as goal
 

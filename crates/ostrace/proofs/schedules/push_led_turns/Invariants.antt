@@ -1,5 +1,5 @@
 use Rattle.std.proofs.Common.{◌≡◌, ◌++◌, map, string_bytes, take}
-use Rattle.ostext.specs.Trace.{led}
+use Rattle.ostrace_text.specs.Trace.{led}
 use Rattle.ostrace.specs.Schedules.{turn_word}
 use Rattle.ostrace.proofs.schedules.push_led_turns.Given as goal
 

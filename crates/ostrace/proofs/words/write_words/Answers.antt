@@ -1,6 +1,6 @@
 use Rattle.std.proofs.Common.{refl}
 use Rattle.ostrace.specs.Pieces.{led_text}
-use Rattle.ostext.specs.Trace.{line_end}
+use Rattle.ostrace_text.specs.Trace.{line_end}
 use Rattle.ostrace.proofs.Gathering.{Gathers-begun, Gathers-then}
 use Rattle.ostrace.proofs.words.write_words.Goals as goal
 

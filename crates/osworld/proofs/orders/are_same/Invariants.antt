@@ -1,5 +1,5 @@
 use Rattle.std.proofs.Common.{◌≡◌, take, length}
-use Rattle.osturn.specs.Sound.{lists_in}
+use Rattle.osrun.specs.Sound.{lists_in}
 use Rattle.osworld.proofs.orders.are_same.Given as goal
 
 abbrev pub invariant-loop-i : goal.invariant-loop-i

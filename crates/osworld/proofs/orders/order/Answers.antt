@@ -1,7 +1,7 @@
 use Rattle.std.proofs.Common.{◌≡◌, List, ap, subst, sym, ◌∙◌}
 use Rattle.osbase.specs.declared.references.CoreId.{CoreId}
 use Rattle.osbase.specs.declared.turns.Choice.{Choice}
-use Rattle.osturn.specs.Sound.{lists_in}
+use Rattle.osrun.specs.Sound.{lists_in}
 use Rattle.osworld.specs.Runs.{AreReports}
 use Rattle.osworld.proofs.Ordered.{no_others, ordered}
 use Rattle.osworld.proofs.orders.order.Goals as goal

@@ -1,5 +1,5 @@
 use Rattle.std.proofs.Common.{ap, sym, ◌∙◌, inl, inr}
-use Rattle.osturn.specs.Fits.{ids_of}
+use Rattle.osrun.specs.Fits.{ids_of}
 use Rattle.osworld.specs.Runs.{round_by, rounds}
 use Rattle.osworld.proofs.Default.{begun-there, default-broken_off, default-reported, default-scheduled}
 use Rattle.osworld.proofs.runs.default_schedule.Goals as goal

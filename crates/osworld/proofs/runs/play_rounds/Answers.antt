@@ -6,7 +6,7 @@ use Rattle.osworld.proofs.Default.{default-cut, default-played, round-cut, round
 use Rattle.osworld.proofs.runs.play_rounds.Goals as goal
 
 pub loop-rounds-init : goal.loop-rounds-init
-loop-rounds-init c = (refl, refl, refl, λ stimuli plays. underway-first c.args.world.now.config.now stimuli c.args.world.now.seats.items c.args.world.now.between plays)
+loop-rounds-init c = (refl, refl, refl, λ stimuli plays. underway-first c.args.world.now.config.now stimuli c.args.world.now.core_runs.items c.args.world.now.shared plays)
 
 pub returns-in_err-changed-clause-err : goal.returns-in_err-changed-clause-err
 returns-in_err-changed-clause-err c =

@@ -1,5 +1,5 @@
 use Rattle.std.proofs.Common.{ap, sym, ◌∙◌}
-use Rattle.osturn.specs.Fits.{ids_of}
+use Rattle.osrun.specs.Fits.{ids_of}
 use Rattle.osworld.specs.Runs.{round_by}
 use Rattle.osworld.proofs.Default.{begun-there, default-broken_off, default-reported}
 use Rattle.osworld.proofs.runs.run_default.Goals as goal

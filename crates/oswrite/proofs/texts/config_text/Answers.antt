@@ -12,4 +12,4 @@ returns-clause-text c =
 pub returns-clause-reads_back : goal.returns-clause-reads_back
 returns-clause-reads_back c =
     let same : view c.in_ok-plan_value.field-0 ≡ config_data c.args.config.now = c.in_ok-plan_value.ensures ∙ ap config_data c.plan-plan.ensures.value in
-    config-back c.args.config.now _ c.plan-plan.ensures.limits c.plan-plan.ensures.expressible (c.in_ok-text.ensures.reads_back (rw same (config-fits c.args.config.now).1) ∙ ap Some same)
+    config-back c.args.config.now _ c.plan-plan.ensures.limits c.plan-plan.ensures.representable (c.in_ok-text.ensures.reads_back (rw same (config-fits c.args.config.now).1) ∙ ap Some same)

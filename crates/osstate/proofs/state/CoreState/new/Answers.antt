@@ -16,7 +16,7 @@ invariant_of-result g c =
     let found : core_of c.args.config.now c.args.id ≡ Some c.in-Some.core.now = sym (c.in-Some.ensures ∙ ap (λ (p : Plan). core_of p c.args.id) c.plan-plan.ensures.value) in
     subst (λ (s : KernelState). IsSound g.row.P g.row.J s)
     (sym (parts-begun c.args.config.now c.in-Some.core.now c.eq.result c.new.result _ _ _ _ _ c.new.ensures c.new-2.ensures c.new-3.ensures c.new-4.ensures c.new-5.ensures c.new-6.ensures))
-    (sound-begun g.row.P g.row.J c.args.config.now c.args.id c.in-Some.core.now c.eq.result c.plan-plan.ensures.limits c.plan-plan.ensures.expressible found c.requires.priorities c.requires.ceilings c.requires.activations)
+    (sound-begun g.row.P g.row.J c.args.config.now c.args.id c.in-Some.core.now c.eq.result c.plan-plan.ensures.limits c.plan-plan.ensures.representable found c.requires.priorities c.requires.ceilings c.requires.activations)
 
 pub returns : goal.returns
 returns g c =

@@ -3,7 +3,7 @@ use Rattle.std.proofs.lemmas.List.{append-nil, take_all}
 use Rattle.osbase.specs.declared.references.TableRef.{TableRef}
 use Rattle.osbase.specs.Objects.{table_object}
 use Rattle.osplan.specs.Objects.{is_own_object}
-use Rattle.osattach.proofs.Members.{kept-all}
+use Rattle.osattached.proofs.Members.{kept-all}
 use Rattle.ostable.specs.Tables.{TableStates, due_in, due_table, is_timed_by, next_in, table_refs, timed_by}
 use Rattle.ostable.proofs.Bounds.{list-at}
 use Rattle.ostable.proofs.Listed.{filter_map-more, none-kept, one-kept, timed-own}

@@ -1,7 +1,7 @@
 use Rattle.std.proofs.Common.{rules, arith}
 use Rattle.std.specs.Option.{IsSome}
 use Rattle.osplan.specs.View.{core_of}
-use Rattle.osturn.proofs.Sizes.{view-priorities, view-ceilings, view-activations, view-outbox}
+use Rattle.osrun.proofs.Sizes.{view-priorities, view-ceilings, view-activations, view-outbox}
 use Rattle.ostests_runs.proofs.tests.kernel.kernel_after.Goals as goal
 
 pub new-kernel-requires : goal.new-kernel-requires

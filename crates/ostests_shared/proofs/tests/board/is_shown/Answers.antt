@@ -1,5 +1,5 @@
 use Rattle.std.proofs.Common.{inl, refl}
-use Rattle.osseat.proofs.Thins.{unlogged}
+use Rattle.osshared.proofs.Thins.{unlogged}
 use Rattle.osboard.specs.Boards.{IsLook}
 use Rattle.ostests_shared.proofs.tests.board.is_shown.Goals as goal
 

@@ -1,5 +1,5 @@
 use Rattle.std.proofs.Common.{◌≡◌}
-use Rattle.osseat.specs.Histories.{Thinned}
+use Rattle.osshared.specs.Histories.{Thinned}
 use Rattle.osboard.specs.Boards.{IsLook}
 use Rattle.ostests_shared.proofs.tests.board.is_shown_often.Given as goal
 

@@ -1,7 +1,7 @@
 use Rattle.std.proofs.Common.{◌≡◌, List, map, sym, ap, subst, ◌∙◌, arith}
-use Rattle.osseat.specs.Seats.{AllApart, AllAt, Held, cores_of, fresh}
-use Rattle.osseat.specs.Runs.{AreLogged, IsOneRun}
-use Rattle.osseat.proofs.Runs.{all_logged, all_new, kept, one_run}
+use Rattle.osshared.specs.Seats.{AllApart, AllAt, Held, cores_of, fresh}
+use Rattle.osshared.specs.Runs.{AreLogged, IsOneRun}
+use Rattle.osshared.proofs.Runs.{all_logged, all_new, kept, one_run}
 use Rattle.osboard.specs.Boards.{IsLook, one_board}
 use Rattle.osboard.proofs.Boards.{looks_idle}
 use Rattle.ostests_shared.proofs.tests.board.run_all.Goals as goal

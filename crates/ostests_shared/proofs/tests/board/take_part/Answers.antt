@@ -1,7 +1,7 @@
 use Rattle.std.proofs.Common.{rules, ◌≡◌, inl, inr, refl}
 use Rattle.osbase.specs.declared.statuses.Status.TheVariants.{EOsState}
-use Rattle.osseat.specs.Histories.{Thinned}
-use Rattle.osseat.proofs.Thins.{logged, unlogged}
+use Rattle.osshared.specs.Histories.{Thinned}
+use Rattle.osshared.proofs.Thins.{logged, unlogged}
 use Rattle.osboard.specs.Boards.{IsLook, ask_halt_call, drain_call, enter_call, ready_call, start_call}
 use Rattle.ostests_shared.proofs.tests.board.take_part.Goals as goal
 

@@ -1,5 +1,5 @@
 use Rattle.std.proofs.Common.{rules, ◌≡◌, ◌∷◌, [], ◌++◌, ap, ◌∙◌, refl}
-use Rattle.osseat.proofs.Thins.{logged, unlogged}
+use Rattle.osshared.proofs.Thins.{logged, unlogged}
 use Rattle.osspin.specs.Spins.{IsRefusedCall, try_take_call, look_call, free_call}
 use Rattle.osspin.specs.declared.calls.SpinReply.TheVariants.{Answered}
 use Rattle.ostests_shared.proofs.tests.spinlocks.visit.Goals as goal

@@ -1,5 +1,5 @@
 use Rattle.std.proofs.Common.{◌≡◌}
-use Rattle.osseat.specs.Histories.{Thinned}
+use Rattle.osshared.specs.Histories.{Thinned}
 use Rattle.osspin.specs.Spins.{IsRefusedCall}
 use Rattle.ostests_shared.proofs.tests.spinlocks.work.Given as goal
 

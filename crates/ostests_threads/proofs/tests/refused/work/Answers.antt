@@ -1,5 +1,5 @@
 use Rattle.std.proofs.Common.{◌≡◌, arith, ap, ◌∙◌}
-use Rattle.osturn.specs.Fits.{ids_of}
+use Rattle.osrun.specs.Fits.{ids_of}
 use Rattle.osthreads.specs.declared.seats.Seats.{Seats}
 use Rattle.ostests_threads.proofs.tests.refused.work.Goals as goal
 

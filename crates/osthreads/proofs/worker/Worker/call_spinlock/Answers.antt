@@ -1,17 +1,17 @@
 use Rattle.std.proofs.Common.{◌≡◌, ◌<◌, ◌++◌, ◌∷◌, [], false, inl, inr, refl, ap, sym, subst, ◌∙◌}
 use Rattle.osbase.specs.declared.limits.TheConstants.{SPINLOCKS}
-use Rattle.osseat.specs.Histories.{entry}
-use Rattle.osseat.specs.Seats.{Extends}
+use Rattle.osshared.specs.Histories.{entry}
+use Rattle.osshared.specs.Seats.{Extends}
 use Rattle.osspin.specs.declared.calls.SpinCall.{SpinCall}
 use Rattle.osspin.specs.declared.calls.SpinReply.TheVariants.{Answered}
 use Rattle.osspin.specs.Spins.{SpinEntry, spin_reply, spinlocks}
 use Rattle.osadmit.specs.Admission.{takes_in}
 use Rattle.oskernel.specs.Wants.{watch_in}
-use Rattle.osturn.specs.declared.asks.Ask.TheVariants.{OfSpins}
-use Rattle.osturn.specs.declared.asks.Answer.TheVariants.{Spun}
-use Rattle.osturn.specs.Asking.{spin_call_of, spun}
+use Rattle.osrun.specs.declared.requests.Request.TheVariants.{OfSpins}
+use Rattle.osrun.specs.declared.requests.Reply.TheVariants.{Spun}
+use Rattle.osrun.specs.Requests.{spin_call_of, item_of_spinlock}
 use Rattle.osthreads.specs.Seats.{made_from}
-use Rattle.osthreads.proofs.Asking.{replied-by, spins-no-mail, spun-same, unspun, wish-fruitless}
+use Rattle.osthreads.proofs.Requests.{replied-by, spins-no-mail, spinlock-same, unspun, wish-fruitless}
 use Rattle.osthreads.proofs.Working.{spin-idle, spins-took}
 use Rattle.osthreads.proofs.worker.Worker.call_spinlock.Goals as goal
 use Rattle.oskernel.specs.Step.{outbox_size}
@@ -22,18 +22,18 @@ call-requires-clause-lock g c = subst (λ (x : SpinCall). x.lock.index < SPINLOC
 pub take-requires-clause-taken : goal.take-requires-clause-taken
 take-requires-clause-taken g c =
     let old = c.args.self.now in
-    spun-same old.core.kernel c.args.wish c.call.result c.in-Some.item (sym c.named.ensures ∙ c.in-Some.is)
+    spinlock-same old.core.kernel c.args.wish c.call.result c.in-Some.item (sym c.item_for_reply.ensures ∙ c.in-Some.is)
     ∙ ap (takes_in outbox_size old.core.kernel) (sym c.item_of_wish.ensures) ∙ sym c.may_take.ensures.state ∙ c.if-not-may_take.false
 
 pub returns-clause-turns : goal.returns-clause-turns
 returns-clause-turns g c stimuli loads done =
     let old = c.args.self.now in
-    let names = sym c.named.ensures ∙ c.in-Some.is in
-    let may = spun-same old.core.kernel c.args.wish c.call.result c.in-Some.item names
+    let names = sym c.item_for_reply.ensures ∙ c.in-Some.is in
+    let may = spinlock-same old.core.kernel c.args.wish c.call.result c.in-Some.item names
     ∙ ap (takes_in outbox_size old.core.kernel) (sym c.item_of_wish.ensures) ∙ sym c.may_take.ensures.state ∙ c.if-not-may_take.false in
     spins-took old.run.now.config.now stimuli loads old.core c.take.new.self (made_from old.seats) _ _ _ _ _ done (OfSpins c.args.wish) (Spun c.call.result) c.in-Some.item
     c.requires.asked names may
-    (record { id = c.take.ensures.id; left = c.take.ensures.stimuli; items = c.take.ensures.taken; does = c.take.ensures.does })
+    c.take.ensures
     c.args.wish c.call.result refl refl (spins-no-mail old.core.id (watch_in old.core.kernel) c.args.wish c.call.result c.in-Some.item names)
     refl (c.call.ensures.mine ∙ (λ i. old.seats.spins.mine ++ entry (old.same_spins i) (c.spin_call_of.ensures i) c.call.result ∷ [])) (λ d. refl) (λ d. refl)
 
@@ -42,7 +42,7 @@ returns-in_default-clause-turns g c stimuli loads done =
     let old = c.args.self.now in
     let t = replied-by spinlocks old.seats.spins c.call.new.seat c.spin_call_of.result c.call.result c.call.ensures in
     let reply : c.call.result ≡ spin_reply old.core.id (spin_call_of c.args.wish) t.0 = t.1 ∙ (λ i. spin_reply (old.same_spins i) (c.spin_call_of.ensures i) t.0) in
-    let none = unspun old.core.id c.args.wish t.0 (λ item names. c.in_default.not-Some item (c.named.ensures ∙ ap (spun c.args.wish) reply ∙ names)) in
+    let none = unspun old.core.id c.args.wish t.0 (λ item names. c.in_default.not-Some item (c.item_for_reply.ensures ∙ ap (item_of_spinlock c.args.wish) reply ∙ names)) in
     let refused : c.call.result ≡ Answered false = reply ∙ none.refused in
     spin-idle old.run.now.config.now stimuli loads old.core (made_from old.seats) _ _ done c.args.wish (entry old.seats.spins.core c.spin_call_of.result c.call.result) _
     c.requires.asked none.waits (λ i. entry (old.same_spins i) (c.spin_call_of.ensures i) (refused i)) refl c.call.ensures.mine
@@ -52,14 +52,14 @@ returns-in_default-clause-stuck g c =
     let old = c.args.self.now in
     let t = replied-by spinlocks old.seats.spins c.call.new.seat c.spin_call_of.result c.call.result c.call.ensures in
     let reply : c.call.result ≡ spin_reply old.core.id (spin_call_of c.args.wish) t.0 = t.1 ∙ (λ i. spin_reply (old.same_spins i) (c.spin_call_of.ensures i) t.0) in
-    inl (unspun old.core.id c.args.wish t.0 (λ item names. c.in_default.not-Some item (c.named.ensures ∙ ap (spun c.args.wish) reply ∙ names))).waits
+    inl (unspun old.core.id c.args.wish t.0 (λ item names. c.in_default.not-Some item (c.item_for_reply.ensures ∙ ap (item_of_spinlock c.args.wish) reply ∙ names))).waits
 
 pub returns-in_default-clause-called : goal.returns-in_default-clause-called
 returns-in_default-clause-called g c =
     let old = c.args.self.now in
     let t = replied-by spinlocks old.seats.spins c.call.new.seat c.spin_call_of.result c.call.result c.call.ensures in
     let reply : c.call.result ≡ spin_reply old.core.id (spin_call_of c.args.wish) t.0 = t.1 ∙ (λ i. spin_reply (old.same_spins i) (c.spin_call_of.ensures i) t.0) in
-    let none = unspun old.core.id c.args.wish t.0 (λ item names. c.in_default.not-Some item (c.named.ensures ∙ ap (spun c.args.wish) reply ∙ names)) in
+    let none = unspun old.core.id c.args.wish t.0 (λ item names. c.in_default.not-Some item (c.item_for_reply.ensures ∙ ap (item_of_spinlock c.args.wish) reply ∙ names)) in
     let refused : c.call.result ≡ Answered false = reply ∙ none.refused in
     inr (subst (λ (e : SpinEntry). Extends spinlocks old.seats.spins e c.call.new.seat) (λ i. entry (old.same_spins i) (c.spin_call_of.ensures i) (refused i)) c.call.ensures)
 

@@ -20,7 +20,7 @@ returns-then-not-has_mail-clause-ok c =
     subst (λ (ts : List (CoreId × Choice)). PlaysTurns ts c.args.self.now c.loop-other.changed c.loop-other.self)
     (sym (serves-append before rest c.args.id) ∙ ap (serves c.args.id) (take-append-drop c.loop-other.other-index c.args.ids.now))
     (plays-on c.args.self.now c.loop-other.self c.loop-other.self c.loop-other.invariant.0 (serves c.args.id before) (serves c.args.id rest) c.loop-other.changed c.loop-other.invariant.3 false
-    (λ stimuli w plays. unserved-played c.loop-other.self.config.now stimuli w c.loop-other.self.seats.items c.loop-other.self.between plays c.args.id (sym c.has_mail.ensures ∙ c.if-not-has_mail.true) (filter (λ (from : CoreId). not (same_core from c.args.id)) rest)))
+    (λ stimuli w plays. unserved-played c.loop-other.self.config.now stimuli w c.loop-other.self.core_runs.items c.loop-other.self.shared plays c.args.id (sym c.has_mail.ensures ∙ c.if-not-has_mail.true) (filter (λ (from : CoreId). not (same_core from c.args.id)) rest)))
 
 pub returns-in_err-changed-clause-err : goal.returns-in_err-changed-clause-err
 returns-in_err-changed-clause-err c =

@@ -1,4 +1,0 @@
-use Rattle.oscheck.proofs.table_checks.is_table_within.Goals as goal
-
-pub returns : goal.returns
-returns c = rw (← c.as_str.ensures, ← c.counter.ensures) c.is_within.ensures

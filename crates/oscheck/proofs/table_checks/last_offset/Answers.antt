@@ -1,6 +1,0 @@
-use Rattle.std.proofs.Common.{sym, ◌∙◌}
-use Rattle.oscheck.proofs.Numbers.{last-at}
-use Rattle.oscheck.proofs.table_checks.last_offset.Goals as goal
-
-pub returns-in-Some : goal.returns-in-Some
-returns-in-Some c = c.offset_of.ensures ∙ last-at c.args.points.now c.in-Some.point.now (sym c.in-Some.ensures.value)

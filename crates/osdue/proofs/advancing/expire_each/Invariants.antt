@@ -1,8 +1,0 @@
-use Rattle.std.proofs.Common.{take}
-use Rattle.osdue.specs.Advancing.{posted_for}
-use Rattle.osdue.specs.Expiring.{expires}
-use Rattle.osact.proofs.InTurn.{InTurn}
-use Rattle.osdue.proofs.advancing.expire_each.Given as goal
-
-abbrev pub invariant-loop-alarm : goal.invariant-loop-alarm
-invariant-loop-alarm g l = InTurn expires posted_for 3 3 (take l.alarm-index l.due) l.initial.state l.state l.initial.marks l.marks

@@ -1,4 +1,0 @@
-pub mod Expiring
-pub mod Passing
-pub mod Advancing
-pub mod Incrementing

@@ -1,0 +1,37 @@
+//! Counters, alarms and schedule tables: what the core prints for its items, and that the default schedule gives these items.
+
+ghost use Rattle.osexamples.specs.Clocks.{ending, present, wrap};
+ghost use Rattle.osexamples.specs.Example.{HasRounds, Prints, TakesItems};
+
+/// An alarm that is due at the value that its counter has.
+pub fn present_prints_its_block()
+    ensures { Prints present 0 }
+{}
+
+/// The items of the default schedule.
+pub fn present_takes_these_items_by_default()
+    ensures rounds { HasRounds present 12 }
+    ensures items { TakesItems present 12 }
+{}
+
+/// A cyclic alarm of a counter that goes past its greatest value.
+pub fn wrap_prints_its_block()
+    ensures { Prints wrap 0 }
+{}
+
+/// The items of the default schedule.
+pub fn wrap_takes_these_items_by_default()
+    ensures rounds { HasRounds wrap 15 }
+    ensures items { TakesItems wrap 15 }
+{}
+
+/// A schedule table at the end of whose period another one begins.
+pub fn ending_prints_its_block()
+    ensures { Prints ending 0 }
+{}
+
+/// The items of the default schedule.
+pub fn ending_takes_these_items_by_default()
+    ensures rounds { HasRounds ending 17 }
+    ensures items { TakesItems ending 17 }
+{}

@@ -1,0 +1,4 @@
+pub mod Expiring
+pub mod ExpiryPoints
+pub mod Advancing
+pub mod Incrementing

@@ -1,0 +1,88 @@
+//! The service that advances a counter.
+
+ghost use Rattle.std.specs.Prelude.{◌≡◌, Some, IsTrue};
+ghost use Rattle.osplan.specs.Clocked.{are_clocks_within};
+ghost use Rattle.osplan.specs.Objects.{most_posts_per_tick};
+ghost use Rattle.osstate.specs.Does.{Effects, service_entries, service_marks};
+ghost use Rattle.osservice.specs.Terms.{MayOperate, Offered};
+ghost use Rattle.osservice.specs.Acts.{does};
+ghost use Rattle.osexpiry.specs.Incrementing.{increment_acts, increments, is_hardware};
+
+use crate::advancing::advance;
+use osbase::{CounterRef, Mark, Runner, ServiceId, Status};
+use oscript::Op;
+use osservice::{Step, accept, refuse};
+use osstate::CoreState;
+
+// Whether it is a counter of the core that ticks alone advance (AUTOSAR SWS OS 4.x, OsCounterType).
+fn is_hardware<const P: usize, const J: usize, const OUT: usize>(
+    state: &CoreState<'_, P, J, OUT>,
+    counter: CounterRef,
+) -> bool
+    ensures value { result ≡ is_hardware state.now.view.own counter }
+    ensures within { IsTrue (are_clocks_within state.now.view.own) }
+{
+    match state.counter(Some(counter)) {
+        Some(own) => !own.software,
+        None => false,
+    }
+}
+
+// A running job of one of the core's tasks advances a software counter by one, and what is due then acts (AUTOSAR SWS OS
+// 4.x, SWS_Os_00286). The invalid identifier and a hardware counter of the core answer E_OS_ID, a counter of another core E_OS_CORE; then no
+// counter goes on.
+fn increment_counter<const P: usize, const J: usize, const OUT: usize>(
+    state: &mut CoreState<'_, P, J, OUT>,
+    runner: Runner,
+    target: Option<CounterRef>,
+    marks: &mut Vec<Mark>,
+)
+    requires { MayOperate (most_posts_per_tick state.old.view.own) OUT state.old runner (Op.IncrementCounter target) marks.old }
+    ensures { Effects service_entries service_marks (does (increments runner target)) state.old state.new marks.old marks.new }
+{
+    let service = ServiceId::IncrementCounter;
+    match target {
+        Some(counter) => increment(state, runner, counter, marks),
+        None => refuse(state, runner, service, Status::EOsId, marks),
+    }
+}
+
+fn increment<const P: usize, const J: usize, const OUT: usize>(
+    state: &mut CoreState<'_, P, J, OUT>,
+    runner: Runner,
+    counter: CounterRef,
+    marks: &mut Vec<Mark>,
+)
+    requires { MayOperate (most_posts_per_tick state.old.view.own) OUT state.old runner (Op.IncrementCounter (Some counter)) marks.old }
+    ensures { Effects service_entries service_marks (does (increments runner (Some counter))) state.old state.new marks.old marks.new }
+{
+    let service = ServiceId::IncrementCounter;
+    if is_hardware(state, counter) {
+        refuse(state, runner, service, Status::EOsId, marks);
+    } else if state.is_this_core(counter.core) {
+        advance(state, counter, marks);
+        accept(state, runner, service, marks);
+    } else {
+        refuse(state, runner, service, Status::EOsCore, marks);
+    }
+}
+
+/// An operation of a running job of one of the core's tasks, if it is IncrementCounter: it is done, and the answer
+/// is yes. Else nothing changes.
+pub fn operate<const P: usize, const J: usize, const OUT: usize>(
+    state: &mut CoreState<'_, P, J, OUT>,
+    step: Step,
+    marks: &mut Vec<Mark>,
+) -> bool
+    requires { MayOperate (most_posts_per_tick state.old.view.own) OUT state.old step.runner step.op marks.old }
+    ensures { Offered (increment_acts step.runner step.op) result state.old state.new marks.old marks.new }
+{
+    let runner = step.runner;
+    match step.op {
+        Op::IncrementCounter(target) => {
+            increment_counter(state, runner, target, marks);
+            true
+        }
+        _ => false,
+    }
+}

@@ -1,8 +1,0 @@
-use Rattle.std.proofs.Common.{◌≡◌, map, drop}
-use Rattle.osbase.specs.History.{greater}
-use Rattle.osplan.specs.Objects.{greatest_of, greatest_posted, posted_at}
-use Rattle.osfit.proofs.fitting.greatest_posted.Given as goal
-
--- with what is still to come
-abbrev pub invariant-loop-point : goal.invariant-loop-point
-invariant-loop-point l = greater l.greatest (greatest_of (map (posted_at l.core) (drop l.point-index l.table.points))) ≡ greatest_posted l.core l.table

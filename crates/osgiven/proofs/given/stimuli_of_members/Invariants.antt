@@ -1,9 +1,0 @@
-use Rattle.std.proofs.Common.{◌≡◌}
-use Rattle.osread.specs.Reading.{each}
-use Rattle.osread.proofs.Each.{with_front}
-use Rattle.osread.proofs.Contents.{entry_view}
-use Rattle.osgiven.specs.Given.{core_stimuli_of}
-use Rattle.osgiven.proofs.given.stimuli_of_members.Given as goal
-
-abbrev pub invariant-loop-key : goal.invariant-loop-key
-invariant-loop-key l = with_front l.stimuli (each (λ entry. core_stimuli_of l.plan (entry_view entry)) l.key-iterator) ≡ each (λ entry. core_stimuli_of l.plan (entry_view entry)) l.members.entries

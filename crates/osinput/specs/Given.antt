@@ -1,0 +1,135 @@
+-- The stimuli and the schedule that texts mean for a configuration, and the faults that they have. [own]
+use Rattle.std.specs.Prelude.{ℕ, ◌==◌, nat_le, Bool, true, not, is_some, Option, Some, None, option_and_then, unwrap_or, if◌then◌else◌, false, List, [], ◌∷◌, length, map, find, option_map, take, drop, position, codes}
+use Rattle.std.specs.Char.{is_ascii_digit}
+use Rattle.std.specs.Option.{option_map_or}
+use Rattle.std.specs.List.{list_all}
+use Rattle.std.specs.Str.{bytes_eq}
+use Rattle.osbase.specs.Sets.{numbers_from}
+use Rattle.osbase.specs.declared.limits.TheConstants.{ISRS}
+use Rattle.osbase.specs.declared.references.CoreId.{CoreId}
+use Rattle.osbase.specs.declared.references.IsrRef.{IsrRef}
+use Rattle.osbase.specs.declared.items.Stimulus.{Stimulus}
+use Rattle.osbase.specs.declared.items.Stimulus.TheVariants.{Op, Tick, Irq}
+use Rattle.osbase.specs.declared.turns.CoreStimuli.{CoreStimuli}
+use Rattle.osbase.specs.declared.turns.Choice.{Choice}
+use Rattle.osbase.specs.declared.turns.Choice.TheVariants.{Own, Serve, Look}
+use Rattle.osplan.specs.declared.plans.Core.{Core}
+use Rattle.osplan.specs.declared.plans.Isr.{Isr}
+use Rattle.osplan.specs.declared.plans.Plan.{Plan}
+use Rattle.osplan.specs.View.{core_of, own_isr}
+use Rattle.serde_json.specs.Data.{Data}
+use Rattle.serde_json.specs.Read.{read}
+use Rattle.serde_json.specs.Find.{as_str, as_object}
+use Rattle.osplan.specs.declared.faults.ConfFault.{ConfFault}
+use Rattle.osplan.specs.declared.faults.ConfFault.TheVariants.{NotJson, Limit, BadStimulus, BadSchedule}
+use Rattle.osplan.specs.Fault.{Tests, failing}
+use Rattle.osinput.specs.Word.{core_number}
+use Rattle.osjson.specs.Reading.{◌>>=◌, each, parts_of}
+use Rattle.osjson.specs.Json.{entries}
+use Rattle.osplan.specs.Fault.{if_faultless}
+
+-- The configured core that these digits name.
+abbrev pub core_named : Plan → List ℕ → Option Core
+core_named plan digits = do
+  number ← core_number digits
+  core_of plan (record { number = number })
+
+-- ---- stimuli: an object from core numbers to words
+
+-- The ISR is the core's own, and has this name.
+abbrev pub is_isr_named : Core → List ℕ → IsrRef → Bool
+is_isr_named core name isr = option_map_or (λ (own : Isr). bytes_eq own.name name) (own_isr core isr) false
+
+-- The core's ISR of a name.
+abbrev pub isr_named : Core → List ℕ → Option IsrRef
+isr_named core name = find (is_isr_named core name) (map (λ (index : ℕ). record { core = core.id; index = index }) (numbers_from 0 ISRS))
+
+-- What a word means to a core: an interrupt is `irq=` and the name of one of its ISRs. The core knows it, so whatever is read may be
+-- played.
+abbrev pub stimulus_of : Core → List ℕ → Option Stimulus
+stimulus_of core word =
+    if bytes_eq word (codes "op") then Some Op
+    else (if bytes_eq word (codes "tick") then Some Tick
+    else (if bytes_eq (take 4 word) (codes "irq=") then option_map Irq (isr_named core (drop 4 word)) else None))
+
+abbrev pub stimuli_of_words : Core → List ℕ → Option (List Stimulus)
+stimuli_of_words core text = each (stimulus_of core) (parts_of 32 text)
+
+unfoldable pub core_stimuli_of : Plan → List ℕ × Data → Option CoreStimuli
+core_stimuli_of plan entry = do
+  core ← core_named plan entry.0
+  text ← as_str entry.1
+  words ← stimuli_of_words core text
+  Some (record { core = core.id; words = words })
+
+abbrev pub stimuli_of_data : Plan → Data → Option (List CoreStimuli)
+stimuli_of_data plan d = option_and_then (λ ms. each (core_stimuli_of plan) (entries ms)) (as_object d)
+
+-- At most so many words, which are counted by their spaces, whatever they are. What is no text has none.
+abbrev pub has_words_within : ℕ → Data → Bool
+has_words_within most d = option_map_or (λ text. nat_le (length (parts_of 32 text)) most) (as_str d) true
+
+-- A core has at most 100,000 stimuli.
+abbrev pub are_stimuli_within : Data → Bool
+are_stimuli_within d = option_map_or (λ ms. list_all (λ (entry : List ℕ × Data). has_words_within 100000 entry.1) (entries ms)) (as_object d) true
+
+abbrev pub stimuli_tests : Plan → Data → Tests
+stimuli_tests plan d = (Limit, are_stimuli_within d) ∷ (BadStimulus, is_some (stimuli_of_data plan d)) ∷ []
+
+-- ---- a schedule: a text of turns
+
+-- The digits at the front of a word, and what follows them.
+abbrev pub digits_in : List ℕ → ℕ
+digits_in word = unwrap_or (position (λ b. not (is_ascii_digit b)) word) (length word)
+
+-- `o` is Own, `l` is Look, and `s` with a core other than the turn's own is Serve.
+abbrev pub served : Plan → CoreId → List ℕ → Option Choice
+served plan core digits = option_and_then (λ (from : Core). if from.id.number == core.number then None else Some (Serve from.id)) (core_named plan digits)
+
+unfoldable pub choice_of : Plan → CoreId → List ℕ → Option Choice
+choice_of plan core [] = None
+choice_of plan core (letter ∷ digits) =
+    if letter == 115
+    then served plan core digits
+    else (if length digits == 0 then (if letter == 111 then Some Own else (if letter == 108 then Some Look else None)) else None)
+
+unfoldable pub turn_of : Plan → List ℕ → Option (CoreId × Choice)
+turn_of plan word = do
+  core ← core_named plan (take (digits_in word) word)
+  choice ← choice_of plan core.id (drop (digits_in word) word)
+  Some (core.id, choice)
+
+abbrev pub turns_of_text : Plan → List ℕ → Option (List (CoreId × Choice))
+turns_of_text plan text = each (turn_of plan) (parts_of 32 text)
+
+abbrev pub schedule_of_data : Plan → Data → Option (List (CoreId × Choice))
+schedule_of_data plan d = option_and_then (turns_of_text plan) (as_str d)
+
+-- A schedule has at most 1,000,000 turns.
+abbrev pub schedule_tests : Plan → Data → Tests
+schedule_tests plan d = (Limit, has_words_within 1000000 d) ∷ (BadSchedule, is_some (schedule_of_data plan d)) ∷ []
+
+-- ---- the faults and the meaning of a text
+
+-- If a text is no JSON, that is its only fault. Otherwise it has those whose tests fail, in ascending order.
+abbrev pub faults_by : (Data → Tests) → Option Data → List ConfFault
+faults_by tests None = NotJson ∷ []
+faults_by tests (Some d) = failing (tests d)
+
+abbrev pub stimuli_faults : Plan → List ℕ → List ConfFault
+stimuli_faults plan text = faults_by (stimuli_tests plan) (read text)
+
+abbrev pub schedule_faults : Plan → List ℕ → List ConfFault
+schedule_faults plan text = faults_by (schedule_tests plan) (read text)
+
+-- What the data mean, if no test of them fails.
+abbrev pub meaning_by : {A : Type 0} → (Data → Tests) → (Data → Option A) → Data → Option A
+meaning_by tests mean d = option_and_then (if_faultless (failing (tests d))) (mean d)
+
+-- The stimuli that a text means for a configuration, if it has no fault. [own]
+abbrev pub stimuli_of_text : Plan → List ℕ → Option (List CoreStimuli)
+stimuli_of_text plan text = option_and_then (meaning_by (stimuli_tests plan) (stimuli_of_data plan)) (read text)
+
+-- The schedule that a text means for a configuration, if it has no fault: its turns in order. [own]
+abbrev pub schedule_of_text : Plan → List ℕ → Option (List (CoreId × Choice))
+schedule_of_text plan text = option_and_then (meaning_by (schedule_tests plan) (schedule_of_data plan)) (read text)

@@ -1,0 +1,11 @@
+//! Reading what a run is given: each core's stimuli, and a schedule.
+//!
+//! A text is judged in passes: whether it is JSON, its limit, and then all else under one fault. So the fault
+//! that is answered is the one of smallest number. A failed allocation is never taken for a fault of the text.
+#![tactic(auto)]
+
+mod given;
+mod walks;
+mod words;
+
+pub use given::{read_schedule, read_stimuli};

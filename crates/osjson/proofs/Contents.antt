@@ -1,0 +1,37 @@
+-- What arrays and objects hold, as lists.
+use Rattle.std.proofs.Common.{◌≡◌, ℕ, List, [], ◌∷◌, map, Bool, String, Global, string_bytes, refl, ap, ◌&&◌, ◌||◌}
+use Rattle.std.specs.List.{list_all, list_any}
+use Rattle.std.specs.Borrow.{Bor}
+use Rattle.std.specs.Str.{bytes_eq}
+use Rattle.std.specs.Map.{keys_of, values_of}
+use Rattle.serde_json.specs.Data.{Data}
+use Rattle.serde_json.specs.View.{view, items_of, members_view}
+use Rattle.serde_json.specs.declared.value.Value.{Value}
+use Rattle.osjson.specs.Json.{elements, entries, texts_of, is_one_of}
+
+pub elements-items_of : (ds : List Data) → elements (items_of ds) ≡ ds
+elements-items_of [] = refl
+elements-items_of (d ∷ ds) = ap (λ es. d ∷ es) (elements-items_of ds)
+
+-- a test of each name
+pub list_all-names : (p : List ℕ → Bool) (es : List (String Global × Value)) → list_all (λ (key : String Global). p (string_bytes key)) (keys_of es) ≡ list_all (λ (entry : List ℕ × Data). p entry.0) (entries (members_view es))
+list_all-names p [] = refl
+list_all-names p (e ∷ es) = ap (λ b. p (string_bytes e.0) && b) (list_all-names p es)
+
+-- a test of each value
+pub list_all-values : (p : Data → Bool) (es : List (String Global × Value)) → list_all (λ (value : Value). p (view value)) (values_of es) ≡ list_all (λ (entry : List ℕ × Data). p entry.1) (entries (members_view es))
+list_all-values p [] = refl
+list_all-values p (e ∷ es) = ap (λ b. p (view e.1) && b) (list_all-values p es)
+
+-- an entry as the data that it stands for
+abbrev pub entry_view : String Global × Value → List ℕ × Data
+entry_view e = (string_bytes e.0, view e.1)
+
+pub entries-members_view : (es : List (String Global × Value)) → entries (members_view es) ≡ map entry_view es
+entries-members_view [] = refl
+entries-members_view (e ∷ es) = ap (λ rest. entry_view e ∷ rest) (entries-members_view es)
+
+-- a test of borrowed texts
+pub any_texts : (key : List ℕ) (names : List (Bor (List ℕ))) → list_any (λ (name : Bor (List ℕ)). bytes_eq name.now key) names ≡ is_one_of (texts_of names) key
+any_texts key [] = refl
+any_texts key (name ∷ names) = ap (λ b. bytes_eq name.now key || b) (any_texts key names)

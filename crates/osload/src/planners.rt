@@ -1,0 +1,48 @@
+//! The loop over a list of which a part of the plan is made.
+
+ghost use Rattle.std.specs.Prelude.{◌≡◌, Bool, map};
+ghost use Rattle.std.specs.List.{list_all};
+ghost use Rattle.osvalidate.specs.Verdict.{Judges, each};
+ghost use Rattle.osvalidate.specs.declared.verdicts.Verdict.{Verdict as Right};
+
+use osbase::List;
+use osplan::ConfFault;
+use osvalidate::{Judged, Verdict};
+use std::alloc::Global;
+
+/// Makes a part of the plan of its text, and says what is right of the text.
+pub trait Planner<'e, T, U> {
+    /// The part of the plan.
+    ghost made: { Self → T → U };
+
+    /// What is right of the text.
+    ghost right: { Self → T → Right };
+
+    /// Whether its scripts have no more operations than they may have.
+    ghost is_short: { Self → T → Bool };
+
+    /// The part of the plan, and what is right of its text. `Limit` where a script has too many operations.
+    fn plan(&self, alloc: Global, text: &'e T) -> Result<Judged<U>, ConfFault>
+        ensures { Judges result (is_short self.now text.now) (made self.now text.now) (right self.now text.now) };
+}
+
+/// The part of the plan of each text of a list, and what is right of them all.
+pub fn plan_each<'e, T, U: Drop, P: Planner<'e, T, U>>(
+    alloc: Global,
+    planner: &P,
+    texts: &'e [T],
+) -> Result<Judged<List<U>>, ConfFault>
+    ensures { Judges result (list_all (P.is_short planner.now) texts.now) (map (P.made planner.now) texts.now) (each (P.right planner.now) texts.now) }
+{
+    let mut plans = List::new(alloc);
+    let mut verdict = Verdict::all_right();
+    for text in texts {
+        let judged = planner.plan(alloc, text)?;
+        plans.push(judged.value)?;
+        verdict = verdict.and(judged.verdict);
+    }
+    Ok(Judged {
+        value: plans,
+        verdict,
+    })
+}

@@ -1,0 +1,115 @@
+-- Which configurations a text can represent, beside its limits: names in form and all different, none of a mode reserved, scripts whose
+-- arguments are of their kinds, whose masks have events and that stay within themselves, those of ISRs without resources, and actions
+-- likewise. [own]
+-- Each is a test, so that a literal configuration passes it by computation.
+use Rattle.std.specs.Prelude.{ℕ, ◌&&◌, ◌||◌, nat_le, Bool, true, not, List, [], ◌∷◌, ◌++◌, length, codes}
+use Rattle.std.specs.List.{list_all, list_any, flat_map}
+use Rattle.std.specs.Option.{option_map_or}
+use Rattle.std.specs.Str.{bytes_eq}
+use Rattle.osbase.specs.declared.objects.ObjectKind.{ObjectKind}
+use Rattle.osbase.specs.declared.messages.RemoteCall.{RemoteCall}
+use Rattle.osbase.specs.Names.{is_name}
+use Rattle.oscript.specs.declared.Op.{Op}
+use Rattle.oscript.specs.Calls.{op_of_call}
+use Rattle.oscript.specs.Frames.{position_of}
+use Rattle.oscript.specs.Rows.{has_masks, is_in_form, uses_resource}
+use Rattle.osplan.specs.declared.plans.Alarm.{Alarm}
+use Rattle.osplan.specs.declared.plans.Plan.{Plan}
+use Rattle.osplan.specs.declared.plans.Core.{Core}
+use Rattle.osplan.specs.declared.plans.Counter.{Counter}
+use Rattle.osplan.specs.declared.plans.Isr.{Isr}
+use Rattle.osplan.specs.declared.plans.Resource.{Resource}
+use Rattle.osplan.specs.declared.plans.Spinlock.{Spinlock}
+use Rattle.osplan.specs.declared.plans.Table.{Table}
+use Rattle.osplan.specs.declared.plans.Task.{Task}
+use Rattle.osplan.specs.declared.plans.TheConstants.{COMMON, KINDS}
+use Rattle.osplan.specs.Objects.{common_names, names_in, table_actions}
+
+-- The word for the mode of a core that goes with any. [AUTOSAR SWS OS 4.x, DONOTCARE]
+abbrev pub dont_care : List ℕ
+dont_care = codes "DONOTCARE"
+
+-- No mode has this name: it is the word for any mode, or a log has it in a mode's place. [own]
+abbrev pub is_reserved : List ℕ → Bool
+is_reserved name = bytes_eq name dont_care || bytes_eq name (codes "conflict") || bytes_eq name (codes "none")
+
+-- A mode has a name in form that is not reserved.
+abbrev pub is_mode_representable : List ℕ → Bool
+is_mode_representable name = is_name name && not (is_reserved name)
+
+-- A spinlock has a name in form.
+abbrev pub is_spinlock_representable : Spinlock → Bool
+is_spinlock_representable spinlock = is_name spinlock.name
+
+-- No name of the list is one of those after it.
+abbrev pub are_distinct : List (List ℕ) → Bool
+are_distinct [] = true
+are_distinct (name ∷ names) = not (list_any (λ later. bytes_eq later name) names) && are_distinct names
+
+-- The names of a core's objects, kind by kind.
+abbrev pub object_names : Core → List (List ℕ)
+object_names core = flat_map (λ (kind : ObjectKind). names_in kind core) KINDS
+
+-- The names of the objects that all cores have in common, kind by kind.
+abbrev pub all_common_names : Plan → List (List ℕ)
+all_common_names plan = flat_map (λ (kind : ObjectKind). common_names kind plan) COMMON
+
+-- Every name that a configuration declares: those, and those of its objects core by core.
+abbrev pub declared_names : Plan → List (List ℕ)
+declared_names plan = all_common_names plan ++ flat_map object_names plan.cores
+
+-- In a script of so many operations, the operation jumps to one of them or past the last, if it jumps.
+abbrev pub goes_within : ℕ → Op → Bool
+goes_within count op = option_map_or (λ (n : ℕ). nat_le n count) (position_of op) true
+
+abbrev pub is_jumping_within : List Op → Bool
+is_jumping_within script = list_all (goes_within (length script)) script
+
+-- A script's operations have arguments of their kinds and masks with events, and jump within the script.
+abbrev pub is_script_representable : List Op → Bool
+is_script_representable script = list_all is_in_form script && list_all has_masks script && is_jumping_within script
+
+-- The operation that a script has for an action has arguments of its kinds and a mask with an event. [own]
+abbrev pub is_action_representable : RemoteCall → Bool
+is_action_representable action = is_in_form (op_of_call action) && has_masks (op_of_call action)
+
+-- A task has a name in form, and such a script.
+abbrev pub is_task_representable : Task → Bool
+is_task_representable task = is_name task.name && is_script_representable task.script
+
+-- No operation of the script takes or gives back a resource.
+abbrev pub is_free_of_resources : List Op → Bool
+is_free_of_resources script = not (list_any uses_resource script)
+
+-- An ISR has a name in form, and such a script that has to do with no resource. [own]
+abbrev pub is_isr_representable : Isr → Bool
+is_isr_representable isr = is_name isr.name && is_script_representable isr.script && is_free_of_resources isr.script
+
+-- A resource has a name in form.
+abbrev pub is_resource_representable : Resource → Bool
+is_resource_representable resource = is_name resource.name
+
+-- A counter has a name in form.
+abbrev pub is_counter_representable : Counter → Bool
+is_counter_representable counter = is_name counter.name
+
+-- An alarm has a name in form, and such an action.
+abbrev pub is_alarm_representable : Alarm → Bool
+is_alarm_representable alarm = is_name alarm.name && is_action_representable alarm.action
+
+-- A table has a name in form, and such actions.
+abbrev pub is_table_representable : Table → Bool
+is_table_representable table = is_name table.name && list_all is_action_representable (table_actions table)
+
+-- So it is with all objects of a core.
+abbrev pub is_core_representable : Core → Bool
+is_core_representable core =
+    list_all is_task_representable core.tasks && list_all is_isr_representable core.isrs
+    && list_all is_resource_representable core.resources && list_all is_counter_representable core.counters
+    && list_all is_alarm_representable core.alarms && list_all is_table_representable core.tables
+
+-- The whole configuration can be said by a text; the names that it declares are different.
+abbrev pub is_representable : Plan → Bool
+is_representable plan =
+    list_all is_mode_representable plan.modes && list_all is_spinlock_representable plan.spinlocks && list_all is_core_representable plan.cores
+    && are_distinct (declared_names plan)

@@ -1,6 +1,0 @@
-use Rattle.std.proofs.Common.{◌∙◌}
-use Rattle.osread.proofs.Contents.{any_texts}
-use Rattle.osread.proofs.members.is_one_of.Goals as goal
-
-pub returns : goal.returns
-returns c = c.contains.ensures.value ∙ any_texts c.args.key.now c.args.names.now

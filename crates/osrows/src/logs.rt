@@ -1,9 +1,0 @@
-//! Logs: the items of a core's log.
-
-ghost use Rattle.osrows.specs.Border.{activation};
-ghost use Rattle.osrows.specs.Logs.{SaysItems, activation_log};
-
-/// One activation across the border: the log of the core that asks for it says the items that the core takes.
-pub fn activation_log_says_its_items()
-    ensures { SaysItems activation 0 activation_log }
-{}

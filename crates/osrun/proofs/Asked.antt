@@ -1,0 +1,49 @@
+-- What a core's turn asks is its own.
+use Rattle.std.proofs.Common.{◌≡◌, Bool, true, false, cond, Option, Some, None, refl, sym, ◌∙◌}
+use Rattle.std.proofs.lemmas.Bool.{false≢true}
+use Rattle.osbase.specs.declared.items.Stimulus.{Stimulus}
+use Rattle.osbase.specs.declared.turns.Choice.{Choice}
+use Rattle.osbase.specs.Phases.{is_going}
+use Rattle.osplan.specs.View.{View, is_configured}
+use Rattle.osstate.specs.State.{KernelState}
+use Rattle.osadmit.specs.Admission.{has_asked_halt}
+use Rattle.oskernel.specs.declared.wants.Want.{Want}
+use Rattle.oskernel.specs.declared.wants.Watch.{Watch}
+use Rattle.oskernel.specs.Wants.{want_in, watch_in}
+use Rattle.osboard.specs.declared.calls.BoardCall.TheVariants.{AskHalt, Drain, Enter, Start}
+use Rattle.osrun.specs.declared.requests.Request.{Request}
+use Rattle.osrun.specs.declared.requests.Request.TheVariants.{OfBoard, StartUnknown, TakeStimulus}
+use Rattle.osrun.specs.Requests.{request_by, look_request}
+use Rattle.osrun.proofs.Going.{WantsOwn, wants-own}
+
+-- What a core's turn requests is its own: it starts a configured core, names its own mode, takes its next stimulus, and drains where
+-- none is left or it is down or halted; for a shutdown of all cores it asks where that call is open.
+abbrev pub IsOwnRequest : View → KernelState → Option Stimulus → Option Request → Type 0
+IsOwnRequest v s next (Some (OfBoard (Start k))) = is_configured v k ≡ true
+IsOwnRequest v s next (Some (OfBoard (Enter mode))) = mode ≡ v.own.mode
+IsOwnRequest v s next (Some (OfBoard Drain)) = is_going s.progress.course ≡ true → next ≡ None
+IsOwnRequest v s next (Some (OfBoard (AskHalt status))) = has_asked_halt s ≡ true
+IsOwnRequest v s next (Some (TakeStimulus stimulus)) = next ≡ Some stimulus
+IsOwnRequest v s next o = Unit {0}
+
+pub asks-own : (v : View) (s : KernelState) (next : Option Stimulus) (choice : Choice) → IsOwnRequest v s next (request_by v (want_in s) (watch_in s) next choice)
+asks-own v s next choice = by (want_in s) (watch_in s) next choice (wants-own s)
+  where
+    by : (want : Want) (watch : Watch) (next : Option Stimulus) (choice : Choice) → WantsOwn s want → IsOwnRequest v s next (request_by v want watch next choice)
+    by (Want.Start k) watch next Choice.Own own = start (is_configured v k) refl
+      where
+        start : (b : Bool) → is_configured v k ≡ b → IsOwnRequest v s next (Some (cond b (OfBoard (Start k)) (StartUnknown k)))
+        start true e = e
+        start false e = tt
+    by Want.Enter watch next Choice.Own own = refl
+    by (Want.AskHalt status) watch next Choice.Own own = own
+    by Want.GoOn watch (Some stimulus) Choice.Own own = refl
+    by Want.GoOn watch None Choice.Own own = λ going. refl
+    by Want.Drain watch next Choice.Own own = λ going. absurd (false≢true (sym own ∙ going))
+    by want watch next Choice.Look own = looks watch
+      where
+        looks : (watch : Watch) → IsOwnRequest v s next (Some (look_request watch))
+        looks Watch.Halt = tt
+        looks Watch.Last = tt
+        looks watch = tt
+    by want watch next choice own = tt

@@ -1,0 +1,77 @@
+-- A core of a run by the items that it took.
+use Rattle.std.proofs.Common.{◌≡◌, ℕ, ◌+◌, Bool, true, Some, List, [], ◌∷◌, ◌++◌, drop, sym, ap, subst, ◌∙◌, arith, refl, Bor}
+use Rattle.std.proofs.lemmas.List.{drop-drop}
+use Rattle.osbase.specs.declared.references.CoreId.{CoreId}
+use Rattle.osbase.specs.declared.items.Item.{Item}
+use Rattle.osbase.specs.declared.items.Stimulus.{Stimulus}
+use Rattle.osbase.specs.declared.turns.CoreStimuli.{CoreStimuli}
+use Rattle.osbase.specs.History.{History}
+use Rattle.osbase.specs.Runs.{stimuli_of}
+use Rattle.osplan.specs.declared.plans.Plan.{Plan}
+use Rattle.osplan.specs.View.{View, view_of}
+use Rattle.osstate.specs.State.{KernelState, state_of}
+use Rattle.osstate.specs.Does.{Does, Tracks}
+use Rattle.oskernel.specs.Step.{after, solo, takes, outbox_size}
+use Rattle.osrun.specs.declared.core_runs.CoreRun.{CoreRun}
+use Rattle.osrun.specs.Fits.{history_by}
+use Rattle.osrun.specs.CoreRuns.{Keeps, Took, stimulus_count, left_after, IsCoreRun, is_ended_phase, report_of}
+use Rattle.osrun.proofs.Longer.{history_from-push, solo-push, stimulus_count-push}
+use Rattle.osbase.specs.declared.marks.Mark.{Mark}
+use Rattle.osbase.specs.declared.turns.Report.{Report}
+use Rattle.osrun.specs.Sound.{IsOwn, report_by}
+use Rattle.osrun.proofs.Ending.{ended-by}
+
+-- A core that took nothing.
+pub seated-first : (plan : Plan) (stimuli : List CoreStimuli) (core_run : CoreRun) (id : CoreId) → core_run.id ≡ id → core_run.kernel ≡ state_of (view_of plan id) [] → core_run.stimuli.now ≡ stimuli_of stimuli id → core_run.items.items ≡ [] → core_run.marks.items ≡ [] → IsCoreRun plan stimuli core_run
+seated-first plan stimuli core_run id is_id is_kernel is_left no_items no_marks = record {
+  tracks = rw (is_id, no_items, no_marks) (record { stands = record { is = is_kernel; granted = refl }; added = []; behind = refl; shows = refl });
+  alone = rw (is_id, no_items) refl;
+  left = rw (is_id, no_items) is_left;
+}
+
+pub seated-kept : (plan : Plan) (stimuli : List CoreStimuli) (old new : CoreRun) → Keeps old new → IsCoreRun plan stimuli old → IsCoreRun plan stimuli new
+seated-kept plan stimuli old new keeps seated = record {
+  tracks = rw (keeps.id, keeps.items, keeps.marks, keeps.kernel) seated.tracks;
+  alone = rw (keeps.id, keeps.items) seated.alone;
+  left = rw (keeps.id, keeps.items, keeps.left) seated.left;
+}
+
+-- The stimuli that are left after one more item.
+left-on : (item : Item) (n : ℕ) (xs : List Stimulus) → left_after item (drop n xs) ≡ drop (n + stimulus_count (item ∷ [])) xs
+left-on (Item.Stim s) n xs = drop-drop 1 n xs
+left-on i n xs = ap (λ (k : ℕ). drop k xs) (omega arith)
+
+pub seated-on : (plan : Plan) (stimuli : List CoreStimuli) (old new : CoreRun) (item : Item) → IsCoreRun plan stimuli old → takes outbox_size (view_of plan old.id) (history_by plan old.id old.items.items) item ≡ true → Took old new item → IsCoreRun plan stimuli new
+seated-on plan stimuli old new item seated taken took =
+    record {
+      tracks = subst (λ (i : CoreId). Tracks (view_of plan i) (history_by plan i new.items.items) [] [] new.kernel new.marks.items) (sym took.id)
+          (subst (λ (items : List Item). Tracks v (history_by plan old.id items) [] [] new.kernel new.marks.items) (sym took.items)
+          (subst (λ (h : History). Tracks v h [] [] new.kernel new.marks.items) (sym (history_from-push v [] old.items.items item))
+          (took.does v (history_by plan old.id old.items.items) [] [] seated.tracks)));
+      alone = subst (λ (i : CoreId). solo (view_of plan i) new.items.items ≡ Some (history_by plan i new.items.items)) (sym took.id)
+          (subst (λ (items : List Item). solo v items ≡ Some (history_by plan old.id items)) (sym took.items)
+          (solo-push v [] old.items.items item seated.alone taken ∙ ap Some (sym (history_from-push v [] old.items.items item))));
+      left = took.left ∙ ap (left_after item) seated.left ∙ left-on item (stimulus_count old.items.items) (stimuli_of stimuli old.id)
+          ∙ ap (λ (n : ℕ). drop n (stimuli_of stimuli old.id)) (sym (stimulus_count-push old.items.items item))
+          ∙ ap (λ (items : List Item). drop (stimulus_count items) (stimuli_of stimuli old.id)) (sym took.items)
+          ∙ ap (λ (i : CoreId). drop (stimulus_count new.items.items) (stimuli_of stimuli i)) (sym took.id);
+    }
+  where
+    v : View
+    v = view_of plan old.id
+
+-- It makes room, and then takes an item.
+pub took-kept : (old roomy new : CoreRun) (item : Item) → Keeps old roomy → Took roomy new item → Took old new item
+took-kept old roomy new item keeps took = record {
+  id = took.id ∙ keeps.id;
+  left = took.left ∙ ap (λ (xs : Bor (List Stimulus)). left_after item xs.now) keeps.left;
+  items = took.items ∙ ap (λ (xs : List Item). xs ++ item ∷ []) keeps.items;
+  does = rw (← keeps.kernel, ← keeps.marks) took.does;
+}
+
+-- Its report says what its items say.
+pub seated-own : (plan : Plan) (stimuli : List CoreStimuli) (s : CoreRun) → IsCoreRun plan stimuli s → IsOwn plan (report_of s)
+seated-own plan stimuli s here =
+    ap (λ (marks : List Mark). let r : Report = record (report_of s) { marks = marks } in r) (here.tracks.behind ∙ here.tracks.shows)
+    ∙ ap (λ (ended : Bool). let r : Report = record (report_by plan s.id s.items.items) { ended = ended } in r)
+    (ap (λ (k : KernelState). is_ended_phase k.progress.phase) here.tracks.stands.is ∙ ended-by (view_of plan s.id) s.items.items here.alone)

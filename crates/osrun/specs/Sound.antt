@@ -1,0 +1,89 @@
+-- The promise about a run, said of what was given (configuration and listed stimuli) and of the reports, and of nothing
+-- else: whoever runs the cores, in turns or otherwise, can promise it.
+use mathlib.Core.List.{IsPrefix}
+use Rattle.std.specs.Prelude.{◌≡◌, ℕ, true, if◌then◌else◌, IsTrue, Some, List, ◌∷◌, [], ◌++◌, map}
+use Rattle.std.specs.List.{AllByRecursion}
+use Rattle.osbase.specs.declared.references.CoreId.{CoreId}
+use Rattle.osbase.specs.declared.items.Agreement.{Agreement}
+use Rattle.osbase.specs.declared.items.Item.{Item}
+use Rattle.osbase.specs.declared.items.Stimulus.{Stimulus}
+use Rattle.osbase.specs.declared.turns.CoreStimuli.{CoreStimuli}
+use Rattle.osbase.specs.declared.turns.Report.{Report}
+use Rattle.osbase.specs.History.{History, course_of, no_cores}
+use Rattle.osbase.specs.Phases.{is_going}
+use Rattle.osbase.specs.Runs.{stimuli_of}
+use Rattle.osplan.specs.declared.plans.Plan.{Plan}
+use Rattle.osbase.specs.declared.items.CoreMode.{CoreMode}
+use Rattle.osbase.specs.declared.items.CoreMode.TheVariants.{Named, DontCare}
+use Rattle.osseparate.specs.Separate.{cut_of, is_separate}
+use Rattle.osplan.specs.View.{View, view_of}
+use Rattle.oskernel.specs.Step.{after, solo}
+use Rattle.ostrace_text.specs.Trace.{block_of}
+use Rattle.osboard.specs.Boards.{with_core}
+use Rattle.osrun.specs.Fits.{Fits, has_drained, history_by, ids_of, items_of}
+use Rattle.osrun.specs.Groups.{AreApart}
+pub use Rattle.osrun.specs.Reports.{IsOwn, end_by, is_end, report_by, unclocked}
+
+-- ---- a separate core
+
+-- The result of the first gate for one core alone: the mode that it names.
+abbrev pub own_agreement : CoreMode → Agreement
+own_agreement (Named m) = Agreement.Mode m
+own_agreement DontCare = Agreement.NoMode
+
+-- Each gate, with its result for this core alone.
+abbrev pub gate_items : Plan → CoreId → List Item
+gate_items plan id = Item.Entered ∷ Item.Pass1 (own_agreement (view_of plan id).own.mode) ∷ Item.Readied ∷ Item.Pass2 (with_core id no_cores) ∷ []
+
+-- The stimuli that a core alone takes from here on, one after the other: all of these, or those up to the first by which it goes
+-- down.
+abbrev pub until_down : View → History → List Stimulus → List Stimulus
+until_down v h [] = []
+until_down v h (s ∷ stimuli) = if is_going (course_of h) then s ∷ until_down v (after v h (Item.Stim s)) stimuli else []
+
+-- What a core alone takes: each gate, its stimuli in order up to the first by which it goes down, and that it has drained.
+-- [own]
+abbrev pub alone_items : Plan → List CoreStimuli → CoreId → List Item
+alone_items plan stimuli id =
+    gate_items plan id
+    ++ map Item.Stim (until_down (view_of (cut_of plan id) id) (history_by (cut_of plan id) id (gate_items plan id)) (stimuli_of stimuli id)) ++ Item.Drained ∷ []
+
+-- The report of these items by the core's own configuration, and its text, with the names of that configuration. [own]
+abbrev pub alone_report : Plan → List CoreStimuli → CoreId → Report
+alone_report plan stimuli id = report_by (cut_of plan id) id (alone_items plan stimuli id)
+
+abbrev pub alone_block : Plan → List CoreStimuli → CoreId → List ℕ
+alone_block plan stimuli id = block_of (cut_of plan id) (alone_report plan stimuli id)
+
+-- A separate core that took these items prints a prefix of what its configuration alone prints, and all of it once it has
+-- drained. This holds of the marks, and of their text, the block. If it has ended, it has drained. Alone it may take each of
+-- those items in turn. [own]
+pub record IsAlone (plan : Plan) (stimuli : List CoreStimuli) (id : CoreId) (items : List Item) : Type 0 where
+  pub begins : IsPrefix (report_by plan id items).marks (alone_report plan stimuli id).marks
+  pub whole : has_drained items ≡ true → (report_by plan id items).marks ≡ (alone_report plan stimuli id).marks
+  pub block_begins : IsPrefix (block_of plan (report_by plan id items)) (alone_block plan stimuli id)
+  pub block_whole : has_drained items ≡ true → block_of plan (report_by plan id items) ≡ alone_block plan stimuli id
+  pub ends : end_by items ≡ true → has_drained items ≡ true
+  pub alone : solo (view_of (cut_of plan id) id) (alone_items plan stimuli id) ≡ Some (history_by (cut_of plan id) id (alone_items plan stimuli id))
+
+-- Each separate core of these lists is.
+abbrev pub ArePrintedAlone : Plan → List CoreStimuli → List (CoreId × List Item) → Type 0
+ArePrintedAlone plan stimuli lists = (id : CoreId) → IsTrue (is_separate plan id) → IsAlone plan stimuli id (items_of lists id)
+
+-- ---- all reports
+
+-- The cores' item lists.
+abbrev pub lists_in : List Report → List (CoreId × List Item)
+lists_in reports = map (λ (r : Report). (r.core, r.items)) reports
+
+-- The promise. The reports are those of the configured cores, ascending, one each; each says what its own items say; the
+-- items fit one another, the listed stimuli and what the cores share: stimuli, mailboxes, the spinlocks and the shared board
+-- each have one order that all cores' items agree with; each separate core, one that names no other core's object and no
+-- spinlock and that no other core names, prints what its configuration alone prints; and what a group of cores did, in what no core
+-- outside has a say, it could do by its own configuration. [own]
+pub record AreSound (plan : Plan) (stimuli : List CoreStimuli) (reports : List Report) : Type 0 where
+  pub cores : map (λ (r : Report). r.core) reports ≡ ids_of plan
+  pub own : AllByRecursion (IsOwn plan) reports
+  pub fit : Fits plan stimuli (lists_in reports)
+  pub separate : ArePrintedAlone plan stimuli (lists_in reports)
+  pub groups : AreApart plan stimuli (lists_in reports)

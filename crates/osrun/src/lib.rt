@@ -1,0 +1,14 @@
+//! What a turn of a core asks, and a core of a run by itself, whoever gives it its turns.
+#![tactic(auto)]
+
+pub mod core_runs;
+pub mod cores;
+pub mod ends;
+pub mod laws;
+pub mod requests;
+
+pub use core_runs::{CoreKernel, CoreRun, roomy};
+pub use cores::ids_of;
+pub use ends::have_all_ended;
+pub use oskernel::SpinWish;
+pub use requests::{Reply, Request, item_for_reply, look_request, own_request, spin_call_of};

@@ -1,0 +1,19 @@
+-- What an index over a list of objects has to give. [own]
+use Rattle.std.specs.Prelude.{◌≡◌, ℕ, Bool, Option, option_and_then, is_some, List, map, find, slice_get}
+use Rattle.std.specs.Borrow.{Bor}
+use Rattle.std.specs.HashMap.{HashMap, get_by}
+use Rattle.std.specs.Str.{bytes_eq}
+use Rattle.osplan.specs.Representable.{are_distinct}
+use Rattle.osschema.specs.declared.declarations.Declaration.{Declaration}
+use Rattle.osschema.specs.Declarations.{has_name}
+
+-- Where the index says that the object of a name stands.
+abbrev pub index_in : {S : Type 0} → HashMap (Bor (List ℕ)) ℕ S → List ℕ → Option ℕ
+index_in first name = get_by (λ k. bytes_eq name k.now) first
+
+-- Where the index of a whole list says that it stands, there stands the first of these objects that has the name; and it knows
+-- whether their names are different.
+pub record Indexes {S : Type 0} (whole : List Declaration) (first : HashMap (Bor (List ℕ)) ℕ S) (are_apart : Bool) (objects : List Declaration) : Type 0 where
+  pub found : (name : List ℕ) → option_and_then (slice_get whole) (index_in first name) ≡ find (has_name name) objects
+  pub known : (name : List ℕ) → is_some (index_in first name) ≡ is_some (find (has_name name) objects)
+  pub apart : are_apart ≡ are_distinct (map (λ (d : Declaration). d.name) objects)

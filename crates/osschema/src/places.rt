@@ -1,0 +1,176 @@
+//! Where the objects of a configuration's text stand, by their names.
+
+ghost use Rattle.std.specs.Prelude.{◌≡◌, IfOk, IfSome, IsTrue, count_by, find, is_some, option_copied, true};
+ghost use Rattle.std.specs.List.{list_all};
+ghost use Rattle.osbase.specs.Names.{is_name};
+ghost use Rattle.osplan.specs.Representable.{are_distinct};
+ghost use Rattle.osschema.specs.declared.declarations.Declaration.{Declaration as Declared};
+ghost use Rattle.osschema.specs.Shape.{is_named};
+ghost use Rattle.osschema.specs.Declarations.{counter_declared, declarations, has_name, is_alone, mode_ref, place_alone, place_in, names_of, spinlock_ref};
+ghost use Rattle.osschema.specs.Index.{Indexes};
+
+use crate::declarations::{Declaration, byte_of, declarations_of};
+use crate::shapes::ConfigText;
+use osbase::{List, ModeId, ObjectKind, Place, Reference, SpinlockId};
+use ossyntax::Places;
+use std::alloc::{AllocError, Global};
+use std::collections::HashMap;
+
+fn place_in(kind: ObjectKind, declaration: &Declaration) -> Option<Place>
+    ensures { result ≡ place_in kind declaration.now }
+{
+    if declaration.kind.is(kind) {
+        Some(Place {
+            core: declaration.core,
+            index: byte_of(Some(declaration.index as u64)),
+        })
+    } else {
+        None
+    }
+}
+
+/// Which object of a list has a name, and whether no two have one.
+#[derive(Drop)]
+struct Index<'t> {
+    // Of each name where its first object stands in the list.
+    first: HashMap<&'t str, usize>,
+    are_apart: bool,
+}
+
+fn index_of<'t>(alloc: Global, declared: &[Declaration<'t>]) -> Result<Index<'t>, AllocError>
+    ensures { IfOk result (λ index. Indexes declared.now index.first index.are_apart declared.now) }
+{
+    let mut first = HashMap::new(alloc);
+    let mut are_apart = true;
+    let mut place = declared.len();
+    // From the last one on, so that of one name the first one stays.
+    while place > 0 {
+        place -= 1;
+        let later = first.insert(declared[place].name.as_str(), place)?;
+        are_apart &= later.is_none();
+    }
+    Ok(Index { first, are_apart })
+}
+
+/// The objects that a text declares.
+#[derive(Drop)]
+pub struct Objects<'t> {
+    declared: List<Declaration<'t>>,
+    index: Index<'t>,
+    ghost named: { IsTrue (list_all (λ (d : Declared). is_name d.name) declared) },
+    ghost indexed: { Indexes declared index.first index.are_apart declared },
+}
+
+impl<'t> Objects<'t> {
+    /// The objects of this text, whose names are in form, as in every shape.
+    pub fn of(alloc: Global, text: &'t ConfigText<'t>) -> Result<Self, AllocError>
+        requires named { IsTrue (is_named text.now) }
+        ensures { IfOk result (λ objects. objects.declared ≡ declarations text.now) }
+    {
+        let declared = declarations_of(alloc, text)?;
+        let index = index_of(alloc, declared.as_slice())?;
+        Ok(Objects { declared, index })
+    }
+
+    /// Whether the names of all objects are different.
+    pub fn are_named_apart(&self) -> bool
+        ensures { result ≡ are_distinct (names_of self.now.declared) }
+    {
+        self.index.are_apart
+    }
+
+    /// The mode of this name; the first where there is none.
+    pub fn mode(&self, name: &str) -> ModeId
+        ensures { result ≡ mode_ref self.now.declared name.now }
+    {
+        match self.place(ObjectKind::Mode, name) {
+            Some(place) => ModeId::at(place),
+            None => ModeId { index: 0 },
+        }
+    }
+
+    /// The spinlock of this name, if there is one.
+    pub fn spinlock(&self, name: &str) -> Option<SpinlockId>
+        ensures { result ≡ spinlock_ref self.now.declared name.now }
+    {
+        match self.place(ObjectKind::Spinlock, name) {
+            Some(place) => Some(SpinlockId::at(place)),
+            None => None,
+        }
+    }
+
+    /// The counter of this name, if that is the name of no other object.
+    pub fn counter(&self, name: &str) -> Option<&Declaration<'t>>
+        ensures { option_copied result ≡ counter_declared self.now.declared name.now }
+    {
+        match self.find(name) {
+            Some(declaration) => {
+                if declaration.kind.is(ObjectKind::Counter) && self.is_alone(name) {
+                    Some(declaration)
+                } else {
+                    None
+                }
+            }
+            None => None,
+        }
+    }
+
+    /// Where the object of this kind and name stands, if that is the name of no other object.
+    pub fn place_alone(&self, kind: ObjectKind, name: &str) -> Option<Place>
+        ensures value { result ≡ place_alone self.now.declared kind name.now }
+        ensures in_form { IfSome result (λ _. is_name name.now ≡ true) }
+    {
+        match self.find(name) {
+            Some(declaration) => {
+                if self.is_alone(name) {
+                    place_in(kind, declaration)
+                } else {
+                    None
+                }
+            }
+            None => None,
+        }
+    }
+
+    // Whether no other object has the name of this one. Where no name stands twice, none is counted.
+    fn is_alone(&self, name: &str) -> bool
+        requires declared { is_some (find (has_name name.now) self.now.declared) ≡ true }
+        ensures { result ≡ is_alone self.now.declared name.now }
+    {
+        self.are_named_apart() || self.count(name) == 1
+    }
+
+    // How many objects have the name.
+    fn count(&self, name: &str) -> usize
+        ensures { result ≡ count_by (has_name name.now) self.now.declared }
+    {
+        self.declared
+            .as_slice()
+            .iter()
+            .filter(|declaration| declaration.name.as_str() == name)
+            .count()
+    }
+
+    // The first object that has the name.
+    fn find(&self, name: &str) -> Option<&Declaration<'t>>
+        ensures { option_copied result ≡ find (has_name name.now) self.now.declared }
+    {
+        match self.index.first.get(name) {
+            Some(place) => self.declared.as_slice().get(*place),
+            None => None,
+        }
+    }
+}
+
+impl Places for Objects<'_> {
+    ghost use Rattle.osschema.specs.Declarations.{place_of};
+
+    ghost place = { λ objects. place_of objects.declared };
+
+    fn place(&self, kind: ObjectKind, name: &str) -> Option<Place> {
+        match self.find(name) {
+            Some(declaration) => place_in(kind, declaration),
+            None => None,
+        }
+    }
+}

@@ -1,0 +1,210 @@
+-- Once for all acts: what they do to one history they do to every history that reads the same.
+use Rattle.std.proofs.Common.{◌≡◌, ◌&&◌, ◌||◌, ℤ, Bool, true, false, cond, Option, Some, None, IfSome, option_map, unwrap_or, List, [], ◌∷◌, refl, subst}
+use Rattle.std.specs.List.{list_all}
+use Rattle.std.specs.Option.{option_map_or}
+use Rattle.std.proofs.lemmas.Bool.{and_from, and_parts}
+use Rattle.osbase.specs.declared.statuses.Status.{Status}
+use Rattle.osbase.specs.declared.statuses.ServiceId.{ServiceId}
+use Rattle.osbase.specs.declared.references.CoreId.{CoreId}
+use Rattle.osbase.specs.declared.references.CounterRef.{CounterRef}
+use Rattle.osbase.specs.declared.references.Runner.{Runner}
+use Rattle.osbase.specs.declared.messages.RemoteCall.{RemoteCall}
+use Rattle.osbase.specs.declared.messages.Message.{Message}
+use Rattle.osbase.specs.declared.marks.Mark.{Mark}
+use Rattle.osbase.specs.declared.histories.OpenCall.{OpenCall}
+use Rattle.osbase.specs.Answers.{reply}
+use Rattle.osbase.specs.History.{Entry, History, Took, Printed, Noted, Opened, Queued, same_core}
+use Rattle.osbase.specs.Marks.{core_of_runner, names_only}
+use Rattle.osplan.specs.declared.plans.Core.{Core}
+use Rattle.osplan.specs.View.{Around, View}
+use Rattle.ostable.specs.Waiting.{are_own}
+use Rattle.osstate.specs.Readings.{knows_started}
+use Rattle.osservice.specs.Acts.{Act, Acts, Prints, Notes, Sends, nothing, one_then, both, when, if_started, look, look_around, act, does, for_each}
+use Rattle.osservice.specs.Checks.{Check, first_failing, is_ok_status}
+use Rattle.osservice.specs.Returning.{answers, asks, reports, reports_of, returns}
+use Rattle.osservice.specs.Seen.{AllCores, Seen, all_cores, is_this_core, seen_of}
+use Rattle.osservice.specs.Service.{Service, answer_of, effect_of, serves, serves_if, serves_own}
+use Rattle.osservice.proofs.Partners.{Partner, partner_of}
+
+-- Whom one asks, or answers: everybody, and nobody.
+abbrev pub anybody : {A : Type 0} → A → Bool
+anybody x = true
+
+abbrev pub nobody : {A : Type 0} → A → Bool
+nobody x = false
+
+-- What a core sees that differs only in what is around it.
+abbrev pub seen_as : View → Around → View
+seen_as v around = record v { around = around }
+
+-- The core is the own one, or one that may be asked.
+abbrev pub is_within : View → (Partner → Bool) → CoreId → Bool
+is_within v may core = same_core core v.core || may (Partner.Core core)
+
+-- A call awaits only the answer of one that may be asked.
+abbrev pub may_open : (Partner → Bool) → OpenCall → Bool
+may_open may call = may (partner_of call.awaits)
+
+-- What a core may do: whom it may ask and which cores it answers, and the cores of whose objects its marks are; among these are its own
+-- and those that it may ask.
+pub record Leave : Type 0 where
+  pub view : View
+  pub may : Partner → Bool
+  pub answered : CoreId → Bool
+  pub names : CoreId → Bool
+  pub named : (core : CoreId) → is_within view may core ≡ true → names core ≡ true
+  pub own_named : names view.own.id ≡ true
+
+-- An act names only objects of such cores, the runner of a call too, asks only those that may be asked, and answers only those that may
+-- be answered.
+abbrev pub is_allowed : Leave → Act → Bool
+is_allowed l (Prints m) = names_only l.names m
+is_allowed l (Notes (Opened call)) = may_open l.may call && l.names (core_of_runner call.runner)
+is_allowed l (Notes (Queued core letter)) = false
+is_allowed l (Notes n) = true
+is_allowed l (Sends core (Message.Reply status)) = l.answered core
+is_allowed l (Sends core (Message.Value status n)) = l.answered core
+is_allowed l (Sends core message) = l.may (Partner.Core core)
+
+-- A note of the core itself, or a mark that names only objects of cores that pass: neither an item nor what goes to
+-- another core.
+abbrev pub is_local : (CoreId → Bool) → Entry → Bool
+is_local names (Took item) = false
+is_local names (Printed m) = names_only names m
+is_local names (Noted (Opened call)) = false
+is_local names (Noted (Queued core letter)) = false
+is_local names entry = true
+
+-- What the core reads is its own, and marks may name the runner that it goes on with and the one whose call is open.
+pub record IsSeen (l : Leave) (s : Seen) : Type 0 where
+  pub id : s.id ≡ l.view.core
+  pub core : s.core ≡ l.view.own
+  pub due_tables : (c : CounterRef) → list_all (are_own l.view.own) (s.due_tables c) ≡ true
+  pub running : option_map_or (λ (r : Runner). l.names (core_of_runner r)) s.running true ≡ true
+  pub awaits : option_map_or (λ (call : OpenCall). l.names (core_of_runner call.runner)) s.awaits true ≡ true
+
+-- Each kind of entry that acts may add keeps it: one of the core itself, a letter to a core that may be asked, a reply to
+-- one that may be answered, and a call whose answer may be asked for, of a runner that marks may name.
+pub record KeepsEntries (l : Leave) (R : History → History → Type 0) : Type 0 where
+  pub local : (e : Entry) (h k : History) → is_local l.names e ≡ true → R h k → R (e ∷ h) (e ∷ k)
+  pub asked : (core : CoreId) (message : Message) (h k : History) → l.may (Partner.Core core) ≡ true → R h k → R (act (Sends core message) h) (act (Sends core message) k)
+  pub replied : (core : CoreId) (s : Status) (value : Option ℤ) (h k : History) → l.answered core ≡ true → R h k → R (act (Sends core (reply s value)) h) (act (Sends core (reply s value)) k)
+  pub opened : (call : OpenCall) (h k : History) → may_open l.may call ≡ true → l.names (core_of_runner call.runner) ≡ true → R h k → R (Noted (Opened call) ∷ h) (Noted (Opened call) ∷ k)
+
+-- A relation of histories that they keep, and where it holds the core reads the same, of all cores too if it may. The second history
+-- is that of a core with this around it.
+pub record IsKept (l : Leave) (around : Around) (R : History → History → Type 0) : Type 0 where
+  pub holds : KeepsEntries l R
+  pub started : (core : CoreId) (h k : History) → is_within l.view l.may core ≡ true → R h k → knows_started h core ≡ knows_started k core
+  pub shared : l.may Partner.Shared ≡ true → (h k : History) → R h k → all_cores l.view h ≡ all_cores (seen_as l.view around) k
+  pub reads : (h k : History) → R h k → seen_of l.view h ≡ seen_of (seen_as l.view around) k
+  pub seen : (h k : History) → R h k → IsSeen l (seen_of l.view h)
+
+module _ (l : Leave) where
+  -- So is each of these acts, whatever is read.
+  abbrev pub AreAllowed : Acts → Type 0
+  AreAllowed nothing = Unit {0}
+  AreAllowed (one_then a x) = (is_allowed l a ≡ true) × AreAllowed x
+  AreAllowed (both x y) = AreAllowed x × AreAllowed y
+  AreAllowed (when b x y) = (b ≡ true → AreAllowed x) × (b ≡ false → AreAllowed y)
+  AreAllowed (if_started core x y) = (is_within l.view l.may core ≡ true) × (AreAllowed x × AreAllowed y)
+  AreAllowed (look f) = (s : Seen) → IsSeen l s → AreAllowed (f s)
+  AreAllowed (look_around f) = (l.may Partner.Shared ≡ true) × ((all : AllCores) → AreAllowed (f all))
+
+  -- ---- the law
+
+  module _ (around : Around) (R : History → History → Type 0) (kept : IsKept l around R) where
+    one-kept : (a : Act) → is_allowed l a ≡ true → (h k : History) → R h k → R (act a h) (act a k)
+    one-kept (Prints m) ok h k p = kept.holds.local (Printed m) h k ok p
+    one-kept (Notes (Opened call)) ok h k p = let parts = and_parts (may_open l.may call) _ ok in kept.holds.opened call h k parts.0 parts.1 p
+    one-kept (Notes (Queued core letter)) ok h k p = cc
+    one-kept (Notes n) ok h k p = kept.holds.local (Noted n) h k ok p
+    one-kept (Sends core (Message.Reply status)) ok h k p = kept.holds.replied core status None h k ok p
+    one-kept (Sends core (Message.Value status n)) ok h k p = kept.holds.replied core status (Some n) h k ok p
+    one-kept (Sends core message) ok h k p = kept.holds.asked core message h k ok p
+
+    either : (b : Bool) (h h' k k' : History) → (b ≡ true → R h k) → (b ≡ false → R h' k') → R (cond b h h') (cond b k k')
+    either true h h' k k' p q = p refl
+    either false h h' k k' p q = q refl
+
+    pub kept-by : (x : Acts) → AreAllowed x → (h k : History) → R h k → R (does x l.view h) (does x (seen_as l.view around) k)
+    kept-by nothing ok h k p = p
+    kept-by (one_then a x) ok h k p = kept-by x ok.1 (act a h) (act a k) (one-kept a ok.0 h k p)
+    kept-by (both x y) ok h k p = kept-by y ok.1 (does x l.view h) (does x (seen_as l.view around) k) (kept-by x ok.0 h k p)
+    kept-by (when b x y) ok h k p = either b (does x l.view h) (does y l.view h) (does x (seen_as l.view around) k) (does y (seen_as l.view around) k) (λ e. kept-by x (ok.0 e) h k p) (λ e. kept-by y (ok.1 e) h k p)
+    kept-by (if_started core x y) ok h k p =
+        subst (λ (b : Bool). R (cond (knows_started h core) (does x l.view h) (does y l.view h)) (cond b (does x (seen_as l.view around) k) (does y (seen_as l.view around) k))) (kept.started core h k ok.0 p)
+        (either (knows_started h core) (does x l.view h) (does y l.view h) (does x (seen_as l.view around) k) (does y (seen_as l.view around) k) (λ e. kept-by x ok.1.0 h k p) (λ e. kept-by y ok.1.1 h k p))
+    kept-by (look f) ok h k p =
+        subst (λ (s : Seen). R (does (f (seen_of l.view h)) l.view h) (does (f s) (seen_as l.view around) k)) (kept.reads h k p) (kept-by (f (seen_of l.view h)) (ok (seen_of l.view h) (kept.seen h k p)) h k p)
+    kept-by (look_around f) ok h k p =
+        subst (λ (all : AllCores). R (does (f (all_cores l.view h)) l.view h) (does (f all) (seen_as l.view around) k)) (kept.shared ok.0 h k p) (kept-by (f (all_cores l.view h)) (ok.1 (all_cores l.view h)) h k p)
+
+  -- ---- the parts of a service
+
+  -- Marks may name the runner.
+  abbrev pub IsNamed : Runner → Type 0
+  IsNamed r = l.names (core_of_runner r) ≡ true
+
+  pub reports-ok : (s : Status) → AreAllowed (reports s)
+  reports-ok s = (λ e. tt, λ e. (refl, tt))
+
+  reports_of-ok : (service : ServiceId) (s : Status) → AreAllowed (reports_of service s)
+  reports_of-ok service s = (λ e. tt, λ e. reports-ok s)
+
+  pub returns-ok : (r : Runner) (service : ServiceId) (s : Status) (value : Option ℤ) → IsNamed r → AreAllowed (returns r service s value)
+  returns-ok r service s None n = ((n, tt), (reports_of-ok service s, (refl, tt)))
+  returns-ok r service s (Some x) n = ((n, tt), (reports_of-ok service s, (refl, tt)))
+
+  pub replies-ok : (core : CoreId) (s : Status) (value : Option ℤ) → l.answered core ≡ true → is_allowed l (Sends core (reply s value)) ≡ true
+  replies-ok core s None answered = answered
+  replies-ok core s (Some n) answered = answered
+
+  pub answers-ok : (r : Runner) (service : ServiceId) (checks : List Check) (effect : Acts) → IsNamed r → (is_ok_status (first_failing checks) ≡ true → AreAllowed effect) → AreAllowed (answers r service checks effect)
+  answers-ok r service checks effect n ok = (ok, λ e. returns-ok r service (first_failing checks) None n)
+
+  pub asks-ok : (r : Runner) (service : ServiceId) (core : CoreId) (call : RemoteCall) → IsNamed r → names_only l.names (Mark.CallQueued core call) ≡ true → l.may (Partner.Core core) ≡ true → AreAllowed (asks r service core call)
+  asks-ok r service core call n named m = (named, (m, (and_from _ _ m n, tt)))
+
+  -- What is not the core's own may be asked.
+  pub elsewhere : (s : Seen) → IsSeen l s → (core : CoreId) → is_this_core s core ≡ false → is_within l.view l.may core ≡ true → l.may (Partner.Core core) ≡ true
+  elsewhere s seen core other within = rw (← seen.id, other) at within
+
+  -- On an object of the own core this is done, and another core is asked.
+  pub crosses-ok : (r : Runner) (service : ServiceId) (core : CoreId) (call : RemoteCall) (here : Seen → Acts) → IsNamed r → names_only l.names (Mark.CallQueued core call) ≡ true → is_within l.view l.may core ≡ true → ((s : Seen) → AreAllowed (here s))
+      → AreAllowed (look (λ s. when (is_this_core s core) (here s) (asks r service core call)))
+  crosses-ok r service core call here n named within ok s seen = (λ own. ok s, λ other. asks-ok r service core call n named (elsewhere s seen core other within))
+
+  -- What follows from what is found, if anything is.
+  pub found-ok : {A : Type 0} (f : A → Acts) (o : Option A) → ((x : A) → o ≡ Some x → AreAllowed (f x)) → AreAllowed (option_map_or f o nothing)
+  found-ok f None each = tt
+  found-ok f (Some x) each = each x refl
+
+  -- What follows from each of a list, and from each of one of which all pass a test.
+  pub each-ok : {A : Type 0} (f : A → Acts) → ((x : A) → AreAllowed (f x)) → (xs : List A) → AreAllowed (for_each f xs)
+  each-ok f each [] = tt
+  each-ok f each (x ∷ xs) = (each x, each-ok f each xs)
+
+  pub for_each-ok : {A : Type 0} (f : A → Acts) (test : A → Bool) → ((x : A) → test x ≡ true → AreAllowed (f x)) → (xs : List A) → list_all test xs ≡ true → AreAllowed (for_each f xs)
+  for_each-ok f test each [] all = tt
+  for_each-ok f test each (x ∷ xs) all =
+      let parts = and_parts (test x) (list_all test xs) all in
+      (each x parts.0, for_each-ok f test each xs parts.1)
+
+  -- Of a chain of tables the first that has an entry.
+  pub first-ok : (o : Option Acts) (others : Acts) → IfSome o AreAllowed → AreAllowed others → AreAllowed (unwrap_or o others)
+  first-ok None others ok rest = rest
+  first-ok (Some x) others ok rest = ok
+
+  pub effect-ok : (x : Service) → AreAllowed x.effect → AreAllowed (effect_of x)
+  effect-ok x ok = (λ e. ok, λ e. tt)
+
+  pub serves-ok : (r : Runner) (service : ServiceId) (x : Service) → IsNamed r → AreAllowed x.effect → AreAllowed (serves r service x)
+  serves-ok r service x n ok = (effect-ok x ok, returns-ok r service (answer_of x).status (answer_of x).value n)
+
+  pub serves_own-ok : {A : Type 0} (r : Runner) (id : ServiceId) (make : A → Seen → Service) (named : Core → Option A) → IsNamed r → ((x : A) (s : Seen) → IsSeen l s → AreAllowed (make x s).effect) → AreAllowed (serves_own r id make named)
+  serves_own-ok {A} r id make named n ok s seen = by (named s.core)
+    where
+      by : (o : Option A) → AreAllowed (serves_if r id (option_map (λ x. make x s) o))
+      by None = returns-ok r id Status.EOsId None n
+      by (Some x) = serves-ok r id (make x s) n (ok x s seen)

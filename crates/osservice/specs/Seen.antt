@@ -1,0 +1,108 @@
+-- What a service may read.
+use Rattle.std.specs.Prelude.{ℕ, Bool, nat_le, ◌==◌, Option, option_map, List}
+use Rattle.osbase.specs.declared.references.AlarmRef.{AlarmRef}
+use Rattle.osbase.specs.declared.references.CoreId.{CoreId}
+use Rattle.osbase.specs.declared.references.CounterRef.{CounterRef}
+use Rattle.osbase.specs.declared.references.IsrRef.{IsrRef}
+use Rattle.osbase.specs.declared.references.SpinlockId.{SpinlockId}
+use Rattle.osbase.specs.declared.references.TableRef.{TableRef}
+use Rattle.osbase.specs.declared.references.TaskRef.{TaskRef}
+use Rattle.osbase.specs.declared.references.Runner.{Runner}
+use Rattle.osbase.specs.declared.histories.Course.{Course}
+use Rattle.osbase.specs.declared.histories.Job.{Job}
+use Rattle.osbase.specs.declared.histories.GotSpinlock.{GotSpinlock}
+use Rattle.osbase.specs.declared.histories.OpenCall.{OpenCall}
+use Rattle.osbase.specs.declared.items.Agreement.{Agreement}
+use Rattle.osbase.specs.declared.items.CoreSet.{CoreSet}
+use Rattle.osbase.specs.Counting.{TableState}
+use Rattle.osbase.specs.History.{History, agreement_of, course_of, job_count, live_jobs, open_call, same_core, started_cores}
+use Rattle.osbase.specs.Spins.{got_spinlocks}
+use Rattle.oscript.specs.Runners.{Row}
+use Rattle.osplan.specs.declared.plans.Core.{Core}
+use Rattle.osplan.specs.View.{View}
+use Rattle.osclock.specs.Clocks.{counts_to_by, counts_to_value_by, due_by, is_in_use_by, left_by, value_by}
+use Rattle.ostable.specs.declared.tables.DueTable.{DueTable}
+use Rattle.ostable.specs.Tables.{due_tables_by, next_by, state_by}
+use Rattle.osrunner.specs.Rows.{is_occupied}
+use Rattle.osstate.specs.Readings.{is_pending, row_at, rows_of, running}
+use Rattle.osstate.specs.Sound.{activation_limit}
+
+-- What a core may read for what it does next: its own part of the configuration, and what its history says of its own
+-- runners, counters, alarms and tables. No stamp is among it, nothing of other cores, and not which of them were started. [own]
+pub record Seen : Type 0 where
+  -- the core's number and its own part of the configuration
+  pub id : CoreId
+  pub core : Core
+  -- how many jobs of a runner are live, and its row: what its oldest job holds, its events, where that job stands, how often it has
+  -- suspended interrupts, and how many ticks of its budget it has used
+  pub jobs : Runner → ℕ
+  pub row : Runner → Row
+  -- whether a job holds the resource of this index
+  pub is_occupied : ℕ → Bool
+  -- whether a job of the ISR is pending
+  pub is_pending : IsrRef → Bool
+  -- a counter's value, and after how many counts it has this one; which alarms are due at its next count, and which tables do something
+  pub value : CounterRef → ℕ
+  pub counts_to_value : CounterRef → ℕ → ℕ
+  pub due : CounterRef → List AlarmRef
+  pub due_tables : CounterRef → List DueTable
+  -- whether an alarm is in use, how many counts are left, and after how many its counter has this value
+  pub is_in_use : AlarmRef → Bool
+  pub counts_left : AlarmRef → Option ℕ
+  pub counts_to : AlarmRef → ℕ → ℕ
+  -- the state of a table, and which table waits for the end of its period
+  pub table : TableRef → TableState
+  pub next : TableRef → Option TableRef
+  -- the result of the first gate, whether the core runs, whose job is running, and the call that is open
+  pub agreement : Option Agreement
+  pub course : Course
+  pub running : Option Runner
+  pub awaits : Option OpenCall
+  -- the spinlocks that the core got, the newest first, and whose job has each
+  pub spins : List GotSpinlock
+
+abbrev pub seen_of : View → History → Seen
+seen_of v h = record {
+  id = v.core;
+  core = v.own;
+  jobs = λ r. job_count r (live_jobs h);
+  row = λ r. row_at v r h;
+  is_occupied = λ n. is_occupied n (rows_of v.own h);
+  is_pending = λ i. is_pending i h;
+  value = λ c. value_by v.own c h;
+  counts_to_value = λ c start. counts_to_value_by v.own c start h;
+  due = λ c. due_by v.own c h;
+  due_tables = λ c. due_tables_by v.own c h;
+  is_in_use = λ a. is_in_use_by v.own a h;
+  counts_left = λ a. left_by v.own a h;
+  counts_to = λ a start. counts_to_by v.own a start h;
+  table = λ s. state_by v.own s h;
+  next = λ s. next_by v.own s h;
+  agreement = agreement_of h;
+  course = course_of h;
+  running = option_map (λ (j : Job). j.runner) (running v h);
+  awaits = open_call h;
+  spins = got_spinlocks h;
+}
+
+-- What a core may read of what all cores share: which cores are configured, which were started, and the successor of each spinlock.
+-- No separate core reads it. [own]
+pub record AllCores : Type 0 where
+  pub configured : List CoreId
+  pub started : CoreSet
+  pub links : List (Option SpinlockId)
+
+abbrev pub all_cores : View → History → AllCores
+all_cores v h = record { configured = v.around.cores; started = started_cores h; links = v.around.links }
+
+-- The object is one of this core's.
+abbrev pub is_this_core : Seen → CoreId → Bool
+is_this_core s core = same_core core s.id
+
+-- As many jobs of the task are live as it may have. [OSEK/VDX OS 2.2.3, section 4.3, multiple requesting]
+abbrev pub is_at_limit : Seen → TaskRef → Bool
+is_at_limit s t = nat_le (activation_limit s.core (Runner.Task t)) (s.jobs (Runner.Task t))
+
+-- No job of the task is live. [OSEK/VDX OS 2.2.3, section 4.2.1, the suspended state]
+abbrev pub is_suspended : Seen → TaskRef → Bool
+is_suspended s t = s.jobs (Runner.Task t) == 0

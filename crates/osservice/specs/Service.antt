@@ -1,0 +1,58 @@
+-- A service on an object, as the object's core does it.
+use Rattle.std.specs.Prelude.{if◌then◌else◌, ℤ, Option, Some, None, option_map, List}
+use Rattle.osbase.specs.declared.statuses.Status.{Status}
+use Rattle.osbase.specs.declared.statuses.Status.TheVariants.{EOsId}
+use Rattle.osbase.specs.declared.statuses.ServiceId.{ServiceId}
+use Rattle.osbase.specs.declared.references.Runner.{Runner}
+use Rattle.osbase.specs.History.{History}
+use Rattle.osplan.specs.declared.plans.Core.{Core}
+use Rattle.osplan.specs.View.{View}
+use Rattle.osservice.specs.declared.returning.ServiceResult.{ServiceResult}
+use Rattle.osservice.specs.Acts.{Acts, nothing, both, when, look}
+use Rattle.osservice.specs.Checks.{Check, first_failing, is_ok_status}
+use Rattle.osservice.specs.Returning.{returns}
+use Rattle.osservice.specs.Seen.{Seen, seen_of}
+
+-- The checks that only the object's core can make, the effect, and the value that E_OK brings along. [own]
+pub record Service : Type 0 where
+  pub checks : List Check
+  pub effect : Acts
+  pub value : Option ℤ
+
+-- A service that has an effect and no value.
+abbrev pub without_value : List Check → Acts → Service
+without_value checks effect = record { checks = checks; effect = effect; value = None }
+
+-- What it answers, and what it does: a service that is refused has no effect.
+abbrev pub status_of : Service → Status
+status_of x = first_failing x.checks
+
+abbrev pub answer_of : Service → ServiceResult
+answer_of x = record { status = status_of x; value = (if is_ok_status (status_of x) then x.value else None) }
+
+abbrev pub effect_of : Service → Acts
+effect_of x = when (is_ok_status (status_of x)) x.effect nothing
+
+-- What a service does, and what it answers, at what is read now.
+abbrev pub carries_out : (Seen → Service) → Acts
+carries_out x = look (λ s. effect_of (x s))
+
+abbrev pub answers_with : (Seen → Service) → View → History → ServiceResult
+answers_with x v h = answer_of (x (seen_of v h))
+
+-- The call returns with this answer.
+abbrev pub returns_with : Runner → ServiceId → ServiceResult → Acts
+returns_with r id answer = returns r id answer.status answer.value
+
+-- A job's own core does the service, which then returns.
+abbrev pub serves : Runner → ServiceId → Service → Acts
+serves r id x = both (effect_of x) (returns_with r id (answer_of x))
+
+-- The service, if the object that the script names is there; else it returns E_OS_ID. [OSEK/VDX OS 2.2.3, section 11.2]
+abbrev pub serves_if : Runner → ServiceId → Option Service → Acts
+serves_if r id None = returns r id EOsId None
+serves_if r id (Some x) = serves r id x
+
+-- A service for an object of the core's own, as the core's configuration has it.
+abbrev pub serves_own : {A : Type 0} → Runner → ServiceId → (A → Seen → Service) → (Core → Option A) → Acts
+serves_own r id make named = look (λ s. serves_if r id (option_map (λ x. make x s) (named s.core)))

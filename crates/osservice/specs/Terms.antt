@@ -1,0 +1,48 @@
+-- What functions of the kernel ask for, and what families of services promise: one record for each kind of function, so that a
+-- further fact has one place.
+use Rattle.std.specs.Prelude.{◌≡◌, ◌≤◌, ◌+◌, ℕ, Bool, true, false, IsTrue, Option, is_some, unwrap_or, length, Vec}
+use Rattle.std.specs.declared.alloc.Global.{Global}
+use Rattle.osbase.specs.declared.marks.Mark.{Mark}
+use Rattle.osbase.specs.declared.references.Runner.{Runner}
+use Rattle.osbase.specs.Phases.{is_before_live}
+use Rattle.oscript.specs.declared.Op.{Op}
+use Rattle.osjobs.specs.Priorities.{is_own_runner}
+use Rattle.osstate.specs.Does.{Effects, HasRoom, service_entries, service_marks}
+use Rattle.osstate.specs.Sound.{has_objects_of}
+use Rattle.osstate.specs.State.{KernelState}
+use Rattle.osservice.specs.Acts.{Acts, does, nothing}
+
+-- What a function asks that acts for a runner: the runner is one of the core's own, and there is room for so many entries of the
+-- history and so many marks. [own]
+pub record MayAct (entries marks : ℕ) (s : KernelState) (r : Runner) (vec : Vec Mark Global) : Type 0 where
+  pub own : IsTrue (is_own_runner s.view.own r)
+  pub room : HasRoom entries marks s vec
+
+-- What a function asks that may begin jobs: the core is live, and there is room for so many entries and marks. [own]
+pub record MayBegin (entries marks : ℕ) (s : KernelState) (vec : Vec Mark Global) : Type 0 where
+  pub live : is_before_live s.progress.phase ≡ false
+  pub room : HasRoom entries marks s vec
+
+-- What a function asks that may begin jobs and post: the core is live, its outbox, which has `size` places, has so many left, and
+-- there is room for so many entries and marks. [own]
+pub record MayPost (places size entries marks : ℕ) (s : KernelState) (vec : Vec Mark Global) : Type 0 where
+  pub live : is_before_live s.progress.phase ≡ false
+  pub outbox : length s.border.outbox + places ≤ size
+  pub room : HasRoom entries marks s vec
+
+-- What a function asks that does both for a runner, with room for a service. [own]
+pub record MayServe (places size : ℕ) (s : KernelState) (r : Runner) (vec : Vec Mark Global) : Type 0 where
+  pub own : IsTrue (is_own_runner s.view.own r)
+  pub posts : MayPost places size service_entries service_marks s vec
+
+-- What an operation of a running job asks: this, and that the core may name whatever the operation names. [own]
+pub record MayOperate (places size : ℕ) (s : KernelState) (r : Runner) (op : Op) (vec : Vec Mark Global) : Type 0 where
+  pub known : IsTrue (has_objects_of s.view.own op)
+  pub serves : MayServe places size s r vec
+
+-- An operation was offered to a family of services, which has these acts for it, or none. It answers whether it has any, and then it has
+-- done them; else nothing changes. [own]
+pub record Offered (acts : Option Acts) (is_known : Bool) (old new : KernelState) (old_vec new_vec : Vec Mark Global) : Type 0 where
+  pub known : is_known ≡ is_some acts
+  pub effects : is_known ≡ true → Effects service_entries service_marks (does (unwrap_or acts nothing)) old new old_vec new_vec
+  pub others : is_known ≡ false → (new ≡ old) × (new_vec ≡ old_vec)

@@ -1,0 +1,161 @@
+//! How a service returns to its caller.
+
+ghost use Rattle.std.specs.Prelude.{IsTrue, ◌≡◌, ◌<◌, None, length};
+ghost use Rattle.osbase.specs.declared.statuses.Status.TheVariants.{EOk};
+ghost use Rattle.osbase.specs.declared.limits.TheConstants.{CORES};
+ghost use Rattle.osbase.specs.Answers.{returned};
+ghost use Rattle.osjobs.specs.Jobs.{is_plain};
+ghost use Rattle.osstate.specs.Does.{Effects, HasRoom};
+ghost use Rattle.osservice.specs.Terms.{MayAct};
+ghost use Rattle.osservice.specs.Acts.{does};
+ghost use Rattle.osservice.specs.Checks.{is_ok_status};
+ghost use Rattle.osservice.specs.Returning.{asks, calls_no_hook, reports, reports_of, returns};
+
+use osbase::{Awaited, CoreId, Mark, Message, OpenCall, RemoteCall, Runner, ServiceId, Status};
+use osstate::CoreState;
+
+/// What a service answers: its status, and with E_OK the value of one that has a value.
+#[derive(Clone, Copy, PartialEq, Eq)]
+pub struct ServiceResult {
+    pub status: Status,
+    pub value: Option<i64>,
+}
+
+/// What a service answers that has no value.
+pub fn without_value(status: Status) -> ServiceResult
+    ensures { result ≡ record { status = status; value = None } }
+{
+    ServiceResult {
+        status,
+        value: None,
+    }
+}
+
+/// Whether the status is E_OK.
+pub fn is_ok(status: Status) -> bool
+    ensures { result ≡ is_ok_status status }
+{
+    matches!(status, Status::EOk)
+}
+
+/// A status other than E_OK calls ErrorHook (OSEK/VDX OS 2.2.3, section 11.2).
+pub fn report<const P: usize, const J: usize, const OUT: usize>(
+    state: &mut CoreState<'_, P, J, OUT>,
+    status: Status,
+    marks: &mut Vec<Mark>,
+)
+    requires { HasRoom 1 1 state.old marks.old }
+    ensures { Effects 1 1 (does (reports status)) state.old state.new marks.old marks.new }
+{
+    if !is_ok(status) {
+        state.print(Mark::ErrorHook(status), marks);
+    }
+}
+
+// No error of StartCore calls ErrorHook (AUTOSAR SWS OS 4.x, SWS_Os_00681).
+fn calls_no_hook(service: ServiceId) -> bool
+    ensures { result ≡ calls_no_hook service }
+{
+    matches!(service, ServiceId::StartCore)
+}
+
+// A status of a service calls ErrorHook, unless its errors call none.
+fn report_of<const P: usize, const J: usize, const OUT: usize>(
+    state: &mut CoreState<'_, P, J, OUT>,
+    service: ServiceId,
+    status: Status,
+    marks: &mut Vec<Mark>,
+)
+    requires { HasRoom 1 1 state.old marks.old }
+    ensures { Effects 1 1 (does (reports_of service status)) state.old state.new marks.old marks.new }
+{
+    if !calls_no_hook(service) {
+        report(state, status, marks);
+    }
+}
+
+// The line of a service that returned.
+fn mark_of(runner: Runner, service: ServiceId, answer: ServiceResult) -> Mark
+    ensures mark { result ≡ returned runner service answer.status answer.value }
+    ensures plain { IsTrue (is_plain result) }
+{
+    match answer.value {
+        Some(value) => Mark::ValueReturned {
+            runner,
+            service,
+            value,
+        },
+        None => Mark::ServiceReturned {
+            runner,
+            service,
+            status: answer.status,
+        },
+    }
+}
+
+/// A service returns to the job of one of the core's tasks: its status is printed, then ErrorHook is
+/// called, and the job stands at its next operation.
+pub fn finish<const P: usize, const J: usize, const OUT: usize>(
+    state: &mut CoreState<'_, P, J, OUT>,
+    runner: Runner,
+    service: ServiceId,
+    answer: ServiceResult,
+    marks: &mut Vec<Mark>,
+)
+    requires { MayAct 3 2 state.old runner marks.old }
+    ensures { Effects 3 2 (does (returns runner service answer.status answer.value)) state.old state.new marks.old marks.new }
+{
+    state.print(mark_of(runner, service, answer), marks);
+    report_of(state, service, answer.status, marks);
+    state.complete(runner, answer.status, answer.value);
+}
+
+/// A service that is refused returns with this status.
+pub fn refuse<const P: usize, const J: usize, const OUT: usize>(
+    state: &mut CoreState<'_, P, J, OUT>,
+    runner: Runner,
+    service: ServiceId,
+    status: Status,
+    marks: &mut Vec<Mark>,
+)
+    requires { MayAct 3 2 state.old runner marks.old }
+    ensures { Effects 3 2 (does (returns runner service status None)) state.old state.new marks.old marks.new }
+{
+    finish(state, runner, service, without_value(status), marks);
+}
+
+/// A service without a value that has had its effect returns with E_OK.
+pub fn accept<const P: usize, const J: usize, const OUT: usize>(
+    state: &mut CoreState<'_, P, J, OUT>,
+    runner: Runner,
+    service: ServiceId,
+    marks: &mut Vec<Mark>,
+)
+    requires { MayAct 3 2 state.old runner marks.old }
+    ensures { Effects 3 2 (does (returns runner service EOk None)) state.old state.new marks.old marks.new }
+{
+    finish(state, runner, service, without_value(Status::EOk), marks);
+}
+
+/// A service on another core's object: its request joins the outbox, and the call stays open until the
+/// reply comes (AUTOSAR SWS OS 4.x, SWS_Os_00596 and SWS_Os_00602).
+pub fn ask<const P: usize, const J: usize, const OUT: usize>(
+    state: &mut CoreState<'_, P, J, OUT>,
+    runner: Runner,
+    service: ServiceId,
+    core: CoreId,
+    call: RemoteCall,
+    marks: &mut Vec<Mark>,
+)
+    requires receiver { core.number < CORES }
+    requires outbox { length state.old.border.outbox < OUT }
+    requires acts { MayAct 3 1 state.old runner marks.old }
+    ensures { Effects 3 1 (does (asks runner service core call)) state.old state.new marks.old marks.new }
+{
+    state.print(Mark::CallQueued { core, call }, marks);
+    state.queue(core, Message::Request(call));
+    state.open_call(OpenCall {
+        runner,
+        awaits: Awaited::Reply { service, core },
+    });
+}

@@ -1,0 +1,24 @@
+-- The service that reads a counter's value.
+use Rattle.std.specs.Prelude.{pos, Option, Some, None, []}
+use Rattle.osbase.specs.declared.statuses.ServiceId.TheVariants as ServiceId
+use Rattle.osbase.specs.declared.references.CounterRef.{CounterRef}
+use Rattle.osbase.specs.declared.references.Runner.{Runner}
+use Rattle.osbase.specs.Objects.{counter_object}
+use Rattle.oscript.specs.declared.Op.{Op}
+use Rattle.osservice.specs.Acts.{Acts, nothing}
+use Rattle.osservice.specs.Named.{own_of}
+use Rattle.osservice.specs.Seen.{Seen}
+use Rattle.osservice.specs.Service.{Service, serves_own}
+
+-- The value is the counter's. [AUTOSAR SWS OS 4.x, SWS_Os_00377]
+abbrev pub value_inquiry : CounterRef → Seen → Service
+value_inquiry c s = record { checks = []; effect = nothing; value = Some (pos (s.value c)) }
+
+-- GetCounterValue, for a counter of the own core. [AUTOSAR SWS OS 4.x, SWS_Os_00376 and SWS_Os_00377]
+abbrev pub gets_value : Runner → Option CounterRef → Acts
+gets_value r target = serves_own r ServiceId.GetCounterValue value_inquiry (λ core. own_of counter_object core target)
+
+-- The operation that is this service.
+abbrev pub counter_acts : Runner → Op → Option Acts
+counter_acts r (Op.GetCounterValue target x) = Some (gets_value r target)
+counter_acts r op = None

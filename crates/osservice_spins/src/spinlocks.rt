@@ -1,0 +1,193 @@
+//! The services of spinlocks.
+
+ghost use Rattle.std.specs.Prelude.{◌≡◌, IsTrue};
+ghost use Rattle.osstate.specs.Does.{Effects, Reads, service_entries, service_marks};
+ghost use Rattle.osstate.specs.Sound.{is_awaited_known, is_lock_known};
+ghost use Rattle.osservice.specs.Terms.{MayAct, Offered};
+ghost use Rattle.osservice.specs.Acts.{does, when};
+ghost use Rattle.osservice.specs.Checks.{first_failing, is_ok_status};
+ghost use Rattle.osservice.specs.Returning.{returns};
+ghost use Rattle.osservice.specs.Seen.{all_cores, seen_of};
+ghost use Rattle.osservice_spins.specs.Spinlocks.{awaits, breaks_order, gets_spinlock, getting_checks, is_not_newest, releases_spinlock, releasing_checks, spin_acts, tries_spinlock};
+
+use osbase::{Awaited, Mark, OpenCall, Runner, ServiceId, SpinlockId, Status};
+use oscript::Op;
+use osservice::{Step, is_ok, refuse};
+use osstate::CoreState;
+
+// The caller holds a spinlock, and this one does not come after its newest.
+fn breaks_order<const P: usize, const J: usize, const OUT: usize>(
+    state: &CoreState<'_, P, J, OUT>,
+    runner: Runner,
+    lock: SpinlockId,
+) -> bool
+    ensures { Reads (λ v h. breaks_order (all_cores v h) (seen_of v h) runner lock) state.now result }
+{
+    match state.newest_spinlock(runner) {
+        Some(newest) => !state.comes_after(newest, lock),
+        None => false,
+    }
+}
+
+// The first check that fails of those that a job makes which takes a spinlock.
+fn status_of_getting<const P: usize, const J: usize, const OUT: usize>(
+    state: &CoreState<'_, P, J, OUT>,
+    runner: Runner,
+    lock: SpinlockId,
+) -> Status
+    ensures status { Reads (λ v h. first_failing (getting_checks runner (all_cores v h) (seen_of v h) lock)) state.now result }
+    ensures known { IsTrue (is_ok_status result) → IsTrue (is_lock_known lock) }
+{
+    if !state.knows_spinlock(lock) {
+        Status::EOsId
+    } else if state.has_spinlock(lock) {
+        Status::EOsInterferenceDeadlock
+    } else if breaks_order(state, runner, lock) {
+        Status::EOsNestingDeadlock
+    } else {
+        Status::EOk
+    }
+}
+
+// The spinlock is not the newest that the caller holds.
+fn is_not_newest<const P: usize, const J: usize, const OUT: usize>(
+    state: &CoreState<'_, P, J, OUT>,
+    runner: Runner,
+    lock: SpinlockId,
+) -> bool
+    ensures { Reads (λ v h. is_not_newest (seen_of v h) runner lock) state.now result }
+{
+    match state.newest_spinlock(runner) {
+        Some(newest) => lock != newest,
+        None => true,
+    }
+}
+
+// The first check that fails of those that a job makes which gives a spinlock back.
+fn status_of_releasing<const P: usize, const J: usize, const OUT: usize>(
+    state: &CoreState<'_, P, J, OUT>,
+    runner: Runner,
+    lock: SpinlockId,
+) -> Status
+    ensures status { Reads (λ v h. first_failing (releasing_checks runner (all_cores v h) (seen_of v h) lock)) state.now result }
+    ensures known { IsTrue (is_ok_status result) → IsTrue (is_lock_known lock) }
+{
+    if !state.knows_spinlock(lock) {
+        Status::EOsId
+    } else if !state.holds_spinlock(runner, lock) {
+        Status::EOsState
+    } else if is_not_newest(state, runner, lock) {
+        Status::EOsNofunc
+    } else {
+        Status::EOk
+    }
+}
+
+// With E_OK the call is open until the spinlock answers; else it is refused.
+fn ask<const P: usize, const J: usize, const OUT: usize>(
+    state: &mut CoreState<'_, P, J, OUT>,
+    call: OpenCall,
+    service: ServiceId,
+    status: Status,
+    marks: &mut Vec<Mark>,
+)
+    requires known { IsTrue (is_ok_status status) → IsTrue (is_awaited_known call.awaits) }
+    requires acts { MayAct service_entries service_marks state.old call.runner marks.old }
+    ensures { Effects service_entries service_marks (does (when (is_ok_status status) (awaits call.runner call.awaits) (returns call.runner service status None))) state.old state.new marks.old marks.new }
+{
+    if is_ok(status) {
+        state.open_call(call);
+    } else {
+        refuse(state, call.runner, service, status, marks);
+    }
+}
+
+// A running job of one of the core's tasks or ISRs waits until it has a spinlock (AUTOSAR SWS OS 4.x, SWS_Os_00687). The
+// invalid identifier answers E_OS_ID, a spinlock that a job of this core has E_OS_INTERFERENCE_DEADLOCK, and one that does
+// not come after the newest that the caller holds E_OS_NESTING_DEADLOCK. None of these has another effect.
+fn get_spinlock<const P: usize, const J: usize, const OUT: usize>(
+    state: &mut CoreState<'_, P, J, OUT>,
+    runner: Runner,
+    target: Option<SpinlockId>,
+    marks: &mut Vec<Mark>,
+)
+    requires { MayAct service_entries service_marks state.old runner marks.old }
+    ensures { Effects service_entries service_marks (does (gets_spinlock runner target)) state.old state.new marks.old marks.new }
+{
+    let service = ServiceId::GetSpinlock;
+    let Some(lock) = target else {
+        return refuse(state, runner, service, Status::EOsId, marks);
+    };
+    let status = status_of_getting(state, runner, lock);
+    let awaits = Awaited::Get(lock);
+    ask(state, OpenCall { runner, awaits }, service, status, marks);
+}
+
+// A running job of one of the core's tasks or ISRs tries once to take a spinlock, with the same checks (AUTOSAR SWS OS 4.x,
+// SWS_Os_00704).
+fn try_spinlock<const P: usize, const J: usize, const OUT: usize>(
+    state: &mut CoreState<'_, P, J, OUT>,
+    runner: Runner,
+    target: Option<SpinlockId>,
+    marks: &mut Vec<Mark>,
+)
+    requires { MayAct service_entries service_marks state.old runner marks.old }
+    ensures { Effects service_entries service_marks (does (tries_spinlock runner target)) state.old state.new marks.old marks.new }
+{
+    let service = ServiceId::TryToGetSpinlock;
+    let Some(lock) = target else {
+        return refuse(state, runner, service, Status::EOsId, marks);
+    };
+    let status = status_of_getting(state, runner, lock);
+    let awaits = Awaited::Try(lock);
+    ask(state, OpenCall { runner, awaits }, service, status, marks);
+}
+
+// A running job of one of the core's tasks or ISRs gives back the newest of the spinlocks that it holds (AUTOSAR SWS OS 4.x,
+// SWS_Os_00696). The invalid identifier answers E_OS_ID, a spinlock that the caller does not hold E_OS_STATE, and one that
+// it holds below a newer one E_OS_NOFUNC. None of these has another effect.
+fn release_spinlock<const P: usize, const J: usize, const OUT: usize>(
+    state: &mut CoreState<'_, P, J, OUT>,
+    runner: Runner,
+    target: Option<SpinlockId>,
+    marks: &mut Vec<Mark>,
+)
+    requires { MayAct service_entries service_marks state.old runner marks.old }
+    ensures { Effects service_entries service_marks (does (releases_spinlock runner target)) state.old state.new marks.old marks.new }
+{
+    let service = ServiceId::ReleaseSpinlock;
+    let Some(lock) = target else {
+        return refuse(state, runner, service, Status::EOsId, marks);
+    };
+    let status = status_of_releasing(state, runner, lock);
+    let awaits = Awaited::Release(lock);
+    ask(state, OpenCall { runner, awaits }, service, status, marks);
+}
+
+/// An operation of a running job of one of the core's tasks or ISRs, if it is a service of spinlocks: it is done, and the answer is
+/// yes. Else nothing changes.
+pub fn operate<const P: usize, const J: usize, const OUT: usize>(
+    state: &mut CoreState<'_, P, J, OUT>,
+    step: Step,
+    marks: &mut Vec<Mark>,
+) -> bool
+    requires { MayAct service_entries service_marks state.old step.runner marks.old }
+    ensures { Offered (spin_acts step.runner step.op) result state.old state.new marks.old marks.new }
+{
+    let runner = step.runner;
+    match step.op {
+        Op::GetSpinlock(target) => {
+            get_spinlock(state, runner, target, marks);
+            true
+        }
+        Op::TryToGetSpinlock(target, _) => {
+            try_spinlock(state, runner, target, marks);
+            true
+        }
+        Op::ReleaseSpinlock(target) => {
+            release_spinlock(state, runner, target, marks);
+            true
+        }
+        _ => false,
+    }
+}

@@ -1,0 +1,134 @@
+-- The services of schedule tables: each for tables of the own core.
+use Rattle.std.specs.Prelude.{ℕ, pos, nat_le, not, if◌then◌else◌, Bool, false, Option, Some, None, List, [], ◌∷◌}
+use Rattle.std.specs.Option.{option_and_then, option_map_or}
+use Rattle.osbase.specs.declared.statuses.Status.TheVariants.{EOsNofunc, EOsState, EOsValue}
+use Rattle.osbase.specs.declared.statuses.ServiceId.TheVariants as ServiceId
+use Rattle.osbase.specs.declared.references.Runner.{Runner}
+use Rattle.osbase.specs.declared.references.TableRef.{TableRef}
+use Rattle.osbase.specs.History.{TableNext, TableStopped, TableStarted}
+use Rattle.osbase.specs.Objects.{table_object}
+use Rattle.oscript.specs.declared.Op.{Op}
+use Rattle.osplan.specs.declared.plans.Core.{Core}
+use Rattle.osplan.specs.declared.plans.Counter.{Counter}
+use Rattle.osplan.specs.declared.plans.Table.{Table}
+use Rattle.osplan.specs.Clocked.{own_table_sizes}
+use Rattle.osplan.specs.Limits.{counter_sizes, is_table_start}
+use Rattle.osplan.specs.View.{own_counter, own_table}
+use Rattle.ostable.specs.Ahead.{status_of}
+use Rattle.ostable.specs.Status.{is_running, is_stopped, number_of}
+use Rattle.ostable.specs.Waiting.{are_of_one_counter}
+use Rattle.osservice.specs.Acts.{Acts, nothing, both, look, notes}
+use Rattle.osservice.specs.Checks.{Check}
+use Rattle.osservice.specs.Named.{own_of}
+use Rattle.osservice.specs.Seen.{Seen}
+use Rattle.osservice.specs.Service.{Service, serves_own, without_value}
+
+-- ---- of a table of the core
+
+abbrev pub is_table_stopped : Seen → TableRef → Bool
+is_table_stopped s t = is_stopped (status_of (s.table t))
+
+abbrev pub is_table_running : Seen → TableRef → Bool
+is_table_running s t = is_running (status_of (s.table t))
+
+-- The table and its counter, as they are configured, pass this test.
+abbrev pub suits : (Table → Counter → Bool) → Core → TableRef → Bool
+suits test core t = option_map_or (λ (table : Table). option_map_or (test table) (own_counter core table.counter) false) (own_table core t) false
+
+-- An offset from now, as an automatic table may have it. [AUTOSAR SWS OS 4.x, SWS_Os_00276 and SWS_Os_00332]
+abbrev pub is_offset : Core → ℕ → Table → Counter → Bool
+is_offset core offset table counter = is_table_start (own_table_sizes core table) (counter_sizes counter) (Some offset)
+
+-- A value of the counter. [AUTOSAR SWS OS 4.x, SWS_Os_00349]
+abbrev pub is_value : ℕ → Table → Counter → Bool
+is_value start table counter = nat_le start counter.max
+
+-- After how many counts the table's counter has this value.
+abbrev pub counts_to_start : Seen → TableRef → ℕ → ℕ
+counts_to_start s t start = option_map_or (λ (table : Table). s.counts_to_value table.counter start) (own_table s.core t) 0
+
+-- What both starts check: that the table is stopped, and then this. [AUTOSAR SWS OS 4.x, SWS_Os_00276, SWS_Os_00277, SWS_Os_00349
+-- and SWS_Os_00350]
+abbrev pub starting_checks : Seen → TableRef → Bool → List Check
+starting_checks s t is_admitted = (not (is_table_stopped s t), EOsState) ∷ (not is_admitted, EOsValue) ∷ []
+
+-- The first period begins after so many counts. [AUTOSAR SWS OS 4.x, SWS_Os_00278 and SWS_Os_00351]
+abbrev pub starts_table : TableRef → ℕ → Acts
+starts_table t wait = notes (TableStarted t wait)
+
+-- The table is stopped, and its counter admits the offset. The first period begins after as many counts.
+-- [AUTOSAR SWS OS 4.x, SWS_Os_00278]
+abbrev pub relative_start : ℕ → TableRef → Seen → Service
+relative_start offset t s = without_value (starting_checks s t (suits (is_offset s.core offset) s.core t)) (starts_table t offset)
+
+-- The first period begins when the counter has this value, the present one after a full turn. [AUTOSAR SWS OS 4.x, SWS_Os_00351; the
+-- full turn: own]
+abbrev pub absolute_start : ℕ → TableRef → Seen → Service
+absolute_start start t s = without_value (starting_checks s t (suits (is_value start) s.core t)) (starts_table t (counts_to_start s t start))
+
+-- A table waits no longer.
+abbrev pub quits : Option TableRef → Acts
+quits None = nothing
+quits (Some u) = notes (TableStopped u)
+
+-- The table that waits for this one waits no longer.
+abbrev pub quits_next : TableRef → Acts
+quits_next t = look (λ s. quits (s.next t))
+
+-- The second table waits for the end of a period of the first; one that waited for it stops. [AUTOSAR SWS OS 4.x, SWS_Os_00284,
+-- SWS_Os_00283, SWS_Os_00309 and SWS_Os_00324]
+abbrev pub switch : TableRef × TableRef → Seen → Service
+switch p s =
+    without_value ((not (is_table_stopped s p.1), EOsState) ∷ (not (is_table_running s p.0), EOsNofunc) ∷ [])
+    (both (quits_next p.0) (notes (TableNext p.0 p.1)))
+
+-- The table stops or waits no longer, and one that waits for it does neither. [AUTOSAR SWS OS 4.x, SWS_Os_00280 and SWS_Os_00281]
+abbrev pub stop : TableRef → Seen → Service
+stop t s = without_value ((is_table_stopped s t, EOsNofunc) ∷ []) (both (quits_next t) (notes (TableStopped t)))
+
+-- The value is the number of the table's status. [AUTOSAR SWS OS 4.x, SWS_Os_00289 to SWS_Os_00291]
+abbrev pub status_inquiry : TableRef → Seen → Service
+status_inquiry t s = record { checks = []; effect = nothing; value = Some (pos (number_of (status_of (s.table t)))) }
+
+-- ---- of what a script names
+
+-- Two that go by one counter. [AUTOSAR SWS OS 4.x, SWS_Os_00330]
+abbrev pub pair_of : Core → TableRef → TableRef → Option (TableRef × TableRef)
+pair_of core t u = if are_of_one_counter core t u then Some (t, u) else None
+
+abbrev pub own_pair : Core → Option TableRef → Option TableRef → Option (TableRef × TableRef)
+own_pair core from to =
+    option_and_then (λ (t : TableRef). option_and_then (pair_of core t) (own_of table_object core to)) (own_of table_object core from)
+
+-- ---- the services; where there is no such table, E_OS_ID. [AUTOSAR SWS OS 4.x, SWS_Os_00275]
+
+-- StartScheduleTableRel, for a table of the own core. [AUTOSAR SWS OS 4.x, SWS_Os_00278]
+abbrev pub starts_table_relative : Runner → Option TableRef → ℕ → Acts
+starts_table_relative r target offset = serves_own r ServiceId.StartScheduleTableRel (relative_start offset) (λ core. own_of table_object core target)
+
+-- StartScheduleTableAbs, for a table of the own core. [AUTOSAR SWS OS 4.x, SWS_Os_00351]
+abbrev pub starts_table_absolute : Runner → Option TableRef → ℕ → Acts
+starts_table_absolute r target start = serves_own r ServiceId.StartScheduleTableAbs (absolute_start start) (λ core. own_of table_object core target)
+
+-- NextScheduleTable, for two tables of the own core that go by one counter. [AUTOSAR SWS OS 4.x, SWS_Os_00284]
+abbrev pub switches_tables : Runner → Option TableRef → Option TableRef → Acts
+switches_tables r from to = serves_own r ServiceId.NextScheduleTable switch (λ core. own_pair core from to)
+
+-- StopScheduleTable, for a table of the own core. [AUTOSAR SWS OS 4.x, SWS_Os_00281]
+abbrev pub stops_table : Runner → Option TableRef → Acts
+stops_table r target = serves_own r ServiceId.StopScheduleTable stop (λ core. own_of table_object core target)
+
+-- GetScheduleTableStatus, for a table of the own core. [AUTOSAR SWS OS 4.x, SWS_Os_00289 to SWS_Os_00291]
+abbrev pub gets_table_status : Runner → Option TableRef → Acts
+gets_table_status r target = serves_own r ServiceId.GetScheduleTableStatus status_inquiry (λ core. own_of table_object core target)
+
+-- ---- the operations that are these services
+
+-- The table of the family: what an operation does for a runner, if it is one of these services.
+abbrev pub table_acts : Runner → Op → Option Acts
+table_acts r (Op.StartScheduleTableRel target offset) = Some (starts_table_relative r target offset)
+table_acts r (Op.StartScheduleTableAbs target start) = Some (starts_table_absolute r target start)
+table_acts r (Op.NextScheduleTable from to) = Some (switches_tables r from to)
+table_acts r (Op.StopScheduleTable target) = Some (stops_table r target)
+table_acts r (Op.GetScheduleTableStatus target x) = Some (gets_table_status r target)
+table_acts r op = None

@@ -1,0 +1,396 @@
+//! The services of schedule tables.
+
+ghost use Rattle.std.specs.Prelude.{◌≡◌, ◌<◌, ◌≤◌, ◌+◌, ◌^◌, IfSome, IsTrue, map};
+ghost use Rattle.osbase.specs.Counting.{same_counter};
+ghost use Rattle.osbase.specs.Objects.{table_object};
+ghost use Rattle.osplan.specs.Limits.{first_offset, point_sizes};
+ghost use Rattle.osplan.specs.Objects.{is_own_object};
+ghost use Rattle.ostable.specs.Waiting.{are_of_one_counter};
+ghost use Rattle.osstate.specs.Does.{Effects, Reads, Remarks, service_entries, service_marks};
+ghost use Rattle.osservice.specs.Terms.{MayAct, Offered};
+ghost use Rattle.osservice.specs.Acts.{does};
+ghost use Rattle.osservice.specs.Checks.{first_failing, is_ok_status};
+ghost use Rattle.osservice.specs.Seen.{seen_of};
+ghost use Rattle.osservice.specs.Service.{answers_with, carries_out};
+ghost use Rattle.osservice_tables.specs.Tables.{absolute_start, counts_to_start, gets_table_status, is_offset, is_value, own_pair, quits_next, relative_start, starting_checks, starts_table_absolute, starts_table_relative, status_inquiry, stop, stops_table, suits, switch, switches_tables, table_acts};
+
+use osbase::{CounterRef, Mark, Runner, ServiceId, Status, TableRef};
+use oscript::Op;
+use osplan::{Counter, Table};
+use osservice::{ServiceResult, Step, finish, is_ok, own_of, without_value};
+use osstate::CoreState;
+
+// Whether a table can be started: that it is stopped, and then that its counter admits it.
+fn status_of_start<const P: usize, const J: usize, const OUT: usize>(
+    state: &CoreState<'_, P, J, OUT>,
+    table: TableRef,
+    is_admitted: bool,
+) -> Status
+    requires own { IsTrue (is_own_object state.now.view.own (table_object table)) }
+    ensures status { Reads (λ v h. first_failing (starting_checks (seen_of v h) table is_admitted)) state.now result }
+    ensures admitted { IsTrue (is_ok_status result) → IsTrue is_admitted }
+{
+    if !state.table_status(table).is_stopped() {
+        Status::EOsState
+    } else if is_admitted {
+        Status::EOk
+    } else {
+        Status::EOsValue
+    }
+}
+
+// The offset of a table's first point; 0 where it has none.
+fn first_offset(table: &Table) -> u32
+    ensures { result ≡ first_offset (map point_sizes table.now.points) }
+{
+    match table.points.as_slice().first() {
+        Some(point) => point.offset,
+        None => 0,
+    }
+}
+
+// Whether the table's counter admits a start after so many counts.
+fn admits_offset<const P: usize, const J: usize, const OUT: usize>(
+    state: &CoreState<'_, P, J, OUT>,
+    table: TableRef,
+    offset: u32,
+) -> bool
+    ensures value { result ≡ suits (is_offset state.now.view.own offset) state.now.view.own table }
+    ensures within { IsTrue result → offset ≤ 1000000000 }
+{
+    let Some(own) = state.table(Some(table)) else {
+        return false;
+    };
+    match state.counter(Some(own.counter)) {
+        Some(counter) => 1 <= offset && offset <= counter.max.saturating_sub(first_offset(own)),
+        None => false,
+    }
+}
+
+// Whether it admits a start at this value.
+fn admits_value<const P: usize, const J: usize, const OUT: usize>(
+    state: &CoreState<'_, P, J, OUT>,
+    table: TableRef,
+    start: u32,
+) -> bool
+    ensures value { result ≡ suits (is_value start) state.now.view.own table }
+{
+    let Some(own) = state.table(Some(table)) else {
+        return false;
+    };
+    match state.counter(Some(own.counter)) {
+        Some(counter) => start <= counter.max,
+        None => false,
+    }
+}
+
+// After how many counts the table's counter has this value.
+fn counts_to_start<const P: usize, const J: usize, const OUT: usize>(
+    state: &CoreState<'_, P, J, OUT>,
+    table: TableRef,
+    start: u32,
+) -> u32
+    requires own { IsTrue (is_own_object state.now.view.own (table_object table)) }
+    requires admitted { IsTrue (suits (is_value start) state.now.view.own table) }
+    ensures reads { Reads (λ v h. counts_to_start (seen_of v h) table start) state.now result }
+    ensures turn { result ≤ 1000000001 }
+{
+    match state.table(Some(table)) {
+        Some(own) => state.counts_to_value(own.counter, start),
+        None => unreachable!(),
+    }
+}
+
+fn start_relative<const P: usize, const J: usize, const OUT: usize>(
+    state: &mut CoreState<'_, P, J, OUT>,
+    table: TableRef,
+    offset: u32,
+) -> ServiceResult
+    requires own { IsTrue (is_own_object state.old.view.own (table_object table)) }
+    requires count { state.old.progress.entries < 2 ^ 63 }
+    ensures answer { Reads (answers_with (relative_start offset table)) state.old result }
+    ensures effects { Remarks 1 (does (carries_out (relative_start offset table))) state.old state.new }
+{
+    let is_admitted = admits_offset(state, table, offset);
+    let status = status_of_start(state, table, is_admitted);
+    if !is_ok(status) {
+        return without_value(status);
+    }
+    state.start_table(table, offset);
+    without_value(status)
+}
+
+fn start_absolute<const P: usize, const J: usize, const OUT: usize>(
+    state: &mut CoreState<'_, P, J, OUT>,
+    table: TableRef,
+    start: u32,
+) -> ServiceResult
+    requires own { IsTrue (is_own_object state.old.view.own (table_object table)) }
+    requires count { state.old.progress.entries < 2 ^ 63 }
+    ensures answer { Reads (answers_with (absolute_start start table)) state.old result }
+    ensures effects { Remarks 1 (does (carries_out (absolute_start start table))) state.old state.new }
+{
+    let is_admitted = admits_value(state, table, start);
+    let status = status_of_start(state, table, is_admitted);
+    if !is_ok(status) {
+        return without_value(status);
+    }
+    let wait = counts_to_start(state, table, start);
+    state.start_table(table, wait);
+    without_value(status)
+}
+
+// The table that waits for this one waits no longer.
+fn quit_next<const P: usize, const J: usize, const OUT: usize>(
+    state: &mut CoreState<'_, P, J, OUT>,
+    table: TableRef,
+)
+    requires count { state.old.progress.entries < 2 ^ 63 }
+    ensures { Remarks 1 (does (quits_next table)) state.old state.new }
+{
+    if let Some(next) = state.next_table(table) {
+        state.stop_table(next);
+    }
+}
+
+fn switch<const P: usize, const J: usize, const OUT: usize>(
+    state: &mut CoreState<'_, P, J, OUT>,
+    from: TableRef,
+    to: TableRef,
+) -> ServiceResult
+    requires from { IsTrue (is_own_object state.old.view.own (table_object from)) }
+    requires to { IsTrue (is_own_object state.old.view.own (table_object to)) }
+    requires counter { IsTrue (are_of_one_counter state.old.view.own from to) }
+    requires count { state.old.progress.entries + 2 ≤ 2 ^ 63 }
+    ensures answer { Reads (answers_with (switch (from, to))) state.old result }
+    ensures effects { Remarks 2 (does (carries_out (switch (from, to)))) state.old state.new }
+{
+    if !state.table_status(to).is_stopped() {
+        return without_value(Status::EOsState);
+    }
+    if !state.table_status(from).is_running() {
+        return without_value(Status::EOsNofunc);
+    }
+    quit_next(state, from);
+    state.set_next_table(from, to);
+    without_value(Status::EOk)
+}
+
+fn stop<const P: usize, const J: usize, const OUT: usize>(
+    state: &mut CoreState<'_, P, J, OUT>,
+    table: TableRef,
+) -> ServiceResult
+    requires own { IsTrue (is_own_object state.old.view.own (table_object table)) }
+    requires count { state.old.progress.entries + 2 ≤ 2 ^ 63 }
+    ensures answer { Reads (answers_with (stop table)) state.old result }
+    ensures effects { Remarks 2 (does (carries_out (stop table))) state.old state.new }
+{
+    if state.table_status(table).is_stopped() {
+        return without_value(Status::EOsNofunc);
+    }
+    quit_next(state, table);
+    state.stop_table(table);
+    without_value(Status::EOk)
+}
+
+// A running job of one of the core's tasks starts a schedule table, whose first period begins after so many counts (AUTOSAR
+// SWS OS 4.x, SWS_Os_00278). The invalid identifier answers E_OS_ID, a table that is not stopped E_OS_STATE; an offset of 0, and one
+// above the counter's greatest value less the offset of the first point, E_OS_VALUE. Then the table stays as it was.
+fn start_schedule_table_rel<const P: usize, const J: usize, const OUT: usize>(
+    state: &mut CoreState<'_, P, J, OUT>,
+    runner: Runner,
+    target: Option<TableRef>,
+    offset: u32,
+    marks: &mut Vec<Mark>,
+)
+    requires { MayAct service_entries service_marks state.old runner marks.old }
+    ensures { Effects service_entries service_marks (does (starts_table_relative runner target offset)) state.old state.new marks.old marks.new }
+{
+    let answer = match own_of(state, target) {
+        Some(table) => start_relative(state, table, offset),
+        None => without_value(Status::EOsId),
+    };
+    finish(
+        state,
+        runner,
+        ServiceId::StartScheduleTableRel,
+        answer,
+        marks,
+    );
+}
+
+// Its first period begins when its counter has this value, the present one after a full turn (AUTOSAR SWS OS 4.x,
+// SWS_Os_00351). The refusals are those of `start_schedule_table_rel`, but E_OS_VALUE answers a value above the counter's
+// greatest.
+fn start_schedule_table_abs<const P: usize, const J: usize, const OUT: usize>(
+    state: &mut CoreState<'_, P, J, OUT>,
+    runner: Runner,
+    target: Option<TableRef>,
+    start: u32,
+    marks: &mut Vec<Mark>,
+)
+    requires { MayAct service_entries service_marks state.old runner marks.old }
+    ensures { Effects service_entries service_marks (does (starts_table_absolute runner target start)) state.old state.new marks.old marks.new }
+{
+    let answer = match own_of(state, target) {
+        Some(table) => start_absolute(state, table, start),
+        None => without_value(Status::EOsId),
+    };
+    finish(
+        state,
+        runner,
+        ServiceId::StartScheduleTableAbs,
+        answer,
+        marks,
+    );
+}
+
+// A table waits for the end of a period of another one, to begin in its place; one that waited for it stops (AUTOSAR SWS OS
+// 4.x, SWS_Os_00284 and SWS_Os_00324). The invalid identifier and two tables of different counters answer E_OS_ID, a second table
+// that is not stopped E_OS_STATE, a first one that does not run E_OS_NOFUNC. Then both stay as they were.
+fn next_schedule_table<const P: usize, const J: usize, const OUT: usize>(
+    state: &mut CoreState<'_, P, J, OUT>,
+    runner: Runner,
+    from: Option<TableRef>,
+    to: Option<TableRef>,
+    marks: &mut Vec<Mark>,
+)
+    requires { MayAct service_entries service_marks state.old runner marks.old }
+    ensures { Effects service_entries service_marks (does (switches_tables runner from to)) state.old state.new marks.old marks.new }
+{
+    let answer = match own_pair(state, from, to) {
+        Some((from, to)) => switch(state, from, to),
+        None => without_value(Status::EOsId),
+    };
+    finish(state, runner, ServiceId::NextScheduleTable, answer, marks);
+}
+
+// A table stops, or waits no longer; one that waits for it stops too (AUTOSAR SWS OS 4.x, SWS_Os_00281). The invalid
+// identifier answers E_OS_ID, a table that is stopped E_OS_NOFUNC.
+fn stop_schedule_table<const P: usize, const J: usize, const OUT: usize>(
+    state: &mut CoreState<'_, P, J, OUT>,
+    runner: Runner,
+    target: Option<TableRef>,
+    marks: &mut Vec<Mark>,
+)
+    requires { MayAct service_entries service_marks state.old runner marks.old }
+    ensures { Effects service_entries service_marks (does (stops_table runner target)) state.old state.new marks.old marks.new }
+{
+    let answer = match own_of(state, target) {
+        Some(table) => stop(state, table),
+        None => without_value(Status::EOsId),
+    };
+    finish(state, runner, ServiceId::StopScheduleTable, answer, marks);
+}
+
+// Whether a table is stopped, 0, waits for another one, 1, or runs, 2 (AUTOSAR SWS OS 4.x, SWS_Os_00289 to SWS_Os_00291; the
+// numbers: own). The invalid identifier answers E_OS_ID.
+fn get_schedule_table_status<const P: usize, const J: usize, const OUT: usize>(
+    state: &mut CoreState<'_, P, J, OUT>,
+    runner: Runner,
+    target: Option<TableRef>,
+    marks: &mut Vec<Mark>,
+)
+    requires { MayAct service_entries service_marks state.old runner marks.old }
+    ensures { Effects service_entries service_marks (does (gets_table_status runner target)) state.old state.new marks.old marks.new }
+{
+    let answer = match own_of(state, target) {
+        Some(table) => tell_status(state, table),
+        None => without_value(Status::EOsId),
+    };
+    finish(
+        state,
+        runner,
+        ServiceId::GetScheduleTableStatus,
+        answer,
+        marks,
+    );
+}
+
+fn tell_status<const P: usize, const J: usize, const OUT: usize>(
+    state: &CoreState<'_, P, J, OUT>,
+    table: TableRef,
+) -> ServiceResult
+    requires own { IsTrue (is_own_object state.now.view.own (table_object table)) }
+    ensures { Reads (answers_with (status_inquiry table)) state.now result }
+{
+    let status = state.table_status(table);
+    ServiceResult {
+        status: Status::EOk,
+        value: Some(i64::from(status.number())),
+    }
+}
+
+// Two tables that a script names, if both are the core's own and go by one counter.
+fn own_pair<const P: usize, const J: usize, const OUT: usize>(
+    state: &CoreState<'_, P, J, OUT>,
+    from: Option<TableRef>,
+    to: Option<TableRef>,
+) -> Option<(TableRef, TableRef)>
+    ensures value { result ≡ own_pair state.now.view.own from to }
+    ensures from { IfSome result (λ pair. IsTrue (is_own_object state.now.view.own (table_object pair.0))) }
+    ensures to { IfSome result (λ pair. IsTrue (is_own_object state.now.view.own (table_object pair.1))) }
+    ensures counter { IfSome result (λ pair. IsTrue (are_of_one_counter state.now.view.own pair.0 pair.1)) }
+{
+    let from = own_of(state, from)?;
+    let to = own_of(state, to)?;
+    if are_of_one_counter(state, from, to) {
+        return Some((from, to));
+    }
+    None
+}
+
+fn are_of_one_counter<const P: usize, const J: usize, const OUT: usize>(
+    state: &CoreState<'_, P, J, OUT>,
+    table: TableRef,
+    other: TableRef,
+) -> bool
+    ensures { result ≡ are_of_one_counter state.now.view.own table other }
+{
+    match (state.table(Some(table)), state.table(Some(other))) {
+        (Some(table), Some(other)) => is_same_counter(table.counter, other.counter),
+        _ => false,
+    }
+}
+
+fn is_same_counter(counter: CounterRef, other: CounterRef) -> bool
+    ensures { result ≡ same_counter counter other }
+{
+    counter == other
+}
+
+/// An operation of a running job of one of the core's tasks, if it is a service of schedule tables: it is done, and the answer
+/// is yes. Else nothing changes.
+pub fn operate<const P: usize, const J: usize, const OUT: usize>(
+    state: &mut CoreState<'_, P, J, OUT>,
+    step: Step,
+    marks: &mut Vec<Mark>,
+) -> bool
+    requires { MayAct service_entries service_marks state.old step.runner marks.old }
+    ensures { Offered (table_acts step.runner step.op) result state.old state.new marks.old marks.new }
+{
+    let runner = step.runner;
+    match step.op {
+        Op::StartScheduleTableRel(target, offset) => {
+            start_schedule_table_rel(state, runner, target, offset, marks);
+            true
+        }
+        Op::StartScheduleTableAbs(target, start) => {
+            start_schedule_table_abs(state, runner, target, start, marks);
+            true
+        }
+        Op::NextScheduleTable(from, to) => {
+            next_schedule_table(state, runner, from, to, marks);
+            true
+        }
+        Op::StopScheduleTable(target) => {
+            stop_schedule_table(state, runner, target, marks);
+            true
+        }
+        Op::GetScheduleTableStatus(target, _) => {
+            get_schedule_table_status(state, runner, target, marks);
+            true
+        }
+        _ => false,
+    }
+}

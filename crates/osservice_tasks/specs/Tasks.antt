@@ -1,0 +1,65 @@
+-- The services of tasks.
+use Rattle.std.specs.Prelude.{Option, Some, None, List, [], ◌∷◌}
+use Rattle.osbase.specs.declared.statuses.Status.TheVariants.{EOk, EOsLimit, EOsMissingend}
+use Rattle.osbase.specs.declared.statuses.ServiceId.TheVariants as ServiceId
+use Rattle.osbase.specs.declared.references.TaskRef.{TaskRef}
+use Rattle.osbase.specs.declared.references.Runner.{Runner}
+use Rattle.osbase.specs.declared.marks.Mark.TheVariants as Mark
+use Rattle.oscript.specs.declared.Op.{Op}
+use Rattle.osservice.specs.Acts.{Acts, both, look, prints}
+use Rattle.osservice.specs.Callers.{by_task, holding_checks}
+use Rattle.osservice.specs.Checks.{Check}
+use Rattle.osservice.specs.Returning.{answers, returns}
+use Rattle.osservice.specs.Seen.{Seen, is_at_limit}
+use Rattle.osservice.specs.Service.{Service, without_value}
+use Rattle.osservice_tasks.specs.Events.{clears_event, gets_event, waits_event}
+use Rattle.osservice_tasks.specs.Interrupts.{reports_suspended, resumes_interrupts, suspends_interrupts}
+use Rattle.osservice_tasks.specs.Resources.{gets_resource, releases_resource}
+
+-- A job of the task begins. [OSEK/VDX OS 2.2.3, section 4.3]
+abbrev pub activates : TaskRef → Acts
+activates t = prints (Mark.Activated t)
+
+-- A task is activated where it stands: no more jobs than allowed. [OSEK/VDX OS 2.2.3, section 13.2.3.1]
+abbrev pub activation : TaskRef → Seen → Service
+activation t s = without_value ((is_at_limit s t, EOsLimit) ∷ []) (activates t)
+
+-- The runner's oldest job ends by its own act: PostTaskHook comes first. [OSEK/VDX OS 2.2.3, section 11.5]
+abbrev pub ends : Runner → Acts
+ends (Runner.Task t) = both (prints (Mark.PostTaskHook t)) (prints (Mark.Terminated t))
+ends (Runner.Isr i) = prints (Mark.IsrLeft i)
+
+-- A job that reaches the end of its script: a task is ended by the OS with E_OS_MISSINGEND, and with no other status; an ISR ends.
+-- [AUTOSAR SWS OS 4.x, SWS_Os_00069, SWS_Os_00052]
+abbrev pub ends_without_terminate : Runner → Acts
+ends_without_terminate (Runner.Task t) = both (prints (Mark.ErrorHook EOsMissingend)) (ends (Runner.Task t))
+ends_without_terminate (Runner.Isr i) = both (reports_suspended (Runner.Isr i)) (ends (Runner.Isr i))
+
+-- What TerminateTask and Schedule check: that a task calls, then that its job holds no resource and no spinlock.
+-- [OSEK/VDX OS 2.2.3, section 8.2, 13.2.3.2 and 13.2.3.4; AUTOSAR SWS OS 4.x, SWS_Os_00612 and SWS_Os_00624]
+abbrev pub task_checks : Seen → Runner → List Check
+task_checks s r = by_task r ∷ holding_checks s r
+
+-- A job ends itself. [OSEK/VDX OS 2.2.3, section 13.2.3.2]
+abbrev pub terminates : Runner → Acts
+terminates r = look (λ s. answers r ServiceId.TerminateTask (task_checks s r) (ends r))
+
+-- Schedule returns E_OK, and by that line its caller gives way within this item. This matters only if the caller's task cannot
+-- be preempted. [OSEK/VDX OS 2.2.3, section 13.2.3.4]
+abbrev pub schedules : Runner → Acts
+schedules r = look (λ s. answers r ServiceId.Schedule (task_checks s r) (returns r ServiceId.Schedule EOk None))
+
+-- ---- the operations that are services of tasks, resources, events and interrupts
+
+-- The table of the family: what an operation does for a runner, if it is one of these services.
+abbrev pub task_acts : Runner → Op → Option Acts
+task_acts r Op.TerminateTask = Some (terminates r)
+task_acts r Op.Schedule = Some (schedules r)
+task_acts r (Op.GetResource target) = Some (gets_resource r target)
+task_acts r (Op.ReleaseResource target) = Some (releases_resource r target)
+task_acts r (Op.ClearEvent mask) = Some (clears_event r mask)
+task_acts r (Op.GetEvent target x) = Some (gets_event r target)
+task_acts r (Op.WaitEvent mask) = Some (waits_event r mask)
+task_acts r Op.SuspendAllInterrupts = Some (suspends_interrupts r)
+task_acts r Op.ResumeAllInterrupts = Some (resumes_interrupts r)
+task_acts r op = None

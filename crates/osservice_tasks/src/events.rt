@@ -1,0 +1,262 @@
+//! The services of events.
+
+ghost use Rattle.std.specs.Prelude.{◌≡◌, IsTrue, true, false};
+ghost use Rattle.osjobs.specs.Priorities.{is_extended, is_own_runner};
+ghost use Rattle.osstate.specs.Does.{Effects, Reads, service_entries, service_marks};
+ghost use Rattle.osservice.specs.Terms.{MayAct};
+ghost use Rattle.osservice.specs.Acts.{does};
+ghost use Rattle.osservice.specs.Checks.{first_failing, is_ok_status};
+ghost use Rattle.osservice.specs.Seen.{seen_of};
+ghost use Rattle.osservice.specs.Service.{answers_with, carries_out};
+ghost use Rattle.osservice_tasks.specs.Events.{begins_to_wait, clearing_checks, clears_and_returns, clears_event, event_checks, gets_event, goes_on_or_waits, reading, releases, sets_events, setting, waiting_checks, waits_event};
+
+use crate::tasks::status_of_holding;
+use osbase::{Mark, Runner, ServiceId, Status, TaskRef};
+use osservice::{ServiceResult, accept, finish, is_ok, own_of, refuse, without_value};
+use osstate::CoreState;
+
+// The first check that fails of those that concern the task whose events are set or read.
+fn status_of_events<const P: usize, const J: usize, const OUT: usize>(
+    state: &CoreState<'_, P, J, OUT>,
+    task: TaskRef,
+) -> Status
+    requires own { IsTrue (is_own_runner state.now.view.own (Runner.Task task)) }
+    ensures reads { Reads (λ v h. first_failing (event_checks (seen_of v h) task)) state.now result }
+    ensures extended { IsTrue (is_ok_status result) → is_extended state.now.view.own (Runner.Task task) ≡ true }
+{
+    if !state.is_extended(Runner::Task(task)) {
+        Status::EOsAccess
+    } else if state.is_suspended(task) {
+        Status::EOsState
+    } else {
+        Status::EOk
+    }
+}
+
+/// Events of a task are set on its own core, where its state is known; if it waits for one of them, it
+/// waits no longer (OSEK/VDX OS 2.2.3, section 13.5.3.1). A task that is not extended answers E_OS_ACCESS, one that
+/// is suspended E_OS_STATE; then no event is set.
+pub fn set_events<const P: usize, const J: usize, const OUT: usize>(
+    state: &mut CoreState<'_, P, J, OUT>,
+    task: TaskRef,
+    mask: u32,
+    marks: &mut Vec<Mark>,
+) -> ServiceResult
+    requires { MayAct 2 2 state.old (Runner.Task task) marks.old }
+    ensures answer { Reads (answers_with (setting task mask)) state.old result }
+    ensures effects { Effects 2 2 (does (carries_out (setting task mask))) state.old state.new marks.old marks.new }
+    ensures refused { is_ok_status result.status ≡ false → Effects 0 0 (does (carries_out (setting task mask))) state.old state.new marks.old marks.new }
+    ensures border { state.new.border ≡ state.old.border }
+{
+    let status = status_of_events(state, task);
+    if !is_ok(status) {
+        return without_value(status);
+    }
+    set_and_release(state, task, mask, marks);
+    without_value(status)
+}
+
+fn set_and_release<const P: usize, const J: usize, const OUT: usize>(
+    state: &mut CoreState<'_, P, J, OUT>,
+    task: TaskRef,
+    mask: u32,
+    marks: &mut Vec<Mark>,
+)
+    requires act { MayAct 2 2 state.old (Runner.Task task) marks.old }
+    requires extended { is_extended state.old.view.own (Runner.Task task) ≡ true }
+    ensures effects { Effects 2 2 (does (sets_events task mask)) state.old state.new marks.old marks.new }
+    ensures border { state.new.border ≡ state.old.border }
+{
+    state.set_events(task, mask, marks);
+    release_from(state, task, mask, marks);
+}
+
+// A task that waits for one of these events waits no longer.
+fn release_from<const P: usize, const J: usize, const OUT: usize>(
+    state: &mut CoreState<'_, P, J, OUT>,
+    task: TaskRef,
+    mask: u32,
+    marks: &mut Vec<Mark>,
+)
+    requires act { MayAct 1 1 state.old (Runner.Task task) marks.old }
+    requires extended { is_extended state.old.view.own (Runner.Task task) ≡ true }
+    ensures effects { Effects 1 1 (does (releases task mask)) state.old state.new marks.old marks.new }
+    ensures border { state.new.border ≡ state.old.border }
+{
+    if osevent::awaits_one_of(state.events(Runner::Task(task)), mask) {
+        state.release(task, marks);
+    }
+}
+
+// What GetEvent answers for one of the core's tasks.
+fn read_events<const P: usize, const J: usize, const OUT: usize>(
+    state: &CoreState<'_, P, J, OUT>,
+    task: TaskRef,
+) -> ServiceResult
+    requires own { IsTrue (is_own_runner state.now.view.own (Runner.Task task)) }
+    ensures { Reads (answers_with (reading task)) state.now result }
+{
+    let status = status_of_events(state, task);
+    if !is_ok(status) {
+        return without_value(status);
+    }
+    let events = state.events(Runner::Task(task));
+    ServiceResult {
+        status,
+        value: Some(i64::from(events.set)),
+    }
+}
+
+/// A running job of one of the core's tasks asks which events of a task are set (OSEK/VDX OS 2.2.3, section
+/// 13.5.3.3). The invalid identifier, and a task of another core, answer E_OS_ID; a task that is not extended
+/// E_OS_ACCESS, one that is suspended E_OS_STATE. None of these has another effect.
+pub fn get_event<const P: usize, const J: usize, const OUT: usize>(
+    state: &mut CoreState<'_, P, J, OUT>,
+    runner: Runner,
+    target: Option<TaskRef>,
+    marks: &mut Vec<Mark>,
+)
+    requires { MayAct service_entries service_marks state.old runner marks.old }
+    ensures { Effects service_entries service_marks (does (gets_event runner target)) state.old state.new marks.old marks.new }
+{
+    let answer = match own_of(state, target) {
+        Some(task) => read_events(state, task),
+        None => without_value(Status::EOsId),
+    };
+    finish(state, runner, ServiceId::GetEvent, answer, marks);
+}
+
+// The first check that fails of those that a job makes which clears events of its own.
+fn status_of_caller<const P: usize, const J: usize, const OUT: usize>(
+    state: &CoreState<'_, P, J, OUT>,
+    runner: Runner,
+) -> Status
+    ensures reads { Reads (λ v h. first_failing (clearing_checks (seen_of v h) runner)) state.now result }
+    ensures extended { IsTrue (is_ok_status result) → is_extended state.now.view.own runner ≡ true }
+{
+    match runner {
+        Runner::Task(_) => {
+            if state.is_extended(runner) {
+                Status::EOk
+            } else {
+                Status::EOsAccess
+            }
+        }
+        Runner::Isr(_) => Status::EOsCallevel,
+    }
+}
+
+/// A running job of one of the core's tasks clears events of its own (OSEK/VDX OS 2.2.3, section 13.5.3.2). A task
+/// that is not extended answers E_OS_ACCESS, and no event is cleared.
+pub fn clear_event<const P: usize, const J: usize, const OUT: usize>(
+    state: &mut CoreState<'_, P, J, OUT>,
+    runner: Runner,
+    mask: u32,
+    marks: &mut Vec<Mark>,
+)
+    requires { MayAct service_entries service_marks state.old runner marks.old }
+    ensures { Effects service_entries service_marks (does (clears_event runner mask)) state.old state.new marks.old marks.new }
+{
+    let status = status_of_caller(state, runner);
+    if is_ok(status) {
+        clear(state, runner, mask, marks);
+    } else {
+        refuse(state, runner, ServiceId::ClearEvent, status, marks);
+    }
+}
+
+// The events are cleared, and the service returns.
+fn clear<const P: usize, const J: usize, const OUT: usize>(
+    state: &mut CoreState<'_, P, J, OUT>,
+    runner: Runner,
+    mask: u32,
+    marks: &mut Vec<Mark>,
+)
+    requires { MayAct service_entries service_marks state.old runner marks.old }
+    ensures { Effects service_entries service_marks (does (clears_and_returns runner mask)) state.old state.new marks.old marks.new }
+{
+    match runner {
+        Runner::Task(task) => {
+            state.clear_events(task, mask, marks);
+            accept(state, runner, ServiceId::ClearEvent, marks);
+        }
+        Runner::Isr(_) => accept(state, runner, ServiceId::ClearEvent, marks),
+    }
+}
+
+// The same of a job that waits, which may hold no resource and no spinlock either.
+fn status_of_waiting<const P: usize, const J: usize, const OUT: usize>(
+    state: &CoreState<'_, P, J, OUT>,
+    runner: Runner,
+) -> Status
+    requires own { IsTrue (is_own_runner state.now.view.own runner) }
+    ensures reads { Reads (λ v h. first_failing (waiting_checks (seen_of v h) runner)) state.now result }
+    ensures extended { IsTrue (is_ok_status result) → is_extended state.now.view.own runner ≡ true }
+{
+    let status = status_of_caller(state, runner);
+    if !is_ok(status) {
+        return status;
+    }
+    status_of_holding(state, runner)
+}
+
+/// A running job of one of the core's tasks waits until one of these events of its own is set (OSEK/VDX OS 2.2.3,
+/// section 13.5.3.4); if one is set, the job runs on at once. A task that is not extended answers E_OS_ACCESS, a job that
+/// holds a resource E_OS_RESOURCE, one that holds a spinlock E_OS_SPINLOCK; all of these go on.
+pub fn wait_event<const P: usize, const J: usize, const OUT: usize>(
+    state: &mut CoreState<'_, P, J, OUT>,
+    runner: Runner,
+    mask: u32,
+    marks: &mut Vec<Mark>,
+)
+    requires { MayAct service_entries service_marks state.old runner marks.old }
+    ensures { Effects service_entries service_marks (does (waits_event runner mask)) state.old state.new marks.old marks.new }
+{
+    let status = status_of_waiting(state, runner);
+    if is_ok(status) {
+        go_on_or_wait(state, runner, mask, marks);
+    } else {
+        refuse(state, runner, ServiceId::WaitEvent, status, marks);
+    }
+}
+
+// A job that waits for an event that is set runs on at once. The event stays set until the job clears it.
+fn go_on_or_wait<const P: usize, const J: usize, const OUT: usize>(
+    state: &mut CoreState<'_, P, J, OUT>,
+    runner: Runner,
+    mask: u32,
+    marks: &mut Vec<Mark>,
+)
+    requires act { MayAct service_entries service_marks state.old runner marks.old }
+    requires extended { is_extended state.old.view.own runner ≡ true }
+    ensures { Effects service_entries service_marks (does (goes_on_or_waits runner mask)) state.old state.new marks.old marks.new }
+{
+    let events = state.events(runner);
+    if osevent::have_common(mask, events.set) {
+        accept(state, runner, ServiceId::WaitEvent, marks);
+    } else {
+        begin_to_wait(state, runner, mask, marks);
+    }
+}
+
+// The job of one of the core's tasks leaves the running state and waits: PostTaskHook comes first (OSEK/VDX OS 2.2.3,
+// section 4.2.1 and 11.5).
+fn begin_to_wait<const P: usize, const J: usize, const OUT: usize>(
+    state: &mut CoreState<'_, P, J, OUT>,
+    runner: Runner,
+    mask: u32,
+    marks: &mut Vec<Mark>,
+)
+    requires act { MayAct service_entries service_marks state.old runner marks.old }
+    requires extended { is_extended state.old.view.own runner ≡ true }
+    ensures { Effects service_entries service_marks (does (begins_to_wait runner mask)) state.old state.new marks.old marks.new }
+{
+    match runner {
+        Runner::Task(task) => {
+            state.leave(task, marks);
+            state.wait(task, mask, marks);
+            state.complete(Runner::Task(task), Status::EOk, None);
+        }
+        Runner::Isr(_) => {}
+    }
+}

@@ -1,0 +1,219 @@
+//! The services of tasks.
+
+ghost use Rattle.std.specs.Prelude.{◌≡◌, ◌<◌, IsTrue, false};
+ghost use Rattle.osbase.specs.History.{job_count, without_oldest};
+ghost use Rattle.osbase.specs.Phases.{is_before_live};
+ghost use Rattle.osjobs.specs.Priorities.{is_own_runner};
+ghost use Rattle.osstate.specs.Does.{Effects, Reads, service_entries, service_marks};
+ghost use Rattle.osstate.specs.Sound.{activation_limit};
+ghost use Rattle.osservice.specs.Terms.{MayAct, Offered};
+ghost use Rattle.osservice.specs.Acts.{does};
+ghost use Rattle.osservice.specs.Callers.{holding_checks};
+ghost use Rattle.osservice.specs.Checks.{first_failing, is_ok_status};
+ghost use Rattle.osservice.specs.Seen.{seen_of};
+ghost use Rattle.osservice.specs.Service.{answers_with, carries_out};
+ghost use Rattle.osservice_tasks.specs.Tasks.{activation, ends, ends_without_terminate, schedules, task_acts, task_checks, terminates};
+
+use crate::events::{clear_event, get_event, wait_event};
+use crate::interrupts::{report_suspended, resume_interrupts, suspend_interrupts};
+use crate::resources::{get_resource, release_resource};
+use osbase::{Mark, Runner, ServiceId, Status, TaskRef};
+use oscript::Op;
+use osservice::{ServiceResult, Step, finish, is_ok, refuse, without_value};
+use osstate::CoreState;
+
+/// A task is activated on its own core, where the number of its live jobs is known
+/// (OSEK/VDX OS 2.2.3, section 13.2.3.1). A task with as many jobs as it may have answers E_OS_LIMIT, and
+/// nothing is activated.
+pub fn activate<const P: usize, const J: usize, const OUT: usize>(
+    state: &mut CoreState<'_, P, J, OUT>,
+    task: TaskRef,
+    marks: &mut Vec<Mark>,
+) -> ServiceResult
+    requires live { is_before_live state.old.progress.phase ≡ false }
+    requires acts { MayAct 1 1 state.old (Runner.Task task) marks.old }
+    ensures answer { Reads (answers_with (activation task)) state.old result }
+    ensures effects { Effects 1 1 (does (carries_out (activation task))) state.old state.new marks.old marks.new }
+    ensures refused { is_ok_status result.status ≡ false → Effects 0 0 (does (carries_out (activation task))) state.old state.new marks.old marks.new }
+    ensures border { state.new.border ≡ state.old.border }
+{
+    if state.is_at_limit(task) {
+        return without_value(Status::EOsLimit);
+    }
+    state.activate(task, marks);
+    without_value(Status::EOk)
+}
+
+/// The oldest job of one of the core's tasks ends by its own act: PostTaskHook comes first
+/// (OSEK/VDX OS 2.2.3, section 11.5). So the task has fewer jobs than it may have.
+pub fn end_task<const P: usize, const J: usize, const OUT: usize>(
+    state: &mut CoreState<'_, P, J, OUT>,
+    task: TaskRef,
+    marks: &mut Vec<Mark>,
+)
+    requires { MayAct 2 2 state.old (Runner.Task task) marks.old }
+    ensures effects { Effects 2 2 (does (ends (Runner.Task task))) state.old state.new marks.old marks.new }
+    ensures jobs { state.new.tasks.jobs ≡ without_oldest (Runner.Task task) state.old.tasks.jobs }
+    ensures below { job_count (Runner.Task task) state.new.tasks.jobs < activation_limit state.new.view.own (Runner.Task task) }
+{
+    state.leave(task, marks);
+    state.terminate(task, marks);
+}
+
+/// The oldest job of one of the core's tasks or ISRs ends by its own act.
+pub fn end<const P: usize, const J: usize, const OUT: usize>(
+    state: &mut CoreState<'_, P, J, OUT>,
+    runner: Runner,
+    marks: &mut Vec<Mark>,
+)
+    requires { MayAct 2 2 state.old runner marks.old }
+    ensures { Effects 2 2 (does (ends runner)) state.old state.new marks.old marks.new }
+{
+    match runner {
+        Runner::Task(task) => end_task(state, task, marks),
+        Runner::Isr(isr) => state.leave_isr(isr, marks),
+    }
+}
+
+/// A job of one of the core's tasks or ISRs reaches the end of its script. A task's is ended by the OS with
+/// E_OS_MISSINGEND (AUTOSAR SWS OS 4.x, SWS_Os_00052 and SWS_Os_00069); of an ISR that has interrupts suspended ErrorHook
+/// is called first, with E_OS_DISABLEDINT (SWS_Os_00368).
+pub fn end_without_terminate<const P: usize, const J: usize, const OUT: usize>(
+    state: &mut CoreState<'_, P, J, OUT>,
+    runner: Runner,
+    marks: &mut Vec<Mark>,
+)
+    requires { MayAct service_entries service_marks state.old runner marks.old }
+    ensures { Effects service_entries service_marks (does (ends_without_terminate runner)) state.old state.new marks.old marks.new }
+{
+    match runner {
+        Runner::Task(task) => {
+            state.print(Mark::ErrorHook(Status::EOsMissingend), marks);
+            end_task(state, task, marks);
+        }
+        Runner::Isr(_) => {
+            report_suspended(state, runner, marks);
+            end(state, runner, marks);
+        }
+    }
+}
+
+/// The first check that fails of what a job may not hold that ends itself, waits or gives way: a resource (OSEK/VDX OS
+/// 2.2.3, section 8.2), and then a spinlock (AUTOSAR SWS OS 4.x, E_OS_SPINLOCK).
+pub fn status_of_holding<const P: usize, const J: usize, const OUT: usize>(
+    state: &CoreState<'_, P, J, OUT>,
+    runner: Runner,
+) -> Status
+    requires own { IsTrue (is_own_runner state.now.view.own runner) }
+    ensures { Reads (λ v h. first_failing (holding_checks (seen_of v h) runner)) state.now result }
+{
+    if state.holds_resource(runner) {
+        Status::EOsResource
+    } else if state.newest_spinlock(runner).is_some() {
+        Status::EOsSpinlock
+    } else {
+        Status::EOk
+    }
+}
+
+// The first check that fails of those that a job makes which ends itself or gives way.
+fn status_of_task<const P: usize, const J: usize, const OUT: usize>(
+    state: &CoreState<'_, P, J, OUT>,
+    runner: Runner,
+) -> Status
+    requires own { IsTrue (is_own_runner state.now.view.own runner) }
+    ensures { Reads (λ v h. first_failing (task_checks (seen_of v h) runner)) state.now result }
+{
+    match runner {
+        Runner::Task(_) => status_of_holding(state, runner),
+        Runner::Isr(_) => Status::EOsCallevel,
+    }
+}
+
+// A running job of one of the core's tasks ends itself (OSEK/VDX OS 2.2.3, section 13.2.3.2). One that holds a
+// resource answers E_OS_RESOURCE, one that holds a spinlock E_OS_SPINLOCK; both go on.
+fn terminate<const P: usize, const J: usize, const OUT: usize>(
+    state: &mut CoreState<'_, P, J, OUT>,
+    runner: Runner,
+    marks: &mut Vec<Mark>,
+)
+    requires { MayAct service_entries service_marks state.old runner marks.old }
+    ensures { Effects service_entries service_marks (does (terminates runner)) state.old state.new marks.old marks.new }
+{
+    let status = status_of_task(state, runner);
+    if is_ok(status) {
+        end(state, runner, marks);
+    } else {
+        refuse(state, runner, ServiceId::TerminateTask, status, marks);
+    }
+}
+
+// A running job of one of the core's tasks lets a job of greater priority run, also where its task cannot
+// be preempted (OSEK/VDX OS 2.2.3, section 13.2.3.4). One that holds a resource answers E_OS_RESOURCE, one that holds a
+// spinlock E_OS_SPINLOCK; neither gives way.
+fn schedule<const P: usize, const J: usize, const OUT: usize>(
+    state: &mut CoreState<'_, P, J, OUT>,
+    runner: Runner,
+    marks: &mut Vec<Mark>,
+)
+    requires { MayAct service_entries service_marks state.old runner marks.old }
+    ensures { Effects service_entries service_marks (does (schedules runner)) state.old state.new marks.old marks.new }
+{
+    let answer = ServiceResult {
+        status: status_of_task(state, runner),
+        value: None,
+    };
+    finish(state, runner, ServiceId::Schedule, answer, marks);
+}
+
+/// An operation of a running job of one of the core's tasks or ISRs, if it is a service of tasks, resources, events or interrupts: it
+/// is done, and the answer is yes. Else nothing changes.
+pub fn operate<const P: usize, const J: usize, const OUT: usize>(
+    state: &mut CoreState<'_, P, J, OUT>,
+    step: Step,
+    marks: &mut Vec<Mark>,
+) -> bool
+    requires { MayAct service_entries service_marks state.old step.runner marks.old }
+    ensures { Offered (task_acts step.runner step.op) result state.old state.new marks.old marks.new }
+{
+    let runner = step.runner;
+    match step.op {
+        Op::TerminateTask => {
+            terminate(state, runner, marks);
+            true
+        }
+        Op::Schedule => {
+            schedule(state, runner, marks);
+            true
+        }
+        Op::GetResource(target) => {
+            get_resource(state, runner, target, marks);
+            true
+        }
+        Op::ReleaseResource(target) => {
+            release_resource(state, runner, target, marks);
+            true
+        }
+        Op::ClearEvent(mask) => {
+            clear_event(state, runner, mask, marks);
+            true
+        }
+        Op::GetEvent(target, _) => {
+            get_event(state, runner, target, marks);
+            true
+        }
+        Op::WaitEvent(mask) => {
+            wait_event(state, runner, mask, marks);
+            true
+        }
+        Op::SuspendAllInterrupts => {
+            suspend_interrupts(state, runner);
+            true
+        }
+        Op::ResumeAllInterrupts => {
+            resume_interrupts(state, runner);
+            true
+        }
+        _ => false,
+    }
+}

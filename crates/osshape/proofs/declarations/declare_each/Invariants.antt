@@ -1,8 +1,0 @@
-use Rattle.std.proofs.Common.{◌≡◌, ◌++◌, map, drop}
-use Rattle.std.specs.List.{enumerate_from}
-use Rattle.osshape.specs.Declarations.{declaration, declared_as}
-use Rattle.osshape.proofs.declarations.declare_each.Given as goal
-
--- with what is still to come
-abbrev pub invariant-loop-index : goal.invariant-loop-index
-invariant-loop-index l = l.declared ++ map (declaration l.core l.kind) (enumerate_from l.index (drop l.index l.objects)) ≡ l.initial.declared ++ declared_as l.core l.kind l.objects

@@ -1,0 +1,66 @@
+-- What contracts see of a shared object and of a core's seat at it.
+use Rattle.std.specs.Prelude.{◌≡◌, ◌==◌, ◌||◌, Bool, false, List, [], ◌∷◌, ◌++◌}
+use mathlib.Core.List.{IsPrefix}
+use Rattle.atomic_table.specs.Seated.{TableId}
+use Rattle.osbase.specs.declared.references.CoreId.{CoreId}
+use Rattle.osshared.specs.declared.histories.Entry.{Entry}
+use Rattle.osshared.specs.declared.histories.Plan.{Plan}
+use Rattle.osshared.specs.Histories.{Object, IsLegal, calls_by}
+
+-- The core is one of these.
+abbrev pub has : List CoreId → CoreId → Bool
+has [] c = false
+has (d ∷ ds) c = (c.number == d.number) || has ds c
+
+-- No core stands twice.
+abbrev pub AllApart : List CoreId → Type 0
+AllApart [] = Unit {0}
+AllApart (c ∷ cs) = (has cs c ≡ false) × AllApart cs
+
+-- A shared object: which one it is, and what it was made with.
+pub record Place (A : Type 0) : Type 0 where
+  pub table : TableId
+  pub plan : Plan A
+
+-- A core's seat: at which object, of which core, the history up to its last call, and its own calls in order. [own]
+pub record Held (A C R : Type 0) : Type 0 where
+  pub place : Place A
+  pub core : CoreId
+  pub seen : List (Entry C R)
+  pub mine : List (Entry C R)
+
+-- A core's seat that has made no call.
+abbrev pub fresh : {A C R : Type 0} → Place A → CoreId → Held A C R
+fresh p c = record { place = p; core = c; seen = []; mine = [] }
+
+-- A call of a core from its seat. There is one legal history: it begins with all that the core had seen, ends with
+-- the call, and of the core's calls it has those that were made from this seat, once each, in their order. [own]
+pub record Extends {A S C R : Type 0} (o : Object A S C R) (old : Held A C R) (e : Entry C R) (new : Held A C R) : Type 0 where
+  pub place : new.place ≡ old.place
+  pub core : new.core ≡ old.core
+  pub between : List (Entry C R)
+  pub seen : new.seen ≡ (old.seen ++ between) ++ e ∷ []
+  pub mine : new.mine ≡ old.mine ++ e ∷ []
+  pub legal : IsLegal o old.place.plan.about new.seen
+  pub own : calls_by new.core new.seen ≡ new.mine
+
+abbrev pub cores_of : {A C R : Type 0} → List (Held A C R) → List CoreId
+cores_of [] = []
+cores_of (s ∷ ss) = s.core ∷ cores_of ss
+
+-- Each seat is at this object.
+abbrev pub AllAt : {A C R : Type 0} → Place A → List (Held A C R) → Type 0
+AllAt p [] = Unit {0}
+AllAt p (s ∷ ss) = (s.place ≡ p) × AllAt p ss
+
+-- The history begins with what each seat has seen, and has its calls, once each, in their order.
+abbrev pub AllStand : {A C R : Type 0} → List (Entry C R) → List (Held A C R) → Type 0
+AllStand log [] = Unit {0}
+AllStand log (s ∷ ss) = (IsPrefix s.seen log × (calls_by s.core log ≡ s.mine)) × AllStand log ss
+
+-- One history is legal and has the calls of all seats, and no others. [own]
+pub record IsOneHistory {A S C R : Type 0} (o : Object A S C R) (plan : Plan A) (seats : List (Held A C R)) : Type 0 where
+  pub log : List (Entry C R)
+  pub legal : IsLegal o plan.about log
+  pub stand : AllStand log seats
+  pub others : (c : CoreId) → has plan.cores c ≡ false → calls_by c log ≡ []

@@ -1,0 +1,225 @@
+//! The words of an object, and the seats from which cores call it.
+
+ghost use Rattle.std.specs.Prelude.{◌≡◌, ℕ, ◌<◌, ◌==◌, List, Some, length, map, slice_index, slice_set, bit_or, IfOk};
+ghost use prog.Atomic.{either};
+ghost use Rattle.osshared.specs.Histories.{entry};
+ghost use Rattle.osshared.specs.Seats.{AllApart, AllAt, Extends, IsOneHistory, cores_of, fresh};
+ghost use Rattle.osshared.specs.Views.{IsStep};
+
+use crate::histories::{Plan, SharedObject, View};
+use atomic_table::{Join, Play, Seat, Split, Table, TableRule};
+use osbase::CoreId;
+use std::alloc::{AllocError, Global};
+use std::marker::{Brand, Model, PhantomData};
+
+/// What a seat at an object knows.
+type Sight<O> = View<
+    <O as SharedObject>::About,
+    <O as SharedObject>::Call,
+    <O as SharedObject>::Reply,
+>;
+
+/// One legal history replays to the words, each seat's `seen` begins it, and its calls are the seats' `mine`.
+pub struct OneHistory<O> {
+    object: PhantomData<O>,
+}
+
+impl<O: SharedObject> TableRule<(), Sight<O>, Plan<O::About>> for OneHistory<O> {
+    ghost use Rattle.osshared.specs.Views.{Kept, dealer};
+
+    ghost holds = { Kept O.object O.stands };
+
+    ghost first = { λ plan. dealer plan plan.cores };
+}
+
+/// The call that a step makes, for the proof alone: a step cannot read it off the words. A call of the
+/// functions below at `Brand` picks it.
+pub trait Asked<C> {
+    ghost use Rattle.std.specs.Prelude.{Option};
+
+    ghost call: { Option C };
+}
+
+impl<C> Asked<C> for Brand {
+    ghost use Rattle.std.specs.Prelude.{None};
+
+    ghost call = { None };
+}
+
+/// A step is one call of its seat's core.
+struct Making<O, W> {
+    marker: PhantomData<(O, W)>,
+}
+
+impl<O: SharedObject, W: Asked<O::Call>> Play<(), Sight<O>> for Making<O, W> {
+    ghost use Rattle.osshared.specs.Views.{made};
+
+    ghost then = { λ s me found m. made O.object O.answer W.call me found m };
+}
+
+/// The seat of the first core that has none yet, and the seats that are taken in at the end.
+struct Seating<O> {
+    object: PhantomData<O>,
+}
+
+impl<O: SharedObject> Split<Sight<O>> for Seating<O> {
+    ghost use Rattle.osshared.specs.Views.{dealt, dealt_rest};
+
+    ghost left = { dealt_rest };
+
+    ghost right = { dealt };
+}
+
+impl<O: SharedObject> Join<Sight<O>> for Seating<O> {
+    ghost use Rattle.osshared.specs.Views.{joined, spent};
+
+    ghost both = { joined };
+
+    ghost spent = { spent O.blank };
+}
+
+/// The last look of a seat that has taken in all others.
+impl<O: SharedObject> Play<(), Sight<O>> for Seating<O> {
+    ghost use Rattle.osshared.specs.Views.{Whole};
+
+    ghost then = { λ s me found m. Whole O.object me.0 m.0 };
+}
+
+/// The seat of one core, which makes its calls from it.
+#[derive(Drop)]
+pub struct CoreSeat<O: SharedObject> {
+    core: CoreId,
+    seat: Seat<(), Sight<O>>,
+}
+
+impl<O: SharedObject> Model for CoreSeat<O> {
+    ghost use Rattle.osshared.specs.Seats.{Held};
+    ghost use Rattle.osshared.specs.Views.{held_at, IsSeated};
+
+    ghost Value = { Held O.About O.Call O.Reply };
+
+    ghost view = { λ s. held_at s.seat.table_id s.core s.seat.me };
+
+    ghost invariant = { λ s. IsSeated s.core s.seat.me };
+}
+
+impl<O: SharedObject> CoreSeat<O> {
+    /// The core that has the seat.
+    pub fn core(&self) -> CoreId
+        ensures { result ≡ self.now.core }
+    {
+        self.core
+    }
+}
+
+/// The words of an object.
+#[derive(Drop)]
+pub struct SharedWords<O: SharedObject> {
+    table: Table<(), Sight<O>, Plan<O::About>, OneHistory<O>, Global>,
+}
+
+impl<O: SharedObject> Model for SharedWords<O> {
+    ghost use Rattle.std.specs.Prelude.{◌<◌};
+    ghost use Rattle.osshared.specs.Seats.{Place, AllApart};
+
+    ghost Value = { Place O.About };
+
+    ghost view = { λ w. record { table = w.table.shared.table_id; plan = w.table.shared.key } };
+
+    ghost invariant = { λ w. (0 < w.table.shared.table_id.words) × AllApart w.table.shared.key.cores };
+}
+
+impl<O: SharedObject> SharedWords<O> {
+    /// An object on which nothing was called, in these words, and a seat for each core of the plan.
+    pub fn new(
+        alloc: Global,
+        words: &[u64],
+        plan: &Plan<O::About>,
+    ) -> Result<(SharedWords<O>, Vec<CoreSeat<O>>), AllocError>
+        requires words { 0 < length words.now }
+        requires cores { AllApart plan.now.cores }
+        requires stands { O.stands (O.object.first plan.now.about) words.now }
+        ensures object { IfOk result (λ r. r.0.plan ≡ plan.now) }
+        ensures words { IfOk result (λ r. r.0.table.words ≡ length words.now) }
+        ensures seats { IfOk result (λ r. r.1.items ≡ map (λ c. fresh r.0 c) plan.now.cores) }
+    {
+        let cores = plan.cores.as_slice();
+        let mut seats = Vec::with_capacity(alloc, cores.len())?;
+        let (table, mut dealer) = Table::of_words(alloc, words, plan)?;
+        for core in cores {
+            let seat = table.shared.split_seat::<Seating<O>>(&mut dealer);
+            seats.push(CoreSeat { core: *core, seat })?;
+        }
+        Ok((SharedWords { table }, seats))
+    }
+
+    /// A call whose step reads a word. The result is the word.
+    pub fn load<W: Asked<O::Call>>(&self, seat: &mut CoreSeat<O>, word: usize, call: O::Call) -> u64
+        requires asked { W.call ≡ Some call }
+        requires place { seat.old.place ≡ self.now }
+        requires word { word < self.now.table.words }
+        requires step { IsStep O.object O.stands O.answer seat.old.core call word (λ n. n) }
+        ensures { Extends O.object seat.old (entry seat.old.core call (O.answer seat.old.core call result)) seat.new }
+    {
+        self.table.shared.load::<Making<O, W>>(&mut seat.seat, word)
+    }
+
+    /// A call whose step puts a word in place of another that it expects. The result is the word that was there.
+    pub fn compare_exchange<W: Asked<O::Call>>(
+        &self,
+        seat: &mut CoreSeat<O>,
+        word: usize,
+        expected: u64,
+        new: u64,
+        call: O::Call,
+    ) -> u64
+        requires asked { W.call ≡ Some call }
+        requires place { seat.old.place ≡ self.now }
+        requires word { word < self.now.table.words }
+        requires step { IsStep O.object O.stands O.answer seat.old.core call word (λ n. either (n == expected) new n) }
+        ensures { Extends O.object seat.old (entry seat.old.core call (O.answer seat.old.core call result)) seat.new }
+    {
+        self.table
+            .shared
+            .compare_exchange::<Making<O, W>>(&mut seat.seat, word, expected, new)
+    }
+
+    /// A call whose step sets bits of a word. The result is the word before.
+    pub fn fetch_or<W: Asked<O::Call>>(
+        &self,
+        seat: &mut CoreSeat<O>,
+        word: usize,
+        bits: u64,
+        call: O::Call,
+    ) -> u64
+        requires asked { W.call ≡ Some call }
+        requires place { seat.old.place ≡ self.now }
+        requires word { word < self.now.table.words }
+        requires step { IsStep O.object O.stands O.answer seat.old.core call word (λ n. bit_or n bits) }
+        ensures { Extends O.object seat.old (entry seat.old.core call (O.answer seat.old.core call result)) seat.new }
+    {
+        self.table
+            .shared
+            .fetch_or::<Making<O, W>>(&mut seat.seat, word, bits)
+    }
+
+    /// All seats together show one legal history, with their calls and no others.
+    pub fn gather(&self, mut seats: Vec<CoreSeat<O>>)
+        requires places { AllAt self.now seats.items }
+        requires cores { cores_of seats.items ≡ self.now.plan.cores }
+        ensures { IsOneHistory O.object self.now.plan seats.items }
+    {
+        let Some(last) = seats.pop() else {
+            return;
+        };
+        let CoreSeat { core: _, mut seat } = last;
+        while let Some(next) = seats.pop() {
+            let CoreSeat {
+                core: _,
+                seat: other,
+            } = next;
+            self.table.shared.join_seat::<Seating<O>>(&mut seat, other);
+        }
+        self.table.shared.load::<Seating<O>>(&mut seat, 0);
+    }
+}

@@ -1,0 +1,40 @@
+-- Numbers and their words.
+use Rattle.std.proofs.Common.{rules, ◌≡◌, ◌≢◌, ℕ, ◌<◌, ◌≤◌, ◌^◌, ◌==◌, ◌&&◌, true, false, List, [], ◌∷◌, length, get_or, pos, option_map, None, Err, refl, sym, ap, ◌∙◌, arith}
+use Rattle.std.specs.Char.{is_ascii_digit}
+use Rattle.std.specs.List.{list_all}
+use Rattle.std.specs.Str.Parse.{digits_value, ParsesUnsigned}
+use Rattle.std.proofs.lemmas.Bool.{and_parts}
+use Rattle.std.proofs.lemmas.Str.Parse.{IsNumeralModel, numerals_by_value, parse_plain}
+use Rattle.std.proofs.lemmas.Grind.{common_steps}
+use Rattle.ossyntax.specs.Word.{is_unpadded, is_decimal, bounded, number_in, int_of}
+
+pub own : IsNumeralModel (λ ds. list_all is_ascii_digit ds ≡ true) (digits_value 10)
+own = numerals_by_value _ (search rules)
+
+pub decimal-digits : (word : List ℕ) → is_decimal word ≡ true → list_all is_ascii_digit word ≡ true
+decimal-digits word e = (and_parts (is_unpadded word) _ e).1
+
+pub decimal-some : (word : List ℕ) → is_decimal word ≡ true → 0 < length word
+decimal-some [] e = cc
+decimal-some (d ∷ ds) e = omega arith
+
+pub lack-plus : (word : List ℕ) → list_all is_ascii_digit word ≡ true → get_or word 0 0 ≢ 43
+lack-plus [] e = grind arith
+lack-plus (d ∷ ds) e = λ is. let f = ap (λ x. is_ascii_digit x && list_all is_ascii_digit ds) (sym is) ∙ e in cc
+
+pub bounded-none : (low high n : ℕ) → (n ≤ high → ⊥) → bounded low high n ≡ None
+bounded-none low high n lack = let lt : high < n = omega arith in grind (arith, common_steps)
+
+-- a number past 64 bits is past every limit of 64 bits
+pub too-large : {E : Type 0} (low high : ℕ) (word : List ℕ) (e : E) → high < 2 ^ 64 → is_decimal word ≡ true → ParsesUnsigned 64 10 word (Err e) → number_in low high word ≡ None
+too-large low high word e lt is h =
+    let lack = parse_plain own 64 word (Err e) h (lack-plus word (decimal-digits word is)) in
+    rw is (bounded-none low high (digits_value 10 word) (λ le. lack (decimal-digits word is, decimal-some word is, omega arith)))
+
+-- without a minus a signed number is one that is not
+pub int_of-plain : (word : List ℕ) → ((ys : List ℕ) → word ≢ 45 ∷ ys) → int_of word ≡ option_map (λ n. pos n) (number_in 0 9223372036854775807 word)
+int_of-plain [] lack = refl
+int_of-plain (c ∷ cs) lack =
+    let other : c ≢ 45 = λ is. lack cs (ap (λ x. x ∷ cs) is) in
+    let test : (c == 45) ≡ false = search (rules, other) in
+    rw test refl

@@ -1,0 +1,15 @@
+use Rattle.std.proofs.Common.{Some, None, lit<}
+use Rattle.std.proofs.lemmas.Str.Pattern.{split_once_first, split_parts}
+use Rattle.std.proofs.lemmas.List.Splits.{slice_split_first, slice_split_none}
+use Rattle.std.proofs.Common.{◌==◌}
+use Rattle.ossyntax.proofs.Wording.{no-byte}
+use Rattle.ossyntax.proofs.words.cut.Goals as goal
+
+pub returns-in-Some : goal.returns-in-Some
+returns-in-Some c =
+    let p = split_once_first 32 c.args.text.now (Some (c.in-Some.word, c.in-Some.rest)) c.in-Some.ensures.cases (lit< tt) in
+    rw (p.1, p.2) (slice_split_first (λ b. b == 32) c.args.text.now 0 p.0)
+
+pub returns-in-None : goal.returns-in-None
+returns-in-None c =
+    slice_split_none (λ b. b == 32) c.args.text.now (no-byte 32 c.args.text.now (split_parts 32 c.args.text.now None c.in-None.ensures.cases (lit< tt)))

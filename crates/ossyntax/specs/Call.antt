@@ -1,0 +1,19 @@
+-- Calls across cores as words. [own]
+use Rattle.std.specs.Prelude.{ℕ, List, ◌∷◌, map}
+use Rattle.osbase.specs.declared.objects.ObjectKind.{ObjectKind}
+use Rattle.osbase.specs.declared.objects.Place.{Place}
+use Rattle.osbase.specs.declared.messages.RemoteCall.{RemoteCall}
+use Rattle.oscript.specs.Calls.{op_of_call}
+use Rattle.oscript.specs.Rows.{parsed_op_of, word_of}
+use Rattle.oscript.specs.declared.rows.Arg.{Arg}
+use Rattle.oscript.specs.declared.rows.Verb.{Verb}
+use Rattle.ossyntax.specs.ParsedOp.{arg_text}
+use Rattle.ossyntax.specs.Operation.{named}
+
+-- The words of a form: the operation's, and those of its arguments.
+abbrev pub form_words : (ObjectKind → Place → List ℕ) → Verb × List (Arg Place) → List (List ℕ)
+form_words name form = word_of form.0 ∷ map (λ a. arg_text (named name a)) form.1
+
+-- A call has the words of the operation that a script has for it.
+abbrev pub call_words : (ObjectKind → Place → List ℕ) → RemoteCall → List (List ℕ)
+call_words name call = form_words name (parsed_op_of (op_of_call call))

@@ -1,0 +1,5 @@
+pub mod Word
+pub mod ParsedOp
+pub mod Operation
+pub mod Action
+pub mod Call

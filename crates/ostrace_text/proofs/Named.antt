@@ -1,0 +1,34 @@
+-- If two configurations have the same cores among those whose objects a mark names, its line is the same by both. The check makes a case of each mark and
+-- each call, so a new one needs no line here.
+use native.Mathlib.Omega.{arith}
+use Rattle.std.proofs.Common.{◌≡◌, Bool, true, List, [], ◌∷◌, ◌++◌, ℕ, refl, ap, ◌∙◌}
+use Rattle.std.specs.List.{list_all}
+use Rattle.std.proofs.lemmas.Bool.{and_parts}
+use Rattle.osbase.specs.declared.references.CoreId.{CoreId}
+use Rattle.osbase.specs.declared.references.Runner.{Runner}
+use Rattle.osbase.specs.declared.messages.RemoteCall.{RemoteCall}
+use Rattle.osbase.specs.declared.marks.Mark.{Mark}
+use Rattle.osbase.specs.Marks.{core_of_runner, names_only}
+use Rattle.osbase.specs.Objects.{object_of_call}
+use Rattle.osplan.specs.declared.plans.Plan.{Plan}
+use Rattle.osplan.specs.Names.{runner_name}
+use Rattle.osplan.specs.View.{core_of}
+use Rattle.ostrace_text.specs.Trace.{call_words, line_end, line_of, lines_of, spaced, words_of}
+
+module _ (p q : Plan) (test : CoreId → Bool) (same : (core : CoreId) → test core ≡ true → core_of p core ≡ core_of q core) where
+  call-same : (call : RemoteCall) → test (object_of_call call).place.core ≡ true → call_words p call ≡ call_words q call
+  call-same call n = grind arith
+
+  runner-same : (r : Runner) → test (core_of_runner r) ≡ true → runner_name p r ≡ runner_name q r
+  runner-same r n = grind arith
+
+  words-same : (m : Mark) → names_only test m ≡ true → words_of p m ≡ words_of q m
+  words-same m n = grind (arith, call-same, runner-same)
+
+  -- So have lists of such marks.
+  pub lines-same : (marks : List Mark) → list_all (names_only test) marks ≡ true → lines_of p marks ≡ lines_of q marks
+  lines-same [] all = refl
+  lines-same (m ∷ ms) all =
+      let parts = and_parts (names_only test m) (list_all (names_only test) ms) all in
+      ap (λ (words : List (List ℕ)). (spaced words ++ line_end) ++ lines_of p ms) (words-same m parts.0)
+      ∙ ap (λ (rest : List ℕ). (line_of q m ++ line_end) ++ rest) (lines-same ms parts.1)

@@ -1,5 +1,0 @@
-use Rattle.std.proofs.Common.{Some, ap}
-use Rattle.osturn.proofs.asks.own_asked.Goals as goal
-
-pub returns-in-Start : goal.returns-in-Start
-returns-in-Start c = rw (c.in-Start.is, ← c.is_configured.ensures c.args.id) (ap Some c.starting.ensures)

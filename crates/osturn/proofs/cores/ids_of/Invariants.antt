@@ -1,6 +1,0 @@
-use Rattle.std.proofs.Common.{◌≡◌}
-use Rattle.osturn.proofs.Configured.{ids_below}
-use Rattle.osturn.proofs.cores.ids_of.Given as goal
-
-abbrev pub invariant-loop-number : goal.invariant-loop-number
-invariant-loop-number l = l.ids.items ≡ ids_below l.plan l.number

@@ -1,7 +1,0 @@
-use Rattle.std.proofs.Common.{sym, subst}
-use Rattle.osplan.specs.View.{view_of}
-use Rattle.osturn.proofs.Known.{IsKnown, own-known}
-use Rattle.osturn.proofs.seats.Seat.asked.Goals as goal
-
-pub returns-in-Own-clause-lock : goal.returns-in-Own-clause-lock
-returns-in-Own-clause-lock c = subst IsKnown (sym c.own_asked.ensures) (own-known (view_of c.args.plan.now c.args.self.now.id) _ c.want.result c.want.ensures.lock)

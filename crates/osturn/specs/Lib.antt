@@ -1,7 +1,0 @@
-pub mod Asking
-pub mod Fits
-pub mod Reports
-pub mod Groups
-pub mod Sound
-pub mod Ends
-pub mod Seats

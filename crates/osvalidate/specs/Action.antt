@@ -1,0 +1,20 @@
+-- The actions of alarms and schedule tables, and what the names in them refer to. [own]
+use Rattle.std.specs.Prelude.{ℕ, ◌||◌, not, Bool, unwrap_or, List}
+use Rattle.osvalidate.specs.Words.{Declaration, RemoteCall}
+use Rattle.oscript.specs.Calls.{action_of_op}
+use Rattle.ossyntax.specs.Action.{is_action}
+use Rattle.ossyntax.specs.Operation.{has_masks}
+use Rattle.osvalidate.specs.Operation.{is_operation_known, op_of}
+pub use Rattle.oscript.specs.Calls.{any_action}
+
+-- The action that a text means. If it is not in form, or its name has no task, it stands for one that is not used.
+abbrev pub action_of : List Declaration → List ℕ → RemoteCall
+action_of objects text = unwrap_or (action_of_op (op_of objects text)) any_action
+
+-- The name of an action in form is that of a task. Any other text has no names.
+abbrev pub is_action_known : List Declaration → List ℕ → Bool
+is_action_known objects text = not (is_action text) || is_operation_known objects text
+
+-- Each mask of an action in form is in its range. Any other text has no masks.
+abbrev pub is_action_masked : List ℕ → Bool
+is_action_masked text = not (is_action text) || has_masks text

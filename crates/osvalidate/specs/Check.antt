@@ -1,0 +1,257 @@
+-- The tests of a configuration's text, a row for each fault past its shape that a text can have so far. Each is defined apart from
+-- the others, over the text as it stands; `tests_of` says which of them pass over a name that is unknown or stands twice. [own]
+use Rattle.std.specs.Prelude.{ℕ, ◌&&◌, ◌||◌, not, true, Bool, Option, None, is_some, option_and_then, option_map, List, [], ◌∷◌, ◌++◌, length, map}
+use Rattle.std.specs.List.{list_all}
+use Rattle.std.specs.Option.{option_map_or}
+use Rattle.std.specs.Str.{bytes_eq}
+use Rattle.osvalidate.specs.Words.{AlarmStartText, AlarmText, ConfigText, CoreId, CoreText, Declaration, IsrText, PointText, SpinlockId, SpinlockText, TableStartText, TableText, TaskText}
+use Rattle.osbase.specs.declared.objects.ObjectKind.TheVariants.{Counter, Mode, Spinlock}
+use Rattle.osbase.specs.History.{same_core}
+use Rattle.ossyntax.specs.Action.{is_action}
+use Rattle.ossyntax.specs.Operation.{has_masks}
+use Rattle.osplan.specs.Representable.{are_distinct, dont_care, is_free_of_resources, is_jumping_within, is_reserved}
+use Rattle.osplan.specs.Limits.{CounterSizes, StartSizes, TableSizes, CoreSizes, Sizes, is_by, is_core_numbered, is_short, is_versioned, is_within, is_table_timed, has_number, are_numbers_distinct, is_local_to}
+use Rattle.osplan.specs.Spinlocks.{are_links_ordered}
+use Rattle.osplan.specs.declared.faults.ConfFault.TheVariants.{Limit, DuplicateName, UnknownName, WrongCore, SpinOrder, BadMask, BadTable, BadScript}
+use Rattle.osplan.specs.Fault.{Tests}
+use Rattle.osvalidate.specs.Action.{is_action_known, is_action_masked}
+use Rattle.osschema.specs.Declarations.{counter_declared, counter_ref, declarations, declared_sizes, id_of, names_of, place_of, spinlock_ref}
+pub use Rattle.osschema.specs.Shape.{task_sizes, isr_sizes, resource_sizes, counter_sizes, point_sizes}
+use Rattle.osschema.specs.Shape.{start_numbers, table_numbers, core_numbers, text_numbers}
+use Rattle.osvalidate.specs.Posted.{most_posts_per_tick}
+use Rattle.osvalidate.specs.Operation.{operations_of, op_of, named_op, is_operation_known, is_operation}
+
+-- ---- limits: those of a configuration, over the text's numbers
+
+-- The numbers of the counter of this name, where one object alone has the name, a counter.
+abbrev pub named_sizes : List Declaration → List ℕ → Option CounterSizes
+named_sizes objects counter = option_map declared_sizes (counter_declared objects counter)
+
+-- How an alarm by the counter of this name is autostarted.
+abbrev pub start_sizes : List Declaration → List ℕ → AlarmStartText → StartSizes
+start_sizes objects counter auto = start_numbers (named_sizes objects counter) auto
+
+abbrev pub alarm_sizes : List Declaration → AlarmText → Option StartSizes
+alarm_sizes objects alarm = option_map (start_sizes objects alarm.counter) alarm.auto
+
+-- The numbers of a table, and its counter's likewise.
+abbrev pub table_sizes : List Declaration → TableText → TableSizes
+table_sizes objects table = table_numbers (named_sizes objects table.counter) table
+
+-- The same without its counter's.
+abbrev pub table_times : TableText → TableSizes
+table_times table = table_numbers None table
+
+-- The scripts of a core: those of its tasks, and then those of its ISRs.
+abbrev pub core_scripts : CoreText → List (List ℕ)
+core_scripts core = map (λ (task : TaskText). task.script) core.tasks ++ map (λ (isr : IsrText). isr.script) core.isrs
+
+-- All numbers of a core that have limits.
+abbrev pub core_sizes : List Declaration → CoreText → CoreSizes
+core_sizes objects core = record (core_numbers core) {
+  alarms = map (alarm_sizes objects) core.alarms;
+  tables = map (table_sizes objects) core.tables;
+  posted = most_posts_per_tick objects core;
+  scripts = map (λ (script : List ℕ). length (operations_of script)) (core_scripts core);
+}
+
+-- Without its counters, its alarms and its tables.
+abbrev pub bare_sizes : CoreText → CoreSizes
+bare_sizes core = record (core_sizes [] core) { counters = []; alarms = []; tables = []; posted = 0 }
+
+-- All numbers of a text that have limits.
+abbrev pub sizes_of : ConfigText → Sizes
+sizes_of t = record (text_numbers t) { cores = map (core_sizes (declarations t)) t.cores }
+
+-- The numbers are within the limits.
+abbrev pub is_text_within : ConfigText → Bool
+is_text_within t = is_within (sizes_of t)
+
+-- The script has no more operations than it may have; the other limits are those of numbers, and need no look at scripts.
+abbrev pub is_script_short : List ℕ → Bool
+is_script_short script = is_short (length (operations_of script))
+
+abbrev pub is_core_short : CoreText → Bool
+is_core_short core = list_all is_script_short (core_scripts core)
+
+abbrev pub are_scripts_short : ConfigText → Bool
+are_scripts_short t = list_all is_core_short t.cores
+
+abbrev pub is_text_numbered : ConfigText → Bool
+is_text_numbered t = is_versioned (sizes_of t) && is_by is_core_numbered (sizes_of t)
+
+-- ---- names and numbers that stand twice
+
+-- The numbers of these cores.
+abbrev pub numbers_of : List CoreText → List (Option ℕ)
+numbers_of cores = map (λ (core : CoreText). core.id) cores
+
+-- The name refers to nothing else in a mode's place.
+abbrev pub is_unreserved : List ℕ → Bool
+is_unreserved name = not (is_reserved name)
+
+-- Every core number stands once, and every name, and no mode has a name that stands for something else.
+abbrev pub is_each_once : ConfigText → Bool
+is_each_once t = are_numbers_distinct (numbers_of t.cores) && are_distinct (names_of (declarations t)) && list_all is_unreserved t.modes
+
+-- ---- names and numbers that name nothing
+
+abbrev pub are_operations_known : List Declaration → List ℕ → Bool
+are_operations_known objects script = list_all (is_operation_known objects) (operations_of script)
+
+abbrev pub is_mode_known : List Declaration → List ℕ → Bool
+is_mode_known objects name = is_some (place_of objects Mode name)
+
+-- A core that says nothing of its mode, and one that goes with any, names none.
+abbrev pub is_core_mode_known : List Declaration → Option (List ℕ) → Bool
+is_core_mode_known objects mode = option_map_or (λ (name : List ℕ). bytes_eq name dont_care || is_mode_known objects name) mode true
+
+abbrev pub is_task_known : List Declaration → TaskText → Bool
+is_task_known objects task = list_all (is_mode_known objects) task.auto && are_operations_known objects task.script
+
+abbrev pub alarm_modes : AlarmText → List (List ℕ)
+alarm_modes alarm = option_map_or (λ (auto : AlarmStartText). auto.modes) alarm.auto []
+
+abbrev pub is_alarm_known : List Declaration → AlarmText → Bool
+is_alarm_known objects alarm = is_some (place_of objects Counter alarm.counter) && is_action_known objects alarm.action && list_all (is_mode_known objects) (alarm_modes alarm)
+
+abbrev pub is_point_known : List Declaration → PointText → Bool
+is_point_known objects point = list_all (is_action_known objects) point.actions
+
+abbrev pub table_modes : TableText → List (List ℕ)
+table_modes table = option_map_or (λ (auto : TableStartText). auto.modes) table.auto []
+
+abbrev pub is_table_known : List Declaration → TableText → Bool
+is_table_known objects table = is_some (place_of objects Counter table.counter) && list_all (is_point_known objects) table.points && list_all (is_mode_known objects) (table_modes table)
+
+abbrev pub is_core_known : List Declaration → CoreText → Bool
+is_core_known objects core =
+    is_core_mode_known objects core.mode
+    && (list_all (is_task_known objects) core.tasks && list_all (λ (isr : IsrText). are_operations_known objects isr.script) core.isrs
+    && list_all (is_alarm_known objects) core.alarms && list_all (is_table_known objects) core.tables)
+
+-- A spinlock without a successor names none.
+abbrev pub is_spinlock_known : List Declaration → SpinlockText → Bool
+is_spinlock_known objects spinlock = option_map_or (λ (next : List ℕ). is_some (place_of objects Spinlock next)) spinlock.next true
+
+-- The master is a configured core, and each name of a spinlock's successor, of a core's mode, in an autostart, an operation, an alarm
+-- or a table has its object.
+abbrev pub are_known : ConfigText → Bool
+are_known t = has_number (numbers_of t.cores) t.master && (list_all (is_spinlock_known (declarations t)) t.spinlocks && list_all (is_core_known (declarations t)) t.cores)
+
+-- ---- names of other cores' objects
+
+-- An operation that may name its own core's objects alone names no other core's, whatever its numbers are.
+abbrev pub is_operation_local : List Declaration → CoreId → List ℕ → Bool
+is_operation_local objects id text = is_local_to id (named_op objects text)
+
+abbrev pub is_script_local : List Declaration → CoreId → List ℕ → Bool
+is_script_local objects id script = list_all (is_operation_local objects id) (operations_of script)
+
+-- The alarm's counter, if there is one, stands on this core.
+abbrev pub is_alarm_local : List Declaration → CoreId → AlarmText → Bool
+is_alarm_local objects id alarm = same_core (counter_ref objects id alarm.counter).core id
+
+-- And the table's.
+abbrev pub is_table_local : List Declaration → CoreId → TableText → Bool
+is_table_local objects id table = same_core (counter_ref objects id table.counter).core id
+
+abbrev pub has_local_references : List Declaration → CoreText → Bool
+has_local_references objects core =
+    list_all (λ (task : TaskText). is_script_local objects (id_of core) task.script) core.tasks
+    && list_all (λ (isr : IsrText). is_script_local objects (id_of core) isr.script) core.isrs && list_all (is_alarm_local objects (id_of core)) core.alarms && list_all (is_table_local objects (id_of core)) core.tables
+
+-- So it is with each operation of each core's scripts, and with each alarm and each table.
+abbrev pub are_near : ConfigText → Bool
+are_near t = list_all (has_local_references (declarations t)) t.cores
+
+-- ---- the order of spinlocks
+
+-- The spinlock that comes next to one, if its name is known.
+abbrev pub successor : List Declaration → SpinlockText → Option SpinlockId
+successor objects spinlock = option_and_then (spinlock_ref objects) spinlock.next
+
+abbrev pub links_of : ConfigText → List (Option SpinlockId)
+links_of t = map (successor (declarations t)) t.spinlocks
+
+-- The successors of spinlocks have no cycle. [AUTOSAR SWS OS 4.x, OsSpinlockSuccessor]
+abbrev pub are_ordered : ConfigText → Bool
+are_ordered t = are_links_ordered (links_of t)
+
+-- ---- masks
+
+abbrev pub is_script_masked : List ℕ → Bool
+is_script_masked script = list_all has_masks (operations_of script)
+
+abbrev pub is_task_masked : TaskText → Bool
+is_task_masked task = is_script_masked task.script
+
+abbrev pub is_alarm_masked : AlarmText → Bool
+is_alarm_masked alarm = is_action_masked alarm.action
+
+abbrev pub is_point_masked : PointText → Bool
+is_point_masked point = list_all is_action_masked point.actions
+
+abbrev pub is_table_masked : TableText → Bool
+is_table_masked table = list_all is_point_masked table.points
+
+abbrev pub is_core_masked : CoreText → Bool
+is_core_masked core =
+    list_all is_task_masked core.tasks && list_all (λ (isr : IsrText). is_script_masked isr.script) core.isrs
+    && list_all is_alarm_masked core.alarms && list_all is_table_masked core.tables
+
+-- Each mask in an operation or an action in form is in its range.
+abbrev pub are_masks : ConfigText → Bool
+are_masks t = list_all is_core_masked t.cores
+
+-- ---- tables
+
+abbrev pub is_core_timed : List Declaration → CoreText → Bool
+is_core_timed objects core = list_all (λ (table : TableText). is_table_timed (table_sizes objects table)) core.tables
+
+-- The points of each table come in order, with delays that its counter admits.
+abbrev pub are_timed : ConfigText → Bool
+are_timed t = list_all (is_core_timed (declarations t)) t.cores
+
+-- ---- scripts
+
+-- Each operation of the script is in form and in range, and lets the job go on within the script.
+abbrev pub is_script : List Declaration → List ℕ → Bool
+is_script objects script = list_all is_operation (operations_of script) && is_jumping_within (map (op_of objects) (operations_of script))
+
+abbrev pub is_task_script : List Declaration → TaskText → Bool
+is_task_script objects task = is_script objects task.script
+
+-- And of an ISR's script none takes or gives back a resource; one of an unknown name passes.
+abbrev pub is_isr_script : List Declaration → List ℕ → Bool
+is_isr_script objects script = is_script objects script && is_free_of_resources (map (op_of objects) (operations_of script))
+
+-- The alarm's action is in form.
+abbrev pub is_alarm_acting : AlarmText → Bool
+is_alarm_acting alarm = is_action alarm.action
+
+-- And each action of the point.
+abbrev pub is_point_acting : PointText → Bool
+is_point_acting point = list_all is_action point.actions
+
+abbrev pub is_table_acting : TableText → Bool
+is_table_acting table = list_all is_point_acting table.points
+
+abbrev pub is_core_script : List Declaration → CoreText → Bool
+is_core_script objects core =
+    list_all (is_task_script objects) core.tasks && list_all (λ (isr : IsrText). is_isr_script objects isr.script) core.isrs
+    && list_all is_alarm_acting core.alarms && list_all is_table_acting core.tables
+
+-- So it is with each script, each alarm and each table.
+abbrev pub are_operations : ConfigText → Bool
+are_operations t = list_all (is_core_script (declarations t)) t.cores
+
+-- ---- the table, in ascending order of faults
+
+-- The tests of a configuration's text. Each holds if the text has not that fault, whatever other faults it has, but for these three
+-- exceptions. An operation with an unknown name, which has a smaller fault, passes that of another core's objects and, in an ISR's script,
+-- that of resources. A successor with an unknown name, which has a smaller fault, is none in the order of spinlocks. A limit or a time by
+-- the numbers of a counter, and what an action posts, is judged only if one object alone has the name, which has a fault of its own
+-- otherwise. [own]
+abbrev pub tests_of : ConfigText → Tests
+tests_of t = (Limit, is_text_within t) ∷ (DuplicateName, is_each_once t) ∷ (UnknownName, are_known t) ∷ (WrongCore, are_near t) ∷ (SpinOrder, are_ordered t) ∷ (BadMask, are_masks t) ∷ (BadTable, are_timed t) ∷ (BadScript, are_operations t) ∷ []

@@ -1,0 +1,94 @@
+-- What is right of each part of a text: its names, the cores that these are of, its masks and its form. [own]
+use Rattle.std.specs.Prelude.{◌≡◌, ◌⊎◌, ℕ, ◌&&◌, Bool, true, false, is_some, List, Result, Ok, Err}
+use Rattle.std.specs.List.{list_all}
+use Rattle.osbase.specs.declared.objects.ObjectKind.TheVariants.{Counter}
+use Rattle.osvalidate.specs.Words.{AlarmText, ConfigText, CoreId, CoreText, Declaration, Op, PointText, SpinlockText, TableText, TaskText}
+use Rattle.osbase.specs.History.{same_core}
+use Rattle.ossyntax.specs.Action.{is_action}
+use Rattle.ossyntax.specs.Operation.{has_masks}
+use Rattle.osplan.specs.declared.faults.ConfFault.{ConfFault}
+use Rattle.osplan.specs.declared.faults.ConfFault.TheVariants.{Limit, NoMemory}
+use Rattle.osschema.specs.Declarations.{counter_ref, declarations, place_of}
+use Rattle.osvalidate.specs.declared.verdicts.Judged.{Judged}
+use Rattle.osvalidate.specs.declared.verdicts.Verdict.{Verdict}
+use Rattle.osvalidate.specs.Action.{is_action_known, is_action_masked}
+use Rattle.osvalidate.specs.Operation.{is_operation, is_operation_known, op_of}
+use Rattle.osvalidate.specs.Check.{are_operations_known, is_alarm_acting, is_alarm_known, is_alarm_masked, is_alarm_local, is_core_known, is_core_masked, has_local_references, is_core_script, is_isr_script, is_operation_local, is_point_acting, is_point_known, is_point_masked, is_script, is_script_masked, is_script_local, is_spinlock_known, is_table_acting, is_table_known, is_table_masked, is_table_local, is_task_known, is_task_masked, is_task_script}
+
+-- Nothing is wrong.
+abbrev pub all_right : Verdict
+all_right = record { known = true; near = true; masked = true; formed = true }
+
+-- Of two parts, and of each of a list.
+abbrev pub both : Verdict → Verdict → Verdict
+both a b = record { known = a.known && b.known; near = a.near && b.near; masked = a.masked && b.masked; formed = a.formed && b.formed }
+
+abbrev pub each : {X : Type 0} → (X → Verdict) → List X → Verdict
+each f xs = record {
+  known = list_all (λ x. (f x).known) xs;
+  near = list_all (λ x. (f x).near) xs;
+  masked = list_all (λ x. (f x).masked) xs;
+  formed = list_all (λ x. (f x).formed) xs;
+}
+
+-- With further names, whether they are known.
+abbrev pub with_names : Bool → Verdict → Verdict
+with_names are_known v = record { known = are_known && v.known; near = v.near; masked = v.masked; formed = v.formed }
+
+-- ---- part by part
+
+abbrev pub op_verdict : List Declaration → CoreId → List ℕ → Verdict
+op_verdict objects id text = record { known = is_operation_known objects text; near = is_operation_local objects id text; masked = has_masks text; formed = is_operation text }
+
+abbrev pub script_verdict : List Declaration → CoreId → List ℕ → Verdict
+script_verdict objects id script = record {
+  known = are_operations_known objects script;
+  near = is_script_local objects id script;
+  masked = is_script_masked script;
+  formed = is_script objects script;
+}
+
+-- An action may name any core's task.
+abbrev pub action_verdict : List Declaration → List ℕ → Verdict
+action_verdict objects text = record { known = is_action_known objects text; near = true; masked = is_action_masked text; formed = is_action text }
+
+abbrev pub counter_verdict : List Declaration → CoreId → List ℕ → Verdict
+counter_verdict objects id name = record { known = is_some (place_of objects Counter name); near = same_core (counter_ref objects id name).core id; masked = true; formed = true }
+
+abbrev pub task_verdict : List Declaration → CoreId → TaskText → Verdict
+task_verdict objects id task = record { known = is_task_known objects task; near = is_script_local objects id task.script; masked = is_task_masked task; formed = is_task_script objects task }
+
+-- Of an ISR, by its script.
+abbrev pub isr_verdict : List Declaration → CoreId → List ℕ → Verdict
+isr_verdict objects id script = record (script_verdict objects id script) { formed = is_isr_script objects script }
+
+abbrev pub alarm_verdict : List Declaration → CoreId → AlarmText → Verdict
+alarm_verdict objects id alarm = record { known = is_alarm_known objects alarm; near = is_alarm_local objects id alarm; masked = is_alarm_masked alarm; formed = is_alarm_acting alarm }
+
+abbrev pub point_verdict : List Declaration → PointText → Verdict
+point_verdict objects point = record { known = is_point_known objects point; near = true; masked = is_point_masked point; formed = is_point_acting point }
+
+abbrev pub table_verdict : List Declaration → CoreId → TableText → Verdict
+table_verdict objects id table = record { known = is_table_known objects table; near = is_table_local objects id table; masked = is_table_masked table; formed = is_table_acting table }
+
+abbrev pub core_verdict : List Declaration → CoreText → Verdict
+core_verdict objects core = record { known = is_core_known objects core; near = has_local_references objects core; masked = is_core_masked core; formed = is_core_script objects core }
+
+-- Of a spinlock, by the name of its successor.
+abbrev pub spinlock_verdict : List Declaration → SpinlockText → Verdict
+spinlock_verdict objects spinlock = record { known = is_spinlock_known objects spinlock; near = true; masked = true; formed = true }
+
+-- Of all cores of a text, and of its spinlocks.
+abbrev pub text_verdict : ConfigText → Verdict
+text_verdict t = with_names (list_all (is_spinlock_known (declarations t)) t.spinlocks) (each (core_verdict (declarations t)) t.cores)
+
+-- ---- what a reading answers
+
+-- The operation of a text, and what is right of it.
+abbrev pub judged_op : List Declaration → CoreId → List ℕ → Judged Op
+judged_op objects id text = record { value = op_of objects text; verdict = op_verdict objects id text }
+
+-- The part as it is read, and what is right of it; or that it has too many operations; or that memory ran out.
+abbrev pub Judges : {X : Type 0} → Result (Judged X) ConfFault → Bool → X → Verdict → Type 0
+Judges (Ok judged) is_short value verdict = (is_short ≡ true) × (judged.value ≡ value) × (judged.verdict ≡ verdict)
+Judges (Err fault) is_short value verdict = (fault ≡ NoMemory) ⊎ ((fault ≡ Limit) × (is_short ≡ false))

@@ -1,0 +1,322 @@
+//! The operations and actions of a text, and what is right of them.
+
+ghost use Rattle.std.specs.Prelude.{◌≡◌, IfOk, Some, length, map, nat_le};
+ghost use Rattle.std.specs.List.{list_all, list_any};
+ghost use Rattle.oscript.specs.Calls.{any_action as any_action_value};
+ghost use Rattle.oscript.specs.Rows.{has_masks as has_events, uses_resource};
+ghost use Rattle.oscript.specs.declared.Op.{Op as OpValue};
+ghost use Rattle.ossyntax.specs.Operation.{op_of_text, place_of_any};
+ghost use Rattle.osplan.specs.Representable.{goes_within, is_jumping_within};
+ghost use Rattle.osplan.specs.Limits as limits;
+ghost use Rattle.osschema.specs.Declarations.{counter_ref, place_of};
+ghost use Rattle.osvalidate.specs.declared.verdicts.Judged.{Judged as JudgedValue};
+ghost use Rattle.osvalidate.specs.declared.verdicts.Verdict.{Verdict as VerdictValue};
+ghost use Rattle.osvalidate.specs.Action.{action_of, is_action_known, is_action_masked};
+ghost use Rattle.osvalidate.specs.Check.{is_operation_local};
+ghost use Rattle.osvalidate.specs.Operation.{is_operation, op_of, operations_of};
+ghost use Rattle.osvalidate.specs.Verdict.{Judges, action_verdict, counter_verdict, isr_verdict, judged_op, script_verdict};
+
+use crate::verdicts::{Judged, Verdict};
+use osbase::{
+    CoreId, CounterRef, List, OPERATIONS, ObjectKind, Place, Reference, RemoteCall, TaskRef,
+    is_name,
+};
+use oscript::{Op, Script, action_of_op};
+use osjson::{PartReader, Refusal, read_parts};
+use osplan::{ConfFault, is_local_to};
+use osschema::Objects;
+use ossyntax::{Places, has_masks, is_action, is_known, op_of_text, references_of_text};
+use std::alloc::{AllocError, Global};
+
+// Gives every name a place, so that a text is judged whatever its names refer to.
+#[derive(Clone, Copy)]
+struct AnyName;
+
+impl Places for AnyName {
+    ghost place = { λ _ kind name. place_of_any kind name };
+
+    fn place(&self, _kind: ObjectKind, name: &str) -> Option<Place> {
+        if is_name(name) {
+            Some(Place {
+                core: CoreId { number: 0 },
+                index: 0,
+            })
+        } else {
+            None
+        }
+    }
+}
+
+// Whether the text is an operation in form and in range.
+fn is_operation(text: &str) -> bool
+    ensures { result ≡ is_operation text.now }
+{
+    op_of_text(&AnyName, text).is_some()
+}
+
+fn is_operation_local(objects: &Objects, id: CoreId, text: &str) -> bool
+    ensures { result ≡ is_operation_local objects.now.declared id text.now }
+{
+    match references_of_text(objects, text) {
+        Some(op) => is_local_to(id, op),
+        None => true,
+    }
+}
+
+// Whether the operation lets its job go on within a script of so many operations, or past the last.
+fn goes_within(count: usize, op: Op) -> bool
+    ensures { result ≡ goes_within count op }
+{
+    match op.position() {
+        Some(position) => position as usize <= count,
+        None => true,
+    }
+}
+
+fn is_jumping_within(script: &[Op]) -> bool
+    ensures { result ≡ is_jumping_within script.now }
+{
+    script.iter().all(|op| goes_within(script.len(), *op))
+}
+
+fn are_near(id: CoreId, script: &[Op]) -> bool
+    ensures { result ≡ list_all (limits.is_local_to id) script.now }
+{
+    script.iter().all(|op| is_local_to(id, *op))
+}
+
+fn have_events(script: &[Op]) -> bool
+    ensures { result ≡ list_all has_events script.now }
+{
+    script.iter().all(|op| op.has_masks())
+}
+
+// Reads an operation that has no fault of a name or of its form.
+#[derive(Clone, Copy)]
+struct OpReader<'o, 'e> {
+    objects: &'o Objects<'e>,
+}
+
+impl PartReader<Op> for OpReader<'_, '_> {
+    ghost shape = { λ reader. op_of_text (place_of reader.objects.now.declared) };
+
+    fn read(&self, part: &str) -> Option<Op> {
+        op_of_text(self.objects, part)
+    }
+}
+
+// Reads any text as an operation, and judges it.
+#[derive(Clone, Copy)]
+struct OpJudge<'o, 'e> {
+    objects: &'o Objects<'e>,
+    core: CoreId,
+}
+
+impl PartReader<Judged<Op>> for OpJudge<'_, '_> {
+    ghost shape = { λ judge part. Some (judged_op judge.objects.now.declared judge.core part) };
+
+    fn read(&self, part: &str) -> Option<Judged<Op>> {
+        Some(Judged {
+            value: op_of_text(self.objects, part).unwrap_or(Op::Work),
+            verdict: Verdict {
+                known: is_known(self.objects, part),
+                near: is_operation_local(self.objects, self.core, part),
+                masked: has_masks(part),
+                formed: is_operation(part),
+            },
+        })
+    }
+}
+
+fn ops_of(alloc: Global, parts: &[Judged<Op>]) -> Result<Vec<Op>, AllocError>
+    ensures { IfOk result (λ ops. ops.items ≡ map (λ (part : JudgedValue OpValue). part.value) parts.now) }
+{
+    let mut ops = Vec::new(alloc);
+    for part in parts {
+        ops.push(part.value)?;
+    }
+    Ok(ops)
+}
+
+fn are_parts_known(parts: &[Judged<Op>]) -> bool
+    ensures { result ≡ list_all (λ (part : JudgedValue OpValue). part.verdict.known) parts.now }
+{
+    parts.iter().all(|part| part.verdict.known)
+}
+
+fn are_parts_near(parts: &[Judged<Op>]) -> bool
+    ensures { result ≡ list_all (λ (part : JudgedValue OpValue). part.verdict.near) parts.now }
+{
+    parts.iter().all(|part| part.verdict.near)
+}
+
+fn are_parts_masked(parts: &[Judged<Op>]) -> bool
+    ensures { result ≡ list_all (λ (part : JudgedValue OpValue). part.verdict.masked) parts.now }
+{
+    parts.iter().all(|part| part.verdict.masked)
+}
+
+fn are_parts_formed(parts: &[Judged<Op>]) -> bool
+    ensures { result ≡ list_all (λ (part : JudgedValue OpValue). part.verdict.formed) parts.now }
+{
+    parts.iter().all(|part| part.verdict.formed)
+}
+
+// The operations of a script that has too many, or not all of which mean one.
+fn judge_parts(
+    alloc: Global,
+    objects: &Objects,
+    core: CoreId,
+    script: &str,
+) -> Result<Judged<Script>, ConfFault>
+    ensures { Judges result (nat_le (length (operations_of script.now)) 256) (map (op_of objects.now.declared) (operations_of script.now)) (script_verdict objects.now.declared core script.now) }
+{
+    match read_parts(alloc, &OpJudge { objects, core }, script, ';', OPERATIONS) {
+        Ok(parts) => {
+            let ops = List::from_vec(ops_of(alloc, parts.as_slice())?);
+            let verdict = Verdict {
+                known: are_parts_known(parts.as_slice()),
+                near: are_parts_near(parts.as_slice()),
+                masked: are_parts_masked(parts.as_slice()),
+                formed: are_parts_formed(parts.as_slice()) & is_jumping_within(ops.as_slice()),
+            };
+            Ok(Judged {
+                value: ops,
+                verdict,
+            })
+        }
+        Err(Refusal::OutOfMemory) => Err(ConfFault::NoMemory),
+        Err(Refusal::Unfit) => Err(ConfFault::Limit),
+    }
+}
+
+/// The operations of a script, and what is right of them. `Limit` where there are too many. Where each of them means
+/// one, as in a text without a fault, it is read once, straight to the places of its names.
+pub fn judge_script(
+    alloc: Global,
+    objects: &Objects,
+    core: CoreId,
+    script: &str,
+) -> Result<Judged<Script>, ConfFault>
+    ensures { Judges result (nat_le (length (operations_of script.now)) 256) (map (op_of objects.now.declared) (operations_of script.now)) (script_verdict objects.now.declared core script.now) }
+{
+    match read_parts(alloc, &OpReader { objects }, script, ';', OPERATIONS) {
+        Ok(ops) => {
+            let verdict = Verdict {
+                known: true,
+                near: are_near(core, ops.as_slice()),
+                masked: have_events(ops.as_slice()),
+                formed: is_jumping_within(ops.as_slice()),
+            };
+            Ok(Judged {
+                value: ops,
+                verdict,
+            })
+        }
+        Err(Refusal::OutOfMemory) => Err(ConfFault::NoMemory),
+        Err(Refusal::Unfit) => judge_parts(alloc, objects, core, script),
+    }
+}
+
+fn uses_resource(script: &[Op]) -> bool
+    ensures { result ≡ list_any uses_resource script.now }
+{
+    script.iter().any(|op| op.uses_resource())
+}
+
+/// The same of an ISR's script, which takes and gives back no resource.
+pub fn judge_isr_script(
+    alloc: Global,
+    objects: &Objects,
+    core: CoreId,
+    script: &str,
+) -> Result<Judged<Script>, ConfFault>
+    ensures { Judges result (nat_le (length (operations_of script.now)) 256) (map (op_of objects.now.declared) (operations_of script.now)) (isr_verdict objects.now.declared core script.now) }
+{
+    let Judged { value, verdict } = judge_script(alloc, objects, core, script)?;
+    let formed = verdict.formed & !uses_resource(value.as_slice());
+    Ok(Judged {
+        value,
+        verdict: Verdict { formed, ..verdict },
+    })
+}
+
+fn is_action_known(objects: &Objects, text: &str) -> bool
+    ensures { result ≡ is_action_known objects.now.declared text.now }
+{
+    !is_action(text) || is_known(objects, text)
+}
+
+fn is_action_masked(text: &str) -> bool
+    ensures { result ≡ is_action_masked text.now }
+{
+    !is_action(text) || has_masks(text)
+}
+
+fn any_action() -> RemoteCall
+    ensures { result ≡ any_action_value }
+{
+    let core = CoreId { number: 0 };
+    RemoteCall::ActivateTask(TaskRef::at(Place { core, index: 0 }))
+}
+
+// A text that means no action.
+fn judge_other(objects: &Objects, text: &str) -> Judged<RemoteCall>
+    ensures value { result.value ≡ any_action_value }
+    ensures verdict { result.verdict ≡ action_verdict objects.now.declared text.now }
+{
+    Judged {
+        value: any_action(),
+        verdict: Verdict {
+            known: is_action_known(objects, text),
+            near: true,
+            masked: is_action_masked(text),
+            formed: is_action(text),
+        },
+    }
+}
+
+/// The action that a text means, and what is right of it. An action may name any core's task.
+pub fn judge_action(objects: &Objects, text: &str) -> Judged<RemoteCall>
+    ensures value { result.value ≡ action_of objects.now.declared text.now }
+    ensures verdict { result.verdict ≡ action_verdict objects.now.declared text.now }
+{
+    let Some(op) = op_of_text(objects, text) else {
+        return judge_other(objects, text);
+    };
+    let Some(action) = action_of_op(op) else {
+        return judge_other(objects, text);
+    };
+    Judged {
+        value: action,
+        verdict: Verdict {
+            known: true,
+            near: true,
+            masked: op.has_masks(),
+            formed: true,
+        },
+    }
+}
+
+/// The counter of a name, and whether there is one, and on this core.
+pub fn judge_counter(objects: &Objects, core: CoreId, name: &str) -> Judged<CounterRef>
+    ensures value { result.value ≡ counter_ref objects.now.declared core name.now }
+    ensures verdict { result.verdict ≡ counter_verdict objects.now.declared core name.now }
+{
+    match objects.place(ObjectKind::Counter, name) {
+        Some(place) => Judged {
+            value: CounterRef::at(place),
+            verdict: Verdict {
+                near: place.core.number == core.number,
+                ..Verdict::all_right()
+            },
+        },
+        None => Judged {
+            value: CounterRef { core, index: 0 },
+            verdict: Verdict {
+                known: false,
+                ..Verdict::all_right()
+            },
+        },
+    }
+}
