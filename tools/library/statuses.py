@@ -1,6 +1,6 @@
-"""Which statuses each service can return, as the tables of checks in docs/FORMATS.md have them.
+"""Which statuses each service can return, as the tables of checks in docs/SERVICES.md have them.
 
-`tools/tests/test_coverage.py` holds these to those tables.
+`tools/tests/test_services.py` holds these, and those tables, to the specifications.
 """
 
 from typing import Dict, Tuple
@@ -10,7 +10,7 @@ _CALLEVEL, _RESOURCE, _SPINLOCK = "E_OS_CALLEVEL", "E_OS_RESOURCE", "E_OS_SPINLO
 _NOFUNC, _STATE, _VALUE = "E_OS_NOFUNC", "E_OS_STATE", "E_OS_VALUE"
 _GETS_SPINLOCK = (_ID, "E_OS_INTERFERENCE_DEADLOCK", "E_OS_NESTING_DEADLOCK")
 
-# Of each service the statuses of its own checks.
+# Of each service the statuses of its own checks, in their order.
 CHECKED: Dict[str, Tuple[str, ...]] = {
     "ActivateTask": (_ID, _CORE, _LIMIT),
     "TerminateTask": (_CALLEVEL, _RESOURCE, _SPINLOCK),

@@ -15,3 +15,14 @@ def example(after: str) -> str:
             break
         found.append(line[4:])
     return "\n".join(found).strip("\n") + "\n"
+
+
+def part(after: str) -> list:
+    """The lines of such a text, but for `..`, which stands for lines that are left out."""
+    return [line for line in example(after).splitlines() if line != ".."]
+
+
+def is_part_of(lines: list, printed: str) -> bool:
+    """Whether some lines stand in a printed text, in their order."""
+    rest = iter(printed.splitlines())
+    return len(lines) > 0 and all(line in rest for line in lines)

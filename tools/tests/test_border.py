@@ -372,7 +372,8 @@ class Reports(unittest.TestCase):
     def test_the_document(self):
         with open(os.path.join(ROOT, "examples", "application", "config.json"), encoding="utf-8") as file:
             printed = border.report(model_of(file.read()))
-        self.assertEqual(printed, documents.example("Of `examples/application`:"))
+        lines = documents.part("Of `examples/application`, in part:")
+        self.assertTrue(documents.is_part_of(lines, printed), printed)
 
     def test_one_core(self):
         expected = (

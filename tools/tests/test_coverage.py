@@ -2,7 +2,6 @@
 
 import json
 import os
-import re
 import runpy
 import sys
 import unittest
@@ -53,31 +52,7 @@ def covered(*words, files):
     return called(MAIN, "--mcos", PROGRAM, *words, *files)
 
 
-def checks_of_formats():
-    """Of each service the statuses in the tables of checks of docs/FORMATS.md."""
-    found = {}
-    text = sample_runs.read("docs", "FORMATS.md")
-    for title, section in re.findall(r"\n### (.*)\n((?:(?!\n##).|\n(?!##))*)", text):
-        head = re.search(r"^\|(.*Check \| Status.*)\|$", section, re.MULTILINE)
-        if head is None:
-            continue
-        in_title = re.findall(r"\w+", title.replace(" and ", " "))
-        names = in_title
-        rows = section[head.end() :].split("\n\n")[0].strip().splitlines()[1:]
-        column = [cell.strip() for cell in head[1].split("|")].index("Status")
-        for row in rows:
-            cells = [cell.strip() for cell in row.strip("|").split("|")]
-            if head[1].strip().startswith("Operation") and cells[0]:
-                names = re.findall(r"`(\w+)", cells[0]) or in_title
-            for name in names:
-                found.setdefault(name, set()).add(cells[column])
-    return found
-
-
 class Statuses(unittest.TestCase):
-    def test_as_the_tables_of_the_document(self):
-        self.assertEqual({name: set(each) for name, each in statuses.CHECKED.items()}, checks_of_formats())
-
     def test_each_service_has_some(self):
         services = {name for name, each in formats.OPERATIONS.items() if each.is_service}
         self.assertEqual(services, set(statuses.CHECKED))
@@ -130,9 +105,12 @@ class Documents(unittest.TestCase):
 
     @needs_program
     def test_the_example(self):
-        printed = documents.example("`tools/coverage --require 95 config.json stimuli.json` prints")
+        lines = documents.part("`tools/coverage --require 95 config.json stimuli.json` prints, in part,")
         files = [os.path.join(INTERRUPTS, name) for name in ("config.json", "stimuli.json")]
-        self.assertEqual(covered("--require", "95", files=files), (1, printed, ""))
+        status, output, messages = covered("--require", "95", files=files)
+        self.assertEqual((status, messages), (1, ""))
+        self.assertTrue(documents.is_part_of(lines, output), output)
+        self.assertIn("\n  ActivateTask   2 E_OK, 1 E_OS_DISABLEDINT  E_OS_ID, E_OS_CORE, E_OS_LIMIT\n", output)
 
 
 @needs_program

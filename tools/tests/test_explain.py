@@ -1309,9 +1309,8 @@ class Files(unittest.TestCase):
         self.write("config.json", "")
         found = json.loads("\n".join(explain(self.folder, "--json", "config.json")[1]))
         with open(os.path.join(ROOT, "docs", "TOOLS.md"), encoding="utf-8") as file:
-            table = file.read().partition("| Member | JSON type | What it is |\n")[2].partition("\n\n")[0]
-        first_cells = [line.split("|")[1] for line in table.splitlines()]
-        self.assertEqual(list(found[0]), re.findall(r"`(\w+)`", "".join(first_cells)))
+            sentence = re.search(r"a list with an object for each line, with the members (.*)", file.read())[1]
+        self.assertEqual(list(found[0]), re.findall(r"`(\w+)`", sentence))
 
     def test_a_cut(self):
         application = os.path.join(ROOT, "examples", "application", "config.json")

@@ -1,4 +1,4 @@
-"""Holds the tables of tools/library/formats.py to those of docs/FORMATS.md, so that neither changes alone."""
+"""Holds the tables of tools/library/formats.py to docs/FORMATS.md and docs/SERVICES.md, so that none changes alone."""
 
 import os
 import re
@@ -8,10 +8,13 @@ import unittest
 sys.dont_write_bytecode = True
 TOOLS = os.path.dirname(os.path.dirname(os.path.abspath(__file__)))
 sys.path.insert(0, TOOLS)
+sys.path.insert(0, os.path.dirname(os.path.abspath(__file__)))
+import service_checks  # noqa: E402
 from library import formats, hints  # noqa: E402
 
 with open(os.path.join(os.path.dirname(TOOLS), "docs", "FORMATS.md"), encoding="utf-8") as _file:
     TEXT = _file.read()
+SERVICES = service_checks.document()
 
 
 def rows_behind(title):
@@ -163,7 +166,7 @@ class Operations(unittest.TestCase):
         written = set(re.findall(r"`([A-Z]\w+)`", sentence)) | {"ShutdownOS", "ShutdownAllCores"}
         self.assertIn("and the two shutdowns", sentence)
         self.assertEqual(written, set(formats.WITHOUT_STATUS))
-        ignored = re.search(r"(`\w+`, `\w+` and `\w+`) are ignored: no effect", TEXT)[1]
+        ignored = re.search(r"(`\w+`, `\w+` and `\w+`) are ignored: no effect", SERVICES)[1]
         self.assertEqual(tuple(re.findall(r"`(\w+)`", ignored)), formats.IGNORED_IF_SUSPENDED)
 
     def test_what_binds_a_core(self):
@@ -171,12 +174,12 @@ class Operations(unittest.TestCase):
         asks = re.search(r"no script of it has `(\w+)` or `(\w+)`", row).groups()
         self.assertEqual(asks, formats.ASKS_SHARED)
         self.assertIn("no script of any core, also of one that is off, has `%s`" % formats.HALTS_ALL, row)
-        self.assertIn("After the `stat` of a %s" % formats.WITHOUT_ERROR_HOOK, TEXT)
+        self.assertIn("After the `stat` of a %s" % formats.WITHOUT_ERROR_HOOK, SERVICES)
 
     def test_the_numbers_of_statuses(self):
-        start = TEXT.index("| Status | Number | When |")
-        rows = re.findall(r"(?m)^\| (E_\w+) \| (\d+) \|", TEXT[start:])
-        self.assertEqual([int(number) for _, number in rows], list(range(formats.GREATEST_STATUS + 1)))
+        listed = re.search(r"(?m)^\*\*The statuses\*\*, by their numbers: ((?:\d+ E_\w+(?:, |\.))+)", TEXT)[1]
+        numbers = re.findall(r"(\d+) E_\w+", listed)
+        self.assertEqual([int(number) for number in numbers], list(range(formats.GREATEST_STATUS + 1)))
 
     def test_the_operations_on_own_objects_alone(self):
         text = dict(rows_behind("Faults"))["6 WrongCore"]
@@ -187,13 +190,7 @@ class Operations(unittest.TestCase):
         self.assertEqual(written | {name for name, argument in known.items() if argument.kind == "table"}, own)
 
     def test_what_an_isr_may_not_call(self):
-        found, title = [], ""
-        for line in TEXT.splitlines():
-            title = line if line.startswith("### ") else title
-            if line.startswith("|") and line.count("the caller is an ISR | E_OS_CALLEVEL"):
-                # A table without a column for operations is of those in its title.
-                named = re.findall(r"`([A-Z]\w+)", line) or re.findall(r"[A-Z]\w+", title)
-                found += named
+        found = [name for name, checks in service_checks.in_document(SERVICES).items() if "E_OS_CALLEVEL" in checks]
         self.assertEqual(sorted(found), sorted(formats.FOR_TASKS))
 
     def test_what_the_script_of_an_isr_has_not(self):

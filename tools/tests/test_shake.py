@@ -316,8 +316,8 @@ class Documents(unittest.TestCase):
 
     @needs_program
     def test_the_members_of_a_finding(self):
-        rows = help_texts.section("shake").split("| Member | What it is |\n")[1].split("\n\n")[0].splitlines()[1:]
-        members = [name for row in rows for name in re.findall(r"`(\w+)`", row.split("|")[1])]
+        sentence = help_texts.section("shake").split("With `--json`, the members of a finding are ")[1].split("\n\n")[0]
+        members = re.findall(r"`(\w+)`", sentence)
         self.assertEqual(list(report(*FEW)["findings"][0]), members)
 
     @needs_program
@@ -328,8 +328,9 @@ class Documents(unittest.TestCase):
             status, output, messages = shaken(files=["config.json", "stimuli.json"])
         finally:
             os.chdir(here)
-        printed = documents.example("`tools/shake config.json stimuli.json` prints")
-        self.assertEqual((status, output, messages), (1, printed, ""))
+        lines = documents.part("`tools/shake config.json stimuli.json` prints, among others,")
+        self.assertEqual((status, messages), (1, ""))
+        self.assertTrue(documents.is_part_of(lines, output), output)
 
 
 @needs_program

@@ -496,10 +496,9 @@ class Commands(unittest.TestCase):
     def test_the_document(self):
         status, output, messages = self.run_stats()
         self.assertEqual((status, messages), (0, ""))
-        printed = output.splitlines()
-        lines = documents.example("Of `examples/engine`, the tables in part:").splitlines()
-        self.assertEqual([line for line in lines if line not in printed], [])
-        self.assertGreater(len(lines), 40)
+        lines = documents.part("Of `examples/engine`, the tables in part:")
+        self.assertTrue(documents.is_part_of(lines, output), output)
+        self.assertGreater(len(lines), 15)
 
     def test_json(self):
         status, output, _ = self.run_stats("--json")
