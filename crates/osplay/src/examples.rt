@@ -77,13 +77,7 @@ passend
 last 0 E_OK
 
 replay 0
-core 0
-start 1 E_OK
-hook Startup
-act A
-pre A
-halt 0 E_OK
-hook Shutdown E_OK
+as run
 
 items 1
 on
@@ -99,12 +93,7 @@ passend
 last 0 E_OK
 
 replay 1
-core 1
-hook Startup
-act B
-pre B
-halt 0 E_OK
-hook Shutdown E_OK
+as run
 
 // A core that has drained takes no halt. It calls ShutdownHook at its end.
 stimuli {"0":"op"}
@@ -346,18 +335,7 @@ stim op
 drained
 
 replay 0
-core 0
-start 1 E_OK
-hook Startup
-act A
-pre A
-stat A GetSpinlock E_OK
-stat A GetSpinlock E_OS_INTERFERENCE_DEADLOCK
-hook Error E_OS_INTERFERENCE_DEADLOCK
-stat A GetSpinlock E_OS_NESTING_DEADLOCK
-hook Error E_OS_NESTING_DEADLOCK
-stat A TerminateTask E_OS_SPINLOCK
-hook Error E_OS_SPINLOCK
+as run
 
 items 1 -> 3
 on
@@ -372,11 +350,7 @@ tried S2 0
 stim op
 
 replay 1
-core 1
-hook Startup
-act B
-pre B
-stat B TryToGetSpinlock E_OK 0
+as run
 
 // Core 1 takes S2 first.
 turns "0o 1l 1o 0o 0l 1l 0o 1o 0l 1l 1o 1o 1o 0o 1o 0o 1o 0o 1o 0o 0l 1o"
@@ -593,14 +567,5 @@ passend
 last
 
 replay 1
-core 1
-hook Startup
-act B
-pre B
-stat B TryToGetSpinlock E_OK 0
-stat B TryToGetSpinlock E_OK 0
-stat B TryToGetSpinlock E_OK 1
-stat B ReleaseSpinlock E_OK
-post B
-end B
+as run
 "#;

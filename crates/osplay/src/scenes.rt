@@ -9,7 +9,7 @@ use std::alloc::{AllocError, Global};
 use std::sync::Wait;
 use std::thread::Threads;
 
-/// The files of a table's jobs, and what the job before printed.
+/// The files of a table's jobs, and what the job before and the last run printed.
 #[derive(Drop)]
 pub struct Scene<'a> {
     config: Option<String>,
@@ -21,6 +21,7 @@ pub struct Scene<'a> {
     // What comes into the place of an `@`, one after the other, with `|` between.
     values: &'a str,
     before: Block,
+    ran: String,
 }
 
 /// The lines of a block. What is reported begins with the line of a fault.
@@ -59,6 +60,7 @@ impl<'a> Scene<'a> {
             first: String::new(alloc),
             values: "",
             before: Block::new(alloc),
+            ran: String::new(alloc),
         }
     }
 
@@ -129,18 +131,36 @@ impl<'a> Scene<'a> {
         head: &str,
         block: Block,
     ) -> Result<usize, Difference> {
-        if block.printed.as_str() != "as before\n" {
-            self.before = block;
+        match block.printed.as_str() {
+            "as before\n" => {}
+            "as run\n" => self.before = self.as_run(alloc, head)?,
+            _ => self.before = block,
         }
         let mut jobs = 0usize;
         for value in self.values().split('|') {
             self.play_once(rt, alloc, head, value)?;
             jobs = jobs.saturating_add(1);
         }
+        let printed = self.before.printed.as_str();
         if head.starts_with("items ") {
-            self.log = Some(String::from_str(alloc, self.before.printed.as_str())?);
+            self.log = Some(String::from_str(alloc, printed)?);
+        } else if head.starts_with("run") {
+            self.ran = String::from_str(alloc, printed)?;
         }
         Ok(jobs)
+    }
+
+    // What the last run printed: of a replay's core its block.
+    fn as_run(&self, alloc: Global, head: &str) -> Result<Block, AllocError> {
+        let ran = self.ran.as_str();
+        let printed = match head.strip_prefix("replay ") {
+            Some(core) => block_of(alloc, ran, core)?,
+            None => String::from_str(alloc, ran)?,
+        };
+        Ok(Block {
+            printed,
+            reported: String::new(alloc),
+        })
     }
 
     // The values, if there is a place for them.
@@ -193,6 +213,23 @@ impl<'a> Scene<'a> {
         }
         Ok(files)
     }
+}
+
+// The block of a core in what a run printed. The run's last line belongs to none.
+fn block_of(alloc: Global, ran: &str, core: &str) -> Result<String, AllocError> {
+    let heading = format!(in alloc; "core {core}")?;
+    let mut block = String::new(alloc);
+    let mut is_here = false;
+    for line in ran.lines() {
+        if line.starts_with("core ") || line == "ended" || line == "stalled" {
+            is_here = line == heading.as_str();
+        }
+        if is_here {
+            block.push_str(line)?;
+            block.push_str("\n")?;
+        }
+    }
+    Ok(block)
 }
 
 fn has_place(text: &Option<String>) -> bool {

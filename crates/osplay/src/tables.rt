@@ -52,7 +52,8 @@ pub fn play_all(
 // `run`, `items CORE`, `replay CORE`, `check`, `cut CORE`, `groups`, `group CORE`, `threads TURNS`, `threads TURNS CORE` or
 // `threads TURNS order`: a job, and what it prints. `threads locked ..`: with locked mailboxes in place of rings.
 // A last line `fault ..` is reported, and the job exits with 1; else it exits with 0, or with the N of `JOB -> N`. The one line
-// `as before` means the block of the job before. What `items` prints is the log of the jobs behind it.
+// `as before` means the block of the job before; `as run` what the last `run` printed, and under a `replay` the block of its core in
+// that. What `items` prints is the log of the jobs behind it.
 fn play(
     rt: &(impl Threads + Wait + Sync),
     alloc: Global,

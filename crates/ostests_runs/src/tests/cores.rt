@@ -54,15 +54,7 @@ passend
 last
 
 replay 0
-core 0
-start 15 E_OK
-hook Startup
-act A
-pre A
-out 15 ActivateTask B
-stat A ActivateTask E_OK
-post A
-end A
+as run
 
 items 15
 on
@@ -79,13 +71,7 @@ passend
 last
 
 replay 15
-core 15
-hook Startup
-act B
-in 0 ActivateTask B E_OK
-pre B
-post B
-end B
+as run
 
 // A core alone is of the same version.
 config {"version":2,"cores":[{"id":0,"start":[12]},{"id":12,"tasks":[{"name":"V","prio":1,"auto":["M"],"script":"add v0 3;TerminateTask"}]}]}

@@ -34,15 +34,7 @@ passend
 last
 
 replay 0
-core 0
-hook Startup
-act A
-pre A
-stat A GetResource E_OK
-tick
-tick
-hook Protection E_OS_PROTECTION_LOCKED
-end A
+as run
 
 // If the tick reaches the execution budget too, that alone is the fault.
 config {"cores":[{"id":0,"tasks":[{"name":"A","prio":1,"auto":["M"],"budget":2,"script":"GetResource R;work;ReleaseResource R;TerminateTask"}],"protection":"PRO_TERMINATETASKISR","resources":[{"name":"R","ceiling":1,"lock":2}]}]}

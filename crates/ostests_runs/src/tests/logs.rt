@@ -63,15 +63,7 @@ passend
 last
 
 replay 0
-core 0
-start 1 E_OK
-hook Startup
-act A
-pre A
-out 1 ActivateTask B
-stat A ActivateTask E_OK
-post A
-end A
+as run
 
 log open
 began 1 E_OK
@@ -106,13 +98,7 @@ passend
 last
 
 replay 1
-core 1
-hook Startup
-act B
-in 0 ActivateTask B E_OK
-pre B
-post B
-end B
+as run
 
 stimuli {}
 run
@@ -301,12 +287,7 @@ passend
 last
 
 replay 2
-core 2
-hook Startup
-act V
-pre V
-post V
-end V
+as run
 
 // Cores that are not separate, and others that there are not.
 cut 0

@@ -40,11 +40,7 @@ passend
 last
 
 replay 1
-core 1
-hook Startup
-act B
-pre B
-hook Shutdown E_OK
+as run
 
 // A core that awaits a reply takes no halt.
 first
@@ -129,11 +125,7 @@ passend
 last 0 E_OS_ID
 
 replay 1
-core 1
-hook Startup
-act B
-pre B
-hook Shutdown E_OK
+as run
 
 // Core 1 is down when core 0 asks for a shutdown of all.
 config {"cores":[{"id":0,"start":[1],"tasks":[{"name":"A","prio":1,"auto":["M"],"script":"work;ShutdownAllCores 0"}]},{"id":1,"tasks":[{"name":"B","prio":1,"auto":["M"],"script":"ShutdownOS 5"}]}]}
@@ -166,11 +158,7 @@ passend
 last 0 E_OK
 
 replay 1
-core 1
-hook Startup
-act B
-pre B
-hook Shutdown E_OS_NOFUNC
+as run
 
 // A core that is down takes no halt, whether it has drained or not.
 turns "0o 1l 1o 0o 0l 1l 0o 1o 0l 1l 0o 1o 0o 0o 1l 1o 1l"
@@ -257,16 +245,7 @@ passend
 last 1 E_OS_STATE
 
 replay 0
-core 0
-start 1 E_OK
-hook Startup
-tick
-alarm L1
-out 1 ActivateTask P
-alarm L2
-out 1 ActivateTask Q
-halt 1 E_OS_STATE
-hook Shutdown E_OS_STATE
+as run
 
 items 1
 on
@@ -283,12 +262,7 @@ passend
 last 1 E_OS_STATE
 
 replay 1
-core 1
-hook Startup
-act X
-pre X
-halt 1 E_OS_STATE
-hook Shutdown E_OS_STATE
+as run
 
 // A core that has asked and was not halted yet serves others, and dispatches nothing.
 config {"cores":[{"id":0,"start":[1],"counters":[{"name":"C","max":9}],"alarms":[{"name":"L","counter":"C","action":"ActivateTask P","auto":{"modes":["M"],"start":1,"cycle":0}}]},{"id":1,"tasks":[{"name":"X","prio":2,"auto":["M"],"script":"ShutdownAllCores 0"},{"name":"P","prio":3,"script":"TerminateTask"}]}]}

@@ -63,25 +63,7 @@ passend
 last
 
 replay 0
-core 0
-start 1 E_OK
-hook Startup
-act A
-act N
-pre A
-stat A GetSpinlock E_OK
-stat A GetSpinlock E_OK
-hook Error E_OS_MISSINGEND
-post A
-end A
-act H
-in 1 ActivateTask H E_OK
-pre H
-post H
-end H
-pre N
-post N
-end N
+as run
 
 items 1
 on
@@ -102,16 +84,7 @@ passend
 last
 
 replay 1
-core 1
-hook Startup
-act B
-pre B
-out 0 ActivateTask H
-stat B ActivateTask E_OK
-stat B GetSpinlock E_OK
-stat B ReleaseSpinlock E_OK
-post B
-end B
+as run
 
 // Of two the newest comes first, after a job's end, and after a halt.
 first
@@ -296,14 +269,7 @@ passend
 last 0 E_OS_LIMIT
 
 replay 0
-core 0
-start 1 E_OK
-hook Startup
-act A
-pre A
-stat A GetSpinlock E_OK
-halt 0 E_OS_LIMIT
-hook Shutdown E_OS_LIMIT
+as run
 
 items 1
 on
@@ -318,12 +284,7 @@ passend
 last 0 E_OS_LIMIT
 
 replay 1
-core 1
-hook Startup
-act B
-pre B
-halt 0 E_OS_LIMIT
-hook Shutdown E_OS_LIMIT
+as run
 "#;
 
 const DOWN: &str = r#"
@@ -381,21 +342,7 @@ passend
 last
 
 replay 0
-core 0
-start 1 E_OK
-hook Startup
-act A
-pre A
-stat A GetSpinlock E_OK
-act B
-stat A ActivateTask E_OK
-post A
-pre B
-stat B GetSpinlock E_OK
-irq I
-enter I
-stat I GetSpinlock E_OK
-hook Shutdown E_OS_RESOURCE
+as run
 "#;
 
 const POSTING: &str = r#"
@@ -446,19 +393,7 @@ passend
 last 1 E_OS_STATE
 
 replay 0
-core 0
-start 1 E_OK
-hook Startup
-act A
-pre A
-stat A GetSpinlock E_OK
-tick
-alarm L1
-out 1 ActivateTask P
-alarm L2
-out 1 ActivateTask Q
-halt 1 E_OS_STATE
-hook Shutdown E_OS_STATE
+as run
 "#;
 
 #[test]

@@ -58,21 +58,7 @@ passend
 last
 
 replay 1
-core 1
-hook Startup
-act B
-pre B
-act H
-in 0 ActivateTask H E_OK
-stat B GetSpinlock E_OK
-post B
-pre H
-post H
-end H
-pre B
-stat B ReleaseSpinlock E_OK
-post B
-end B
+as run
 
 // Whether the outbox comes before the spinlock is up to the core's own turns, and not to the item.
 first

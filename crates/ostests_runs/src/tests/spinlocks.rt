@@ -113,25 +113,7 @@ passend
 last
 
 replay 0
-core 0
-hook Startup
-act A
-pre A
-stat A GetSpinlock E_OK
-irq I
-enter I
-stat I GetSpinlock E_OS_INTERFERENCE_DEADLOCK
-hook Error E_OS_INTERFERENCE_DEADLOCK
-stat I TryToGetSpinlock E_OS_INTERFERENCE_DEADLOCK
-hook Error E_OS_INTERFERENCE_DEADLOCK
-stat I ReleaseSpinlock E_OS_STATE
-hook Error E_OS_STATE
-stat I GetSpinlock E_OK
-stat I ReleaseSpinlock E_OK
-leave I
-stat A ReleaseSpinlock E_OK
-post A
-end A
+as run
 
 // So may a task that preempts.
 config {"spinlocks":[{"name":"S1","next":"S2"},{"name":"S2"}],"cores":[{"id":0,"tasks":[{"name":"L","prio":1,"auto":["M"],"script":"GetSpinlock S2;ActivateTask H;ReleaseSpinlock S2;TerminateTask"},{"name":"H","prio":2,"script":"GetSpinlock S2;GetSpinlock S1;ReleaseSpinlock S2;ReleaseSpinlock S1;TerminateTask"}]}]}

@@ -23,10 +23,7 @@ entered
 pass1 conflict
 
 replay 0
-core 0
-start 1 E_OK
-start 5 E_OS_ID
-conflict
+as run
 
 // After a conflict nothing is scheduled, and no stimulus is taken.
 config {"modes":["M","N"],"cores":[{"id":0,"start":[1],"tasks":[{"name":"A","prio":1,"auto":["M","N"],"script":"TerminateTask"}]},{"id":1,"mode":"N"}]}
@@ -127,13 +124,7 @@ passend
 last
 
 replay 0
-core 0
-start 1 E_OK
-hook Startup
-act A
-pre A
-post A
-end A
+as run
 
 // A core that names a mode passes in it or in a conflict; one that names none in any.
 first

@@ -47,15 +47,7 @@ passend
 last
 
 replay 0
-core 0
-start 1 E_OK
-hook Startup
-act A
-pre A
-stat A GetSpinlock E_OK
-hook Error E_OS_MISSINGEND
-post A
-end A
+as run
 
 items 1
 on
@@ -73,14 +65,7 @@ passend
 last
 
 replay 1
-core 1
-hook Startup
-act B
-pre B
-stat B GetSpinlock E_OK
-stat B ReleaseSpinlock E_OK
-post B
-end B
+as run
 
 // Before the answer to a ReleaseSpinlock no other item is taken, not even a halt.
 first

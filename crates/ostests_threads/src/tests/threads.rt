@@ -93,13 +93,7 @@ items 2
 as before
 
 replay 2
-core 2
-hook Startup
-act V
-pre V
-var V v0 3
-post V
-end V
+as run
 
 // The separate core by itself.
 cut 2
