@@ -22,7 +22,7 @@ use Rattle.oscall.specs.Variables.{sets}
 abbrev pub is_unknown : AllCores → Option CoreId → Bool
 is_unknown all target = not (option_map_or (λ (core : CoreId). is_some (find (same_core core) all.configured)) target false)
 
--- What StartCore checks in a script, which runs once StartOS was called: that there is such a core; and then it is too late.
+-- What StartCore checks in a script: that there is such a core. Then it is too late, since a script runs only after StartOS was called.
 -- [AUTOSAR SWS OS 4.x, StartCore: E_OS_ID, E_OS_ACCESS]
 abbrev pub starting_checks : AllCores → Option CoreId → List Check
 starting_checks all target = (is_unknown all target, EOsId) ∷ (true, EOsAccess) ∷ []

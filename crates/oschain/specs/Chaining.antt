@@ -53,6 +53,6 @@ abbrev pub ends_caller : ServiceId → Status → Bool
 ends_caller Service.ChainTask EOk = true
 ends_caller service status = false
 
--- A service goes on with the answer of another core.
+-- A service gets the reply of another core.
 abbrev pub resumes : Runner → ServiceId → Status → Option ℤ → Acts
 resumes r service status value = when (ends_caller service status) (ends r) (returns r service status value)

@@ -166,8 +166,8 @@ fn ends_caller(service: ServiceId, status: Status) -> bool
     matches!((service, status), (ServiceId::ChainTask, Status::EOk))
 }
 
-/// A service of a job of one of the core's tasks goes on with the answer of another core: it returns, but for a
-/// ChainTask that was granted, whose caller ends (OSEK/VDX OS 2.2.3, section 13.2.3.3).
+/// A service of a job of one of the core's tasks gets the reply of another core, and returns; after a ChainTask
+/// that was granted its caller ends (OSEK/VDX OS 2.2.3, section 13.2.3.3).
 pub fn resume<const P: usize, const J: usize, const OUT: usize>(
     state: &mut CoreState<'_, P, J, OUT>,
     runner: Runner,

@@ -49,7 +49,7 @@ begins_period s = look (λ seen. processes_point s (first_point seen.core s))
 abbrev pub begins : TableRef → Acts
 begins s = one_then (Prints (Mark.TableBegun s)) (one_then (Notes (TableStarted s 0)) (begins_period s))
 
--- Where a table waits for this end, this one stops and that one begins; or else another period of this one does, or it stops.
+-- If a table waits for this end, this one stops and that one begins. Else another period of this one begins, or it stops.
 -- [AUTOSAR SWS OS 4.x, SWS_Os_00414, SWS_Os_00194 and SWS_Os_00009]
 abbrev pub ends : TableRef → Option TableRef → Acts
 ends s (Some next) = both (stops s) (begins next)

@@ -14,7 +14,7 @@ use Rattle.osplan.specs.declared.plans.Alarm.{Alarm}
 use Rattle.osplan.specs.declared.plans.Table.{Table}
 use Rattle.osplan.specs.View.{Around, View, own_alarm, own_table}
 use Rattle.osclock.specs.Clocks.{attached_to, counts_to_value_by, max_of, setting_by, value_by}
-use Rattle.ostable.specs.Ahead.{due_at}
+use Rattle.ostable.specs.Ahead.{due_at, status_of}
 use Rattle.ostable.specs.Tables.{due_by, due_table, next_by, state_by, table_refs, timed_by, waits_for}
 use Rattle.osrunner.specs.Rows.{is_occupied, row_in}
 use Rattle.osstate.specs.Readings.{is_pending, rows_of, running}
@@ -70,7 +70,7 @@ module _ (v : View) (h k : History) (same : ReadsSame v h k) where
     is_in_use = λ a. is_in_use (setting-same a i);
     counts_left = λ a. left_of (setting-same a i);
     counts_to = λ a start. option_map_or (λ (x : Alarm). counts_to_value-same x.counter start i) (own_alarm v.own a) 0;
-    table = λ s. state-same s i;
+    status = λ s. status_of (state-same s i);
     next = λ s. next-same s i;
     agreement = same.agreement i;
     course = same.course i;

@@ -14,14 +14,15 @@ use Rattle.osbase.specs.declared.histories.GotSpinlock.{GotSpinlock}
 use Rattle.osbase.specs.declared.histories.OpenCall.{OpenCall}
 use Rattle.osbase.specs.declared.items.Agreement.{Agreement}
 use Rattle.osbase.specs.declared.items.CoreSet.{CoreSet}
-use Rattle.osbase.specs.Counting.{TableState}
 use Rattle.osbase.specs.History.{History, agreement_of, course_of, job_count, live_jobs, open_call, same_core, started_cores}
 use Rattle.osbase.specs.Spins.{got_spinlocks}
 use Rattle.oscript.specs.Runners.{Row}
 use Rattle.osplan.specs.declared.plans.Core.{Core}
 use Rattle.osplan.specs.View.{View}
 use Rattle.osclock.specs.Clocks.{counts_to_by, counts_to_value_by, due_by, is_in_use_by, left_by, value_by}
+use Rattle.ostable.specs.declared.table.TableStatus.{TableStatus}
 use Rattle.ostable.specs.declared.tables.DueTable.{DueTable}
+use Rattle.ostable.specs.Ahead.{status_of}
 use Rattle.ostable.specs.Tables.{due_tables_by, next_by, state_by}
 use Rattle.osrunner.specs.Rows.{is_occupied}
 use Rattle.osstate.specs.Readings.{is_pending, row_at, rows_of, running}
@@ -50,8 +51,8 @@ pub record Seen : Type 0 where
   pub is_in_use : AlarmRef → Bool
   pub counts_left : AlarmRef → Option ℕ
   pub counts_to : AlarmRef → ℕ → ℕ
-  -- the state of a table, and which table waits for the end of its period
-  pub table : TableRef → TableState
+  -- the status of a table, and which table waits for the end of its period
+  pub status : TableRef → TableStatus
   pub next : TableRef → Option TableRef
   -- the result of the first gate, whether the core runs, whose job is running, and the call that is open
   pub agreement : Option Agreement
@@ -76,8 +77,8 @@ seen_of v h = record {
   is_in_use = λ a. is_in_use_by v.own a h;
   counts_left = λ a. left_by v.own a h;
   counts_to = λ a start. counts_to_by v.own a start h;
-  table = λ s. state_by v.own s h;
-  next = λ s. next_by v.own s h;
+  status = λ t. status_of (state_by v.own t h);
+  next = λ t. next_by v.own t h;
   agreement = agreement_of h;
   course = course_of h;
   running = option_map (λ (j : Job). j.runner) (running v h);

@@ -12,8 +12,8 @@ use Rattle.osstate.specs.Sound.{has_objects_of}
 use Rattle.osstate.specs.State.{KernelState}
 use Rattle.osservice.specs.Acts.{Acts, does, nothing}
 
--- What a function asks that acts for a runner: the runner is one of the core's own, and there is room for so many entries of the
--- history and so many marks. [own]
+-- The preconditions of a function that acts for a runner: the runner is one of the core's own, and there is room for so many entries of
+-- the history and so many marks. [own]
 pub record MayAct (entries marks : ℕ) (s : KernelState) (r : Runner) (vec : Vec Mark Global) : Type 0 where
   pub own : IsTrue (is_own_runner s.view.own r)
   pub room : HasRoom entries marks s vec
@@ -23,14 +23,14 @@ pub record MayBegin (entries marks : ℕ) (s : KernelState) (vec : Vec Mark Glob
   pub live : is_before_live s.progress.phase ≡ false
   pub room : HasRoom entries marks s vec
 
--- What a function asks that may begin jobs and post: the core is live, its outbox, which has `size` places, has so many left, and
+-- The preconditions of a function that may begin jobs and post: the core is live, its outbox, which has `size` places, has so many left, and
 -- there is room for so many entries and marks. [own]
 pub record MayPost (places size entries marks : ℕ) (s : KernelState) (vec : Vec Mark Global) : Type 0 where
   pub live : is_before_live s.progress.phase ≡ false
   pub outbox : length s.border.outbox + places ≤ size
   pub room : HasRoom entries marks s vec
 
--- What a function asks that does both for a runner, with room for a service. [own]
+-- The preconditions of both for a runner, with room for a service. [own]
 pub record MayServe (places size : ℕ) (s : KernelState) (r : Runner) (vec : Vec Mark Global) : Type 0 where
   pub own : IsTrue (is_own_runner s.view.own r)
   pub posts : MayPost places size service_entries service_marks s vec
@@ -40,8 +40,8 @@ pub record MayOperate (places size : ℕ) (s : KernelState) (r : Runner) (op : O
   pub known : IsTrue (has_objects_of s.view.own op)
   pub serves : MayServe places size s r vec
 
--- An operation was offered to a family of services, which has these acts for it, or none. It answers whether it has any, and then it has
--- done them; else nothing changes. [own]
+-- A family of services was offered an operation, for which it has these acts or none. It answers whether it has any. If so, it has done
+-- them; else nothing changed. [own]
 pub record Offered (acts : Option Acts) (is_known : Bool) (old new : KernelState) (old_vec new_vec : Vec Mark Global) : Type 0 where
   pub known : is_known ≡ is_some acts
   pub effects : is_known ≡ true → Effects service_entries service_marks (does (unwrap_or acts nothing)) old new old_vec new_vec

@@ -66,7 +66,7 @@ use_checks s a = (not (s.is_in_use a), EOsNofunc) ∷ []
 abbrev pub cancellation : AlarmRef → Seen → Service
 cancellation a s = without_value (use_checks s a) (notes (AlarmCancelled a))
 
--- GetAlarm, where the alarm stands: the alarm is in use, and the value is the number of counts that are left.
+-- GetAlarm, on the alarm's own core: the alarm is in use, and the value is the number of counts that are left.
 -- [OSEK/VDX OS 2.2.3, section 13.6.3.2]
 abbrev pub inquiry : AlarmRef → Seen → Service
 inquiry a s = record { checks = use_checks s a; effect = nothing; value = option_map pos (s.counts_left a) }

@@ -14,7 +14,6 @@ use Rattle.osplan.specs.declared.plans.Table.{Table}
 use Rattle.osplan.specs.Clocked.{own_table_sizes}
 use Rattle.osplan.specs.Limits.{counter_sizes, is_table_start}
 use Rattle.osplan.specs.View.{own_counter, own_table}
-use Rattle.ostable.specs.Ahead.{status_of}
 use Rattle.ostable.specs.Status.{is_running, is_stopped, number_of}
 use Rattle.ostable.specs.Waiting.{are_of_one_counter}
 use Rattle.osservice.specs.Acts.{Acts, nothing, both, look, notes}
@@ -26,10 +25,10 @@ use Rattle.osservice.specs.Service.{Service, serves_own, without_value}
 -- ---- of a table of the core
 
 abbrev pub is_table_stopped : Seen → TableRef → Bool
-is_table_stopped s t = is_stopped (status_of (s.table t))
+is_table_stopped s t = is_stopped (s.status t)
 
 abbrev pub is_table_running : Seen → TableRef → Bool
-is_table_running s t = is_running (status_of (s.table t))
+is_table_running s t = is_running (s.status t)
 
 -- The table and its counter, as they are configured, pass this test.
 abbrev pub suits : (Table → Counter → Bool) → Core → TableRef → Bool
@@ -88,7 +87,7 @@ stop t s = without_value ((is_table_stopped s t, EOsNofunc) ∷ []) (both (quits
 
 -- The value is the number of the table's status. [AUTOSAR SWS OS 4.x, SWS_Os_00289 to SWS_Os_00291]
 abbrev pub status_inquiry : TableRef → Seen → Service
-status_inquiry t s = record { checks = []; effect = nothing; value = Some (pos (number_of (status_of (s.table t)))) }
+status_inquiry t s = record { checks = []; effect = nothing; value = Some (pos (number_of (s.status t))) }
 
 -- ---- of what a script names
 

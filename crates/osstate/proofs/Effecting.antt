@@ -1,7 +1,5 @@
 -- How effects compose.
 use Rattle.std.proofs.Common.{◌≡◌, ℕ, ◌+◌, ◌≤◌, ◌<◌, true, List, [], ◌∷◌, ◌++◌, refl, ap, sym, subst, ◌∙◌, arith, append_assoc, length-append, Vec, Global}
-use Rattle.std.specs.Option.{option_map_or}
-use Rattle.std.proofs.lemmas.Bool.{lt-ltb}
 use Rattle.std.proofs.lemmas.List.{append-nil}
 use Rattle.osbase.specs.declared.references.CoreId.{CoreId}
 use Rattle.osbase.specs.declared.histories.Sent.{Sent}
@@ -11,12 +9,11 @@ use Rattle.osbase.specs.declared.limits.TheConstants.{CORES}
 use Rattle.osbase.specs.History.{History, Entry, Note, Printed, Noted, Queued, queued_count, letter_with}
 use Rattle.osplan.specs.View.{View}
 use Rattle.osclock.specs.Clocks.{is_setting_granted}
-use Rattle.osjobs.specs.Priorities.{is_own_runner}
 use Rattle.osstate.specs.State.{KernelState, Stands}
-use Rattle.osstate.specs.Steps.{next_letter, one_more, runner_by, state_after}
+use Rattle.osstate.specs.Steps.{next_letter, one_more, state_after}
 use Rattle.osstate.specs.Does.{Adds, Effects, Joins, Remarks, StaysInItem}
 use Rattle.osstate.specs.Sound.{IsSound}
-use Rattle.osstate.proofs.Histories.{are_numbers_known, notes, notes_queued, own_entry}
+use Rattle.osstate.proofs.Histories.{notes, notes_queued}
 
 adds-then : {m n : ℕ} {a b c : List Mark} → Adds m a b → Adds n b c → Adds (m + n) a c
 adds-then {a = a} e d = record {
@@ -67,10 +64,10 @@ stays_in : (s s' : KernelState) (e : Entry) → s' ≡ state_after e s → Stays
 stays_in s s' e is stays = subst (λ (q : KernelState). StaysInItem 1 s q) (sym is) stays
 
 -- One mark more.
-pub printing : {priorities room : ℕ} {m : Mark} {s s' : KernelState} {x x' : Vec Mark Global} → IsSound priorities room s → option_map_or (is_own_runner s.view.own) (runner_by (Printed m) s.tasks) true ≡ true → s' ≡ state_after (Printed m) s → Joins m x x' → Effects 1 1 (λ v h. Printed m ∷ h) s s' x x'
-printing {m = m} {s = s} {s' = s'} sound own is joins = record {
+pub printing : {priorities room : ℕ} {m : Mark} {s s' : KernelState} {x x' : Vec Mark Global} → IsSound priorities room s → s' ≡ state_after (Printed m) s → Joins m x x' → Effects 1 1 (λ v h. Printed m ∷ h) s s' x x'
+printing {m = m} {s = s} {s' = s'} sound is joins = record {
   does = (λ v h earlier base tracks. record {
-    stands = notes is (own_entry (Printed m) sound own refl refl) v h tracks.stands;
+    stands = notes is sound.times.clocks.within refl v h tracks.stands;
     added = tracks.added ++ m ∷ [];
     behind = joins.items ∙ ap (λ (ms : List Mark). ms ++ m ∷ []) tracks.behind ∙ append_assoc base tracks.added (m ∷ []);
     shows = sym (append_assoc earlier tracks.added (m ∷ [])) ∙ ap (λ (ms : List Mark). ms ++ m ∷ []) tracks.shows;
@@ -82,9 +79,9 @@ printing {m = m} {s = s} {s' = s'} sound own is joins = record {
 }
 
 -- One note more.
-pub noting : {priorities room : ℕ} {n : Note} {s s' : KernelState} → IsSound priorities room s → option_map_or (is_own_runner s.view.own) (runner_by (Noted n) s.tasks) true ≡ true → are_numbers_known (Noted n) ≡ true → is_setting_granted s.view.own (Noted n) ≡ true → s' ≡ state_after (Noted n) s → Remarks 1 (λ v h. Noted n ∷ h) s s'
-noting {n = n} {s = s} {s' = s'} sound own numbers granted is = record {
-  notes = notes is (own_entry (Noted n) sound own numbers granted);
+pub noting : {priorities room : ℕ} {n : Note} {s s' : KernelState} → IsSound priorities room s → is_setting_granted s.view.own (Noted n) ≡ true → s' ≡ state_after (Noted n) s → Remarks 1 (λ v h. Noted n ∷ h) s s'
+noting {n = n} {s = s} {s' = s'} sound granted is = record {
+  notes = notes is sound.times.clocks.within granted;
   silent = (λ v h. refl);
   stays = stays_in s s' (Noted n) is (record { view = refl; phase = refl; items = refl; entries = omega arith });
 }
@@ -96,7 +93,7 @@ pub queueing : {priorities room : ℕ} {to : CoreId} {message : Message} {s old 
     (record s { progress = record s.progress { entries = s.progress.entries + 1 }; border = record s.border { outbox = waiting; queued = counts } })
 queueing {to = to} {message = message} {s = s} {old = old} {waiting = waiting} {counts = counts} sound same known joins more =
     subst (λ (q : KernelState). Remarks 1 (λ v h. Noted (Queued to (letter_with (queued_count to h) message)) ∷ h) q new) same (record {
-      notes = notes_queued (own_entry (Noted (Queued to (next_letter s to message))) sound refl (lt-ltb to.number CORES known) refl) known is;
+      notes = notes_queued sound.times.clocks.within known is;
       silent = (λ v h. refl);
       stays = stays_in s new (Noted (Queued to (next_letter s to message))) is (record { view = refl; phase = refl; items = refl; entries = omega arith });
     })

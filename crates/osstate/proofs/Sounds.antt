@@ -14,13 +14,13 @@ use Rattle.osbase.specs.declared.histories.Sent.{Sent}
 use Rattle.osbase.specs.declared.references.Runner.{Runner}
 use Rattle.osbase.specs.declared.marks.Mark.{Mark}
 use Rattle.osbase.specs.declared.references.IsrRef.{IsrRef}
-use Rattle.osbase.specs.Interrupts.{entered_after, isr_count, isr_jobs_after, runner_of_job}
+use Rattle.osbase.specs.Interrupts.{entered_after, isr_count, isr_jobs_after}
 use Rattle.osbase.specs.Sets.{slot_of}
 use Rattle.osbase.specs.Spins.{spins_after}
 use Rattle.oscript.specs.declared.Op.{Op}
-use Rattle.oscript.specs.Runners.{Row, row_step, runner_of}
+use Rattle.oscript.specs.Runners.{Row, row_step}
 use Rattle.osrunner.specs.Rows.{row_at, rows_by}
-use Rattle.osjobs.specs.Jobs.{Each, IsrState, JobState, is_plain, isrs_by, jobs_by, running_among}
+use Rattle.osjobs.specs.Jobs.{Each, IsrState, JobState, is_plain, isrs_by, jobs_by}
 use Rattle.osjobs.proofs.Stamps.{each-anew, each-less, each-push, each-weaker}
 use Rattle.osbase.specs.declared.histories.Job.{Job}
 use Rattle.osbase.specs.declared.histories.GotSpinlock.{GotSpinlock}
@@ -36,8 +36,7 @@ use Rattle.ostable.specs.Waiting.{all_wait_by_counter}
 use Rattle.osjobs.specs.Priorities.{is_own_runner}
 use Rattle.osstate.specs.declared.progress.Progress.{Progress}
 use Rattle.osstate.specs.State.{BorderState, KernelState}
-use Rattle.osstate.specs.Readings.{script_of}
-use Rattle.osstate.specs.Steps.{one_more, progress_after, received_after, runner_by, state_after, tasks_after}
+use Rattle.osstate.specs.Steps.{one_more, progress_after, received_after, runner_by}
 use Rattle.osbase.specs.Phases.{is_before_live, is_past_first_gate}
 use Rattle.osstate.specs.Sound.{HasBorder, HasClocks, HasJobs, IsSound, IsUnderWay, UsesAtMost, activation_limit, entered_limit, interrupt_limit, is_agreed, is_awaited_known, is_first_gate}
 use Rattle.osstate.proofs.JobLists.{within_append, job_count-stamped_anew, job_count-without_oldest}
@@ -134,14 +133,14 @@ pub same-jobs : {priorities room : ℕ} {s : KernelState} (script : List Op) (e 
 same-jobs {s = s} script e same none sound =
     goes-on (jobs_by script e 0 s.tasks) s.border sound (jobs-kept script e 0 same none sound.jobs) (border-later sound.border) sound.times
 
-pub activated : (priorities room : ℕ) (t : TaskRef) (s : KernelState) → IsSound priorities room s → job_count (Runner.Task t) s.tasks.jobs < activation_limit s.view.own (Runner.Task t) → is_before_live s.progress.phase ≡ false → IsSound priorities room (state_after (Printed (Mark.Activated t)) s)
+pub activated : (priorities room : ℕ) (t : TaskRef) (s : KernelState) → IsSound priorities room s → job_count (Runner.Task t) s.tasks.jobs < activation_limit s.view.own (Runner.Task t) → is_before_live s.progress.phase ≡ false → IsSound priorities room (record s { progress = record s.progress { entries = s.progress.entries + 1 }; tasks = jobs_by [] (Printed (Mark.Activated t)) s.progress.entries s.tasks })
 activated priorities room t s sound below live = goes-on _ _ sound jobs (border-later sound.border) sound.times
   where
     job : Job
     job = record { runner = Runner.Task t; stamp = s.progress.entries }
 
-    jobs : HasJobs s.view.own s.progress.phase (s.progress.entries + 1) (tasks_after s.view.own (Printed (Mark.Activated t)) s.progress.entries s.tasks)
-    jobs = jobs-on (script_of s.view.own (Runner.Task t)) (Printed (Mark.Activated t)) s.progress.entries sound.jobs
+    jobs : HasJobs s.view.own s.progress.phase (s.progress.entries + 1) (jobs_by [] (Printed (Mark.Activated t)) s.progress.entries s.tasks)
+    jobs = jobs-on [] (Printed (Mark.Activated t)) s.progress.entries sound.jobs
         (within_append (activation_limit s.view.own) s.tasks.jobs job sound.jobs.within below)
         (each-push (λ (j : Job). j.stamp < s.progress.entries + 1) s.tasks.jobs job (older-still s.progress.entries s.tasks.jobs sound.jobs.stamps) (omega arith))
         (λ e. absurd (false≢true (sym live ∙ e)))
@@ -160,21 +159,21 @@ border-closed {core = core} {border = border} r sound = record {
   received = (λ k. omega (arith, sound.received k));
 }
 
-pub terminated : (priorities room : ℕ) (t : TaskRef) (s : KernelState) → IsSound priorities room s → IsSound priorities room (state_after (Printed (Mark.Terminated t)) s)
+pub terminated : (priorities room : ℕ) (t : TaskRef) (s : KernelState) → IsSound priorities room s → IsSound priorities room (record s { progress = record s.progress { entries = s.progress.entries + 1 }; tasks = jobs_by [] (Printed (Mark.Terminated t)) s.progress.entries s.tasks; border = record s.border { open_call = closed_by (Runner.Task t) s.border.open_call; spins = spins_after (Printed (Mark.Terminated t)) s.border.open_call s.border.spins } })
 terminated priorities room t s sound = goes-on _ _ sound jobs (border-closed (Runner.Task t) sound.border) sound.times
   where
-    jobs : HasJobs s.view.own s.progress.phase (s.progress.entries + 1) (tasks_after s.view.own (Printed (Mark.Terminated t)) s.progress.entries s.tasks)
-    jobs = jobs-on (script_of s.view.own (Runner.Task t)) (Printed (Mark.Terminated t)) s.progress.entries sound.jobs
+    jobs : HasJobs s.view.own s.progress.phase (s.progress.entries + 1) (jobs_by [] (Printed (Mark.Terminated t)) s.progress.entries s.tasks)
+    jobs = jobs-on [] (Printed (Mark.Terminated t)) s.progress.entries sound.jobs
         (λ r. omega (arith, sound.jobs.within r, job_count-without_oldest r (Runner.Task t) s.tasks.jobs))
         (each-less (λ (j : Job). j.stamp < s.progress.entries + 1) (Runner.Task t) s.tasks.jobs (older-still s.progress.entries s.tasks.jobs sound.jobs.stamps))
         (λ e. ap (without_oldest (Runner.Task t)) (sound.jobs.idle e))
         sound.jobs.interrupts sound.jobs.entered
 
-pub released : (priorities room : ℕ) (t : TaskRef) (s : KernelState) → IsSound priorities room s → IsSound priorities room (state_after (Printed (Mark.Released t)) s)
+pub released : (priorities room : ℕ) (t : TaskRef) (s : KernelState) → IsSound priorities room s → IsSound priorities room (record s { progress = record s.progress { entries = s.progress.entries + 1 }; tasks = jobs_by [] (Printed (Mark.Released t)) s.progress.entries s.tasks })
 released priorities room t s sound = goes-on _ _ sound jobs (border-later sound.border) sound.times
   where
-    jobs : HasJobs s.view.own s.progress.phase (s.progress.entries + 1) (tasks_after s.view.own (Printed (Mark.Released t)) s.progress.entries s.tasks)
-    jobs = jobs-on (script_of s.view.own (Runner.Task t)) (Printed (Mark.Released t)) s.progress.entries sound.jobs
+    jobs : HasJobs s.view.own s.progress.phase (s.progress.entries + 1) (jobs_by [] (Printed (Mark.Released t)) s.progress.entries s.tasks)
+    jobs = jobs-on [] (Printed (Mark.Released t)) s.progress.entries sound.jobs
         (λ r. omega (arith, sound.jobs.within r, job_count-stamped_anew r (Runner.Task t) s.progress.entries s.tasks.jobs))
         (each-anew (λ (j : Job). j.stamp < s.progress.entries + 1) (Runner.Task t) s.progress.entries s.tasks.jobs (older-still s.progress.entries s.tasks.jobs sound.jobs.stamps) (λ j. omega arith))
         (λ e. ap (stamped_anew (Runner.Task t) s.progress.entries) (sound.jobs.idle e))
@@ -183,26 +182,26 @@ released priorities room t s sound = goes-on _ _ sound jobs (border-later sound.
 -- ---- ISRs
 
 pub accepted : (priorities room : ℕ) (i : IsrRef) (s : KernelState) → IsSound priorities room s → job_count (Runner.Isr i) s.tasks.isrs.live < interrupt_limit s.view.own (Runner.Isr i)
-    → IsSound priorities room (state_after (Printed (Mark.InterruptAccepted i)) s)
+    → IsSound priorities room (record s { progress = record s.progress { entries = s.progress.entries + 1 }; tasks = jobs_by [] (Printed (Mark.InterruptAccepted i)) s.progress.entries s.tasks })
 accepted priorities room i s sound below = goes-on _ _ sound jobs (border-later sound.border) sound.times
   where
-    jobs : HasJobs s.view.own s.progress.phase (s.progress.entries + 1) (tasks_after s.view.own (Printed (Mark.InterruptAccepted i)) s.progress.entries s.tasks)
+    jobs : HasJobs s.view.own s.progress.phase (s.progress.entries + 1) (jobs_by [] (Printed (Mark.InterruptAccepted i)) s.progress.entries s.tasks)
     jobs = jobs-on [] (Printed (Mark.InterruptAccepted i)) s.progress.entries sound.jobs sound.jobs.within (older-still s.progress.entries s.tasks.jobs sound.jobs.stamps) sound.jobs.idle
         (within_append (interrupt_limit s.view.own) s.tasks.isrs.live (record { runner = Runner.Isr i; stamp = s.progress.entries }) sound.jobs.interrupts below)
         sound.jobs.entered
 
-pub isr_entered : (priorities room : ℕ) (i : IsrRef) (s : KernelState) → IsSound priorities room s → is_own_runner s.view.own (Runner.Isr i) ≡ true → IsSound priorities room (state_after (Printed (Mark.IsrEntered i)) s)
+pub isr_entered : (priorities room : ℕ) (i : IsrRef) (s : KernelState) → IsSound priorities room s → is_own_runner s.view.own (Runner.Isr i) ≡ true → IsSound priorities room (record s { progress = record s.progress { entries = s.progress.entries + 1 }; tasks = jobs_by [] (Printed (Mark.IsrEntered i)) s.progress.entries s.tasks })
 isr_entered priorities room i s sound own = goes-on _ _ sound jobs (border-later sound.border) sound.times
   where
-    jobs : HasJobs s.view.own s.progress.phase (s.progress.entries + 1) (tasks_after s.view.own (Printed (Mark.IsrEntered i)) s.progress.entries s.tasks)
+    jobs : HasJobs s.view.own s.progress.phase (s.progress.entries + 1) (jobs_by [] (Printed (Mark.IsrEntered i)) s.progress.entries s.tasks)
     jobs = jobs-on [] (Printed (Mark.IsrEntered i)) s.progress.entries sound.jobs sound.jobs.within (older-still s.progress.entries s.tasks.jobs sound.jobs.stamps) sound.jobs.idle
         sound.jobs.interrupts (entered_on s.view.own i s.tasks.isrs.entered own sound.jobs.entered)
 
-pub isr_left : (priorities room : ℕ) (i : IsrRef) (s : KernelState) → IsSound priorities room s → IsSound priorities room (state_after (Printed (Mark.IsrLeft i)) s)
+pub isr_left : (priorities room : ℕ) (i : IsrRef) (s : KernelState) → IsSound priorities room s → IsSound priorities room (record s { progress = record s.progress { entries = s.progress.entries + 1 }; tasks = jobs_by [] (Printed (Mark.IsrLeft i)) s.progress.entries s.tasks; border = record s.border { open_call = closed_by (Runner.Isr i) s.border.open_call; spins = spins_after (Printed (Mark.IsrLeft i)) s.border.open_call s.border.spins } })
 isr_left priorities room i s sound = goes-on _ _ sound jobs (border-closed (Runner.Isr i) sound.border) sound.times
   where
-    jobs : HasJobs s.view.own s.progress.phase (s.progress.entries + 1) (tasks_after s.view.own (Printed (Mark.IsrLeft i)) s.progress.entries s.tasks)
-    jobs = jobs-on (script_of s.view.own (Runner.Isr i)) (Printed (Mark.IsrLeft i)) s.progress.entries sound.jobs sound.jobs.within (older-still s.progress.entries s.tasks.jobs sound.jobs.stamps) sound.jobs.idle
+    jobs : HasJobs s.view.own s.progress.phase (s.progress.entries + 1) (jobs_by [] (Printed (Mark.IsrLeft i)) s.progress.entries s.tasks)
+    jobs = jobs-on [] (Printed (Mark.IsrLeft i)) s.progress.entries sound.jobs sound.jobs.within (older-still s.progress.entries s.tasks.jobs sound.jobs.stamps) sound.jobs.idle
         (λ r. omega (arith, sound.jobs.interrupts r, job_count-without_oldest r (Runner.Isr i) s.tasks.isrs.live))
         (λ k. omega (arith, sound.jobs.entered k, isr_count-without k i s.tasks.isrs.entered))
 
@@ -332,21 +331,6 @@ plain-isrs (Mark.InterruptAccepted i) stamp s e = absurd (false≢true e)
 plain-isrs (Mark.IsrEntered i) stamp s e = absurd (false≢true e)
 plain-isrs (Mark.IsrLeft i) stamp s e = absurd (false≢true e)
 plain-isrs m stamp s e = refl
-
--- nor does it change a row
-plain-runner : (who : Option Runner) (m : Mark) → is_plain m ≡ true → runner_of who (Printed m) ≡ None
-plain-runner who Mark.Tick e = absurd (false≢true e)
-plain-runner who (Mark.Activated t) e = absurd (false≢true e)
-plain-runner who (Mark.Terminated t) e = absurd (false≢true e)
-plain-runner who (Mark.IsrLeft i) e = absurd (false≢true e)
-plain-runner who (Mark.EventSet t mask) e = absurd (false≢true e)
-plain-runner who (Mark.EventCleared t mask) e = absurd (false≢true e)
-plain-runner who (Mark.EventAwaited t mask) e = absurd (false≢true e)
-plain-runner who (Mark.Released t) e = absurd (false≢true e)
-plain-runner who m e = refl
-
-pub plain-own : (core : Core) (s : JobState) (m : Mark) → is_plain m ≡ true → option_map_or (is_own_runner core) (runner_by (Printed m) s) true ≡ true
-plain-own core s m e = ap (λ (o : Option Runner). option_map_or (is_own_runner core) o true) (plain-runner (runner_of_job (running_among s)) m e)
 
 -- nor does it change which spinlocks the core has
 pub plain-spins : (m : Mark) (open_call : Option OpenCall) (got : List GotSpinlock) → is_plain m ≡ true → spins_after (Printed m) open_call got ≡ got

@@ -1,13 +1,14 @@
 -- What each entry of the history does to the state.
-use Rattle.std.specs.Prelude.{ℕ, ◌+◌, Bool, Option, Some, None, List, [], replicate, slice_index, slice_set}
+use Rattle.std.specs.Prelude.{ℕ, ◌+◌, ◌&&◌, nat_lt, Bool, if◌then◌else◌, true, Option, Some, None, List, [], replicate, slice_index, slice_set}
+use Rattle.std.specs.Option.{option_map_or}
 use Rattle.osbase.specs.declared.references.CoreId.{CoreId}
 use Rattle.osbase.specs.declared.references.Runner.{Runner}
 use Rattle.osbase.specs.declared.messages.Message.{Message}
 use Rattle.osbase.specs.declared.messages.Letter.{Letter}
 use Rattle.osbase.specs.declared.items.Item.{Item}
 use Rattle.osbase.specs.declared.items.Item.TheVariants as Item
-use Rattle.osbase.specs.declared.limits.TheConstants.{CORES}
-use Rattle.osbase.specs.History.{Entry, Took, Noted, Queued, first_phase, phase_after, began_after, agreement_after, course_after, started_after, items_after, open_after, outbox_after, no_cores, letter_with}
+use Rattle.osbase.specs.declared.limits.TheConstants.{CORES, ISRS, TASKS}
+use Rattle.osbase.specs.History.{Entry, Took, Noted, Queued, first_phase, phase_after, began_after, agreement_after, course_after, started_after, items_after, open_after, outbox_after, no_cores, letter_with, same_core}
 use Rattle.osbase.specs.declared.histories.Course.{Course}
 use Rattle.osbase.specs.Interrupts.{runner_of_job}
 use Rattle.osbase.specs.Spins.{spins_after}
@@ -62,12 +63,21 @@ abbrev pub script_for : Core → Option Runner → List Op
 script_for core None = []
 script_for core (Some r) = script_of core r
 
+-- The runner has a place among the rows. Each of the core's own has one, if the core has no more of them than there are places.
+abbrev pub has_place : Core → Runner → Bool
+has_place core (Runner.Task t) = same_core t.core core.id && nat_lt t.index TASKS
+has_place core (Runner.Isr i) = same_core i.core core.id && nat_lt i.index ISRS
+
+-- An entry changes no row of a runner that has no place.
+abbrev pub is_placed : Core → Option Runner → Bool
+is_placed core who = option_map_or (has_place core) who true
+
 -- The rows after an entry that changes this runner's, and all that is kept of jobs.
 abbrev pub rows_after : Core → Entry → Option Runner → List Row → List Row
-rows_after core e who rows = rows_by (script_for core who) e who rows
+rows_after core e who rows = if is_placed core who then rows_by (script_for core who) e who rows else rows
 
 abbrev pub tasks_after : Core → Entry → ℕ → JobState → JobState
-tasks_after core e stamp s = jobs_by (script_for core (runner_by e s)) e stamp s
+tasks_after core e stamp s = record (jobs_by (script_for core (runner_by e s)) e stamp s) { rows = rows_after core e (runner_by e s) s.rows }
 
 -- ---- the border
 

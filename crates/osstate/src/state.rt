@@ -17,7 +17,7 @@ ghost use Rattle.osrunner.specs.Rows.{depth_in, events_in, frame_in, held_in, is
 ghost use Rattle.osbudget.specs.Budget.{is_reached};
 ghost use Rattle.osjobs.specs.Locks.{is_overheld};
 ghost use Rattle.osjobs.specs.Priorities.{holds_any, is_extended, is_newest, is_own_runner, static_priority};
-ghost use Rattle.osstate.specs.Does.{Effects, HasRoom, Notes, Reads, Remarks};
+ghost use Rattle.osstate.specs.Does.{Effects, HasRoom, Joins, Notes, Reads, Remarks};
 ghost use Rattle.osstate.specs.Queries.{best_in, is_at_limit_in, is_suspended, is_suspended_in, next_action_in, running_in};
 ghost use Rattle.osstate.specs.Readings.{best_job, budget_of, events_at, frame_at, is_locked, is_this_core, is_pending, next_start, resource_of, resources_of, row_at, rows_of, script_of, used_at};
 ghost use Rattle.oscript.specs.Frames.{action_at};
@@ -131,6 +131,7 @@ impl<'a, const P: usize, const J: usize, const OUT: usize> CoreState<'a, P, J, O
         requires room { HasRoom 1 1 self.old marks.old }
         ensures state { self.new ≡ state_after (Printed (Mark.Activated task)) self.old }
         ensures effects { Effects 1 1 (λ v h. Printed (Mark.Activated task) ∷ h) self.old self.new marks.old marks.new }
+        ensures marks { Joins (Mark.Activated task) marks.old marks.new }
     {
         self.jobs.activate(task, self.progress.entries);
         self.progress.record(Mark::Activated(task), marks);
@@ -143,6 +144,7 @@ impl<'a, const P: usize, const J: usize, const OUT: usize> CoreState<'a, P, J, O
         requires room { HasRoom 1 1 self.old marks.old }
         ensures state { self.new ≡ state_after (Printed (Mark.Terminated task)) self.old }
         ensures effects { Effects 1 1 (λ v h. Printed (Mark.Terminated task) ∷ h) self.old self.new marks.old marks.new }
+        ensures marks { Joins (Mark.Terminated task) marks.old marks.new }
         ensures below { job_count (Runner.Task task) self.new.tasks.jobs < activation_limit self.new.view.own (Runner.Task task) }
     {
         self.jobs.end(task);
@@ -158,6 +160,7 @@ impl<'a, const P: usize, const J: usize, const OUT: usize> CoreState<'a, P, J, O
         requires room { HasRoom 1 1 self.old marks.old }
         ensures state { self.new ≡ state_after (Printed (Mark.InterruptAccepted isr)) self.old }
         ensures effects { Effects 1 1 (λ v h. Printed (Mark.InterruptAccepted isr) ∷ h) self.old self.new marks.old marks.new }
+        ensures marks { Joins (Mark.InterruptAccepted isr) marks.old marks.new }
     {
         self.jobs.accept(isr, self.progress.entries);
         self.progress.record(Mark::InterruptAccepted(isr), marks);
@@ -170,6 +173,7 @@ impl<'a, const P: usize, const J: usize, const OUT: usize> CoreState<'a, P, J, O
         requires room { HasRoom 1 1 self.old marks.old }
         ensures state { self.new ≡ state_after (Printed (Mark.IsrEntered isr)) self.old }
         ensures effects { Effects 1 1 (λ v h. Printed (Mark.IsrEntered isr) ∷ h) self.old self.new marks.old marks.new }
+        ensures marks { Joins (Mark.IsrEntered isr) marks.old marks.new }
     {
         self.jobs.enter_isr(isr);
         self.progress.record(Mark::IsrEntered(isr), marks);
@@ -182,6 +186,7 @@ impl<'a, const P: usize, const J: usize, const OUT: usize> CoreState<'a, P, J, O
         requires room { HasRoom 1 1 self.old marks.old }
         ensures state { self.new ≡ state_after (Printed (Mark.IsrLeft isr)) self.old }
         ensures effects { Effects 1 1 (λ v h. Printed (Mark.IsrLeft isr) ∷ h) self.old self.new marks.old marks.new }
+        ensures marks { Joins (Mark.IsrLeft isr) marks.old marks.new }
     {
         self.jobs.end_isr(isr);
         self.border.spins.owe(Runner::Isr(isr));
@@ -195,6 +200,7 @@ impl<'a, const P: usize, const J: usize, const OUT: usize> CoreState<'a, P, J, O
         requires { HasRoom 1 1 self.old marks.old }
         ensures state { self.new ≡ state_after (Printed Mark.Tick) self.old }
         ensures effects { Effects 1 1 (λ v h. Printed Mark.Tick ∷ h) self.old self.new marks.old marks.new }
+        ensures marks { Joins Mark.Tick marks.old marks.new }
     {
         self.jobs.tick();
         self.progress.record(Mark::Tick, marks);
@@ -238,6 +244,7 @@ impl<'a, const P: usize, const J: usize, const OUT: usize> CoreState<'a, P, J, O
         requires { HasRoom 1 1 self.old marks.old }
         ensures state { self.new ≡ state_after (Printed (Mark.PreTaskHook task)) self.old }
         ensures effects { Effects 1 1 (λ v h. Printed (Mark.PreTaskHook task) ∷ h) self.old self.new marks.old marks.new }
+        ensures marks { Joins (Mark.PreTaskHook task) marks.old marks.new }
     {
         self.jobs.enter(task);
         self.progress.record(Mark::PreTaskHook(task), marks);
@@ -248,6 +255,7 @@ impl<'a, const P: usize, const J: usize, const OUT: usize> CoreState<'a, P, J, O
         requires { HasRoom 1 1 self.old marks.old }
         ensures state { self.new ≡ state_after (Printed (Mark.PostTaskHook task)) self.old }
         ensures effects { Effects 1 1 (λ v h. Printed (Mark.PostTaskHook task) ∷ h) self.old self.new marks.old marks.new }
+        ensures marks { Joins (Mark.PostTaskHook task) marks.old marks.new }
     {
         self.jobs.leave(task);
         self.progress.record(Mark::PostTaskHook(task), marks);
@@ -259,6 +267,7 @@ impl<'a, const P: usize, const J: usize, const OUT: usize> CoreState<'a, P, J, O
         requires room { HasRoom 1 1 self.old marks.old }
         ensures state { self.new ≡ state_after (Printed (Mark.EventSet task mask)) self.old }
         ensures effects { Effects 1 1 (λ v h. Printed (Mark.EventSet task mask) ∷ h) self.old self.new marks.old marks.new }
+        ensures marks { Joins (Mark.EventSet task mask) marks.old marks.new }
     {
         self.jobs.set_events(task, mask);
         self.progress.record(Mark::EventSet { task, mask }, marks);
@@ -270,6 +279,7 @@ impl<'a, const P: usize, const J: usize, const OUT: usize> CoreState<'a, P, J, O
         requires room { HasRoom 1 1 self.old marks.old }
         ensures state { self.new ≡ state_after (Printed (Mark.EventCleared task mask)) self.old }
         ensures effects { Effects 1 1 (λ v h. Printed (Mark.EventCleared task mask) ∷ h) self.old self.new marks.old marks.new }
+        ensures marks { Joins (Mark.EventCleared task mask) marks.old marks.new }
     {
         self.jobs.clear_events(task, mask);
         self.progress
@@ -284,6 +294,7 @@ impl<'a, const P: usize, const J: usize, const OUT: usize> CoreState<'a, P, J, O
         requires room { HasRoom 1 1 self.old marks.old }
         ensures state { self.new ≡ state_after (Printed (Mark.EventAwaited task mask)) self.old }
         ensures effects { Effects 1 1 (λ v h. Printed (Mark.EventAwaited task mask) ∷ h) self.old self.new marks.old marks.new }
+        ensures marks { Joins (Mark.EventAwaited task mask) marks.old marks.new }
     {
         self.jobs.wait(task, mask);
         self.progress
@@ -298,6 +309,7 @@ impl<'a, const P: usize, const J: usize, const OUT: usize> CoreState<'a, P, J, O
         requires room { HasRoom 1 1 self.old marks.old }
         ensures state { self.new ≡ state_after (Printed (Mark.Released task)) self.old }
         ensures effects { Effects 1 1 (λ v h. Printed (Mark.Released task) ∷ h) self.old self.new marks.old marks.new }
+        ensures marks { Joins (Mark.Released task) marks.old marks.new }
     {
         self.jobs.release(task, self.progress.entries);
         self.progress.record(Mark::Released(task), marks);
@@ -310,6 +322,7 @@ impl<'a, const P: usize, const J: usize, const OUT: usize> CoreState<'a, P, J, O
         requires room { HasRoom 1 1 self.old marks.old }
         ensures state { self.new ≡ state_after (Printed mark) self.old }
         ensures effects { Effects 1 1 (λ v h. Printed mark ∷ h) self.old self.new marks.old marks.new }
+        ensures marks { Joins mark marks.old marks.new }
     {
         self.jobs.print(&mark);
         self.progress.record(mark, marks);

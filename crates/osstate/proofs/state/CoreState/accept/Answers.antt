@@ -1,4 +1,4 @@
-use Rattle.std.proofs.Common.{◌<◌, rules, refl, sym, subst}
+use Rattle.std.proofs.Common.{◌<◌, rules, sym, subst}
 use Rattle.osbase.specs.declared.references.Runner.TheVariants as Runner
 use Rattle.osbase.specs.History.{job_count}
 use Rattle.osstate.specs.Sound.{IsSound, interrupt_limit}
@@ -21,4 +21,4 @@ invariant_of-self g c =
     (subst (λ (s : KernelState). job_count (Runner.Isr c.args.isr) s.tasks.isrs.live < interrupt_limit s.view.own (Runner.Isr c.args.isr)) (sym c.self.view_is) c.requires.limit))
 
 pub returns-clause-effects : goal.returns-clause-effects
-returns-clause-effects g c = printing (subst (IsSound g.row.P g.row.J) c.self.view_is c.self.invariant) refl (search rules) c.record.ensures.marks
+returns-clause-effects g c = printing (subst (IsSound g.row.P g.row.J) c.self.view_is c.self.invariant) (search rules) c.record.ensures.marks

@@ -1,12 +1,14 @@
 use Rattle.std.proofs.Common.{◌≡◌, ◌<◌, false, rules, arith, sym, subst}
 use Rattle.osbase.specs.declared.references.Runner.TheVariants as Runner
-use Rattle.osbase.specs.History.{job_count}
+use Rattle.osbase.specs.History.{Printed, job_count}
 use Rattle.osbase.specs.Phases.{is_before_live}
 use Rattle.osjobs.proofs.Configured.{own-listed}
+use Rattle.osbase.specs.declared.marks.Mark.TheVariants as Mark
 use Rattle.osstate.specs.Sound.{IsSound, activation_limit}
 use Rattle.osstate.specs.State.{KernelState}
 use Rattle.osstate.proofs.Sounds.{activated, place}
 use Rattle.osstate.proofs.Effecting.{printing}
+use Rattle.osstate.proofs.Histories.{own-step}
 use Rattle.osstate.proofs.Room.{own_from_place}
 use Rattle.osstate.proofs.state.CoreState.activate.Goals as goal
 
@@ -22,5 +24,8 @@ invariant_of-self g c =
     (subst (λ (s : KernelState). job_count (Runner.Task c.args.task) s.tasks.jobs < activation_limit s.view.own (Runner.Task c.args.task)) (sym c.self.view_is) c.requires.limit)
     (subst (λ (s : KernelState). is_before_live s.progress.phase ≡ false) (sym c.self.view_is) c.requires.live))
 
+pub returns-clause-state : goal.returns-clause-state
+returns-clause-state g c = own-step (Printed (Mark.Activated c.args.task)) (subst (IsSound g.row.P g.row.J) c.self.view_is c.self.invariant) (own_from_place c.args.self.now.view.own (Runner.Task c.args.task) (omega (arith, c.requires.limit))) (search rules)
+
 pub returns-clause-effects : goal.returns-clause-effects
-returns-clause-effects g c = printing (subst (IsSound g.row.P g.row.J) c.self.view_is c.self.invariant) (own_from_place c.args.self.now.view.own (Runner.Task c.args.task) (omega (arith, c.requires.limit))) (search rules) c.record.ensures.marks
+returns-clause-effects g c = printing (subst (IsSound g.row.P g.row.J) c.self.view_is c.self.invariant) (returns-clause-state g c) c.record.ensures.marks

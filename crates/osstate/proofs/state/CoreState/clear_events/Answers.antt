@@ -3,11 +3,15 @@ use Rattle.osbase.specs.declared.marks.Mark.TheVariants as Mark
 use Rattle.osbase.specs.History.{Printed}
 use Rattle.osstate.specs.Sound.{IsSound}
 use Rattle.osstate.proofs.Effecting.{printing}
+use Rattle.osstate.proofs.Histories.{own-step}
 use Rattle.osstate.proofs.Sounds.{same-jobs}
 use Rattle.osstate.proofs.state.CoreState.clear_events.Goals as goal
 
 pub invariant_of-self : goal.invariant_of-self
 invariant_of-self g c = rw (c.clear_events.ensures, c.record.ensures.progress) (same-jobs [] (Printed (Mark.EventCleared c.args.task c.args.mask)) refl refl c.self.invariant)
 
+pub returns-clause-state : goal.returns-clause-state
+returns-clause-state g c = own-step (Printed (Mark.EventCleared c.args.task c.args.mask)) (subst (IsSound g.row.P g.row.J) c.self.view_is c.self.invariant) c.requires.own (search rules)
+
 pub returns-clause-effects : goal.returns-clause-effects
-returns-clause-effects g c = printing (subst (IsSound g.row.P g.row.J) c.self.view_is c.self.invariant) c.requires.own (search rules) c.record.ensures.marks
+returns-clause-effects g c = printing (subst (IsSound g.row.P g.row.J) c.self.view_is c.self.invariant) (returns-clause-state g c) c.record.ensures.marks

@@ -19,4 +19,4 @@ invariant_of-self g c =
 
 pub returns-clause-remarks : goal.returns-clause-remarks
 returns-clause-remarks g c =
-    noting (subst (IsSound g.row.P g.row.J) c.self.view_is c.self.invariant) refl refl refl (search rules)
+    noting (subst (IsSound g.row.P g.row.J) c.self.view_is c.self.invariant) refl (search rules)

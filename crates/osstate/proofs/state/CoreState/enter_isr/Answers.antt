@@ -1,4 +1,4 @@
-use Rattle.std.proofs.Common.{◌≡◌, true, rules, refl, sym, subst}
+use Rattle.std.proofs.Common.{◌≡◌, true, rules, sym, subst}
 use Rattle.osbase.specs.declared.references.Runner.TheVariants as Runner
 use Rattle.osjobs.specs.Priorities.{is_own_runner}
 use Rattle.osstate.specs.Sound.{IsSound}
@@ -21,4 +21,4 @@ invariant_of-self g c =
     (subst (λ (s : KernelState). is_own_runner s.view.own (Runner.Isr c.args.isr) ≡ true) (sym c.self.view_is) c.requires.own))
 
 pub returns-clause-effects : goal.returns-clause-effects
-returns-clause-effects g c = printing (subst (IsSound g.row.P g.row.J) c.self.view_is c.self.invariant) refl (search rules) c.record.ensures.marks
+returns-clause-effects g c = printing (subst (IsSound g.row.P g.row.J) c.self.view_is c.self.invariant) (search rules) c.record.ensures.marks

@@ -8,4 +8,4 @@ pub invariant_of-self : goal.invariant_of-self
 invariant_of-self g c = rw (c.owe_all.ensures, c.go_down.ensures) (went-down c.self.invariant)
 
 pub returns-clause-remarks : goal.returns-clause-remarks
-returns-clause-remarks g c = noting (subst (IsSound g.row.P g.row.J) c.self.view_is c.self.invariant) refl refl refl (search rules)
+returns-clause-remarks g c = noting (subst (IsSound g.row.P g.row.J) c.self.view_is c.self.invariant) refl (search rules)

@@ -1,12 +1,12 @@
 use Rattle.std.proofs.Common.{[], rules, subst}
 use Rattle.osbase.specs.History.{Printed}
 use Rattle.osstate.specs.Sound.{IsSound}
-use Rattle.osstate.proofs.Sounds.{plain-isrs, plain-jobs, plain-own, same-jobs}
+use Rattle.osstate.proofs.Sounds.{plain-isrs, plain-jobs, same-jobs}
 use Rattle.osstate.proofs.Effecting.{printing}
 use Rattle.osstate.proofs.state.CoreState.print.Goals as goal
 
 pub returns-clause-effects : goal.returns-clause-effects
-returns-clause-effects g c = printing (subst (IsSound g.row.P g.row.J) c.self.view_is c.self.invariant) (plain-own c.args.self.now.view.own c.args.self.now.tasks c.args.mark c.requires.plain) (search rules) c.record.ensures.marks
+returns-clause-effects g c = printing (subst (IsSound g.row.P g.row.J) c.self.view_is c.self.invariant) (search rules) c.record.ensures.marks
 
 pub invariant_of-self : goal.invariant_of-self
 invariant_of-self g c =

@@ -2,10 +2,13 @@ use Rattle.std.proofs.Common.{subst, rules, ◌≡◌, true, sym}
 use Rattle.osbase.specs.declared.references.Runner.TheVariants as Runner
 use Rattle.osjobs.specs.Priorities.{is_extended, is_own_runner}
 use Rattle.osjobs.proofs.Configured.{own-listed}
+use Rattle.osbase.specs.declared.marks.Mark.TheVariants as Mark
+use Rattle.osbase.specs.History.{Printed}
 use Rattle.osstate.specs.Sound.{IsSound}
 use Rattle.osstate.specs.State.{KernelState}
 use Rattle.osstate.proofs.Room.{one-job}
 use Rattle.osstate.proofs.Effecting.{printing}
+use Rattle.osstate.proofs.Histories.{own-step}
 use Rattle.osstate.proofs.Sounds.{released}
 use Rattle.osstate.proofs.state.CoreState.release.Goals as goal
 
@@ -19,5 +22,8 @@ release-requires g c =
 pub invariant_of-self : goal.invariant_of-self
 invariant_of-self g c = rw (c.release.ensures, c.record.ensures.progress) (released g.row.P g.row.J c.args.task _ c.self.invariant)
 
+pub returns-clause-state : goal.returns-clause-state
+returns-clause-state g c = own-step (Printed (Mark.Released c.args.task)) (subst (IsSound g.row.P g.row.J) c.self.view_is c.self.invariant) c.requires.own (search rules)
+
 pub returns-clause-effects : goal.returns-clause-effects
-returns-clause-effects g c = printing (subst (IsSound g.row.P g.row.J) c.self.view_is c.self.invariant) c.requires.own (search rules) c.record.ensures.marks
+returns-clause-effects g c = printing (subst (IsSound g.row.P g.row.J) c.self.view_is c.self.invariant) (returns-clause-state g c) c.record.ensures.marks

@@ -1,4 +1,4 @@
-use Rattle.std.proofs.Common.{refl, rules, sym, subst}
+use Rattle.std.proofs.Common.{rules, sym, subst}
 use Rattle.osbase.specs.History.{Noted, AlarmSet}
 use Rattle.oscount.proofs.Expiries.{in-turn}
 use Rattle.osclock.specs.Clocks.{AreClocks, max_for}
@@ -14,5 +14,5 @@ invariant_of-self g c =
 
 pub returns-clause-remarks : goal.returns-clause-remarks
 returns-clause-remarks g c =
-    noting (subst (IsSound g.row.P g.row.J) c.self.view_is c.self.invariant) refl refl
+    noting (subst (IsSound g.row.P g.row.J) c.self.view_is c.self.invariant)
     (in-turn (max_for c.args.self.now.view.own c.args.alarm) c.args.first c.args.cycle c.requires.later c.requires.turn c.requires.cycle) (search rules)

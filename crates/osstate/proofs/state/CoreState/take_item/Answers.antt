@@ -4,7 +4,7 @@ use Rattle.osbase.specs.Phases.{is_before_live, is_past_first_gate}
 use Rattle.osstate.specs.Sound.{IsSound, is_first_gate}
 use Rattle.osstate.specs.State.{KernelState}
 use Rattle.osstate.specs.Steps.{state_after}
-use Rattle.osstate.proofs.Histories.{notes, own_entry}
+use Rattle.osstate.proofs.Histories.{notes}
 use Rattle.osstate.proofs.Sounds.{taken}
 use Rattle.osstate.proofs.state.CoreState.take_item.Goals as goal
 
@@ -19,4 +19,4 @@ returns-clause-state g c =
     rw (c.take_item.ensures, c.take_item-2.ensures, c.settle_by.ensures.spins, c.settle_by.ensures.call, c.post_by.ensures, c.receive_by.ensures) (ap (state_after (Took c.args.item.now)) c.self.view_is)
 
 pub returns-clause-notes : goal.returns-clause-notes
-returns-clause-notes g c = notes (returns-clause-state g c) (own_entry (Took c.args.item.now) (subst (IsSound g.row.P g.row.J) c.self.view_is c.self.invariant) refl c.requires.sender refl)
+returns-clause-notes g c = notes (returns-clause-state g c) (subst (IsSound g.row.P g.row.J) c.self.view_is c.self.invariant).times.clocks.within refl

@@ -5,6 +5,7 @@ use Rattle.osbase.specs.declared.marks.Mark.TheVariants as Mark
 use Rattle.osstate.specs.Sound.{IsSound}
 use Rattle.osstate.specs.State.{KernelState}
 use Rattle.osstate.proofs.Effecting.{printing}
+use Rattle.osstate.proofs.Histories.{own-step}
 use Rattle.osstate.proofs.Room.{own_charged}
 use Rattle.osstate.proofs.Sounds.{same-jobs}
 use Rattle.osstate.proofs.state.CoreState.tick.Goals as goal
@@ -22,7 +23,10 @@ tick-requires g c =
 pub invariant_of-self : goal.invariant_of-self
 invariant_of-self g c = rw (c.tick.ensures [], c.record.ensures.progress) (same-jobs [] (Printed Mark.Tick) refl refl c.self.invariant)
 
-pub returns-clause-effects : goal.returns-clause-effects
-returns-clause-effects g c =
+pub returns-clause-state : goal.returns-clause-state
+returns-clause-state g c =
     let sound = subst (IsSound g.row.P g.row.J) c.self.view_is c.self.invariant in
-    printing sound (own_charged c.args.self.now.view.own c.args.self.now.tasks sound.jobs.within sound.jobs.interrupts) (search rules) c.record.ensures.marks
+    own-step (Printed Mark.Tick) sound (own_charged c.args.self.now.view.own c.args.self.now.tasks sound.jobs.within sound.jobs.interrupts) (search rules)
+
+pub returns-clause-effects : goal.returns-clause-effects
+returns-clause-effects g c = printing (subst (IsSound g.row.P g.row.J) c.self.view_is c.self.invariant) (returns-clause-state g c) c.record.ensures.marks

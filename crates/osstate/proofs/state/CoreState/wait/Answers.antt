@@ -8,6 +8,7 @@ use Rattle.osstate.specs.Sound.{IsSound}
 use Rattle.osstate.specs.State.{KernelState}
 use Rattle.osstate.proofs.Room.{one-job}
 use Rattle.osstate.proofs.Effecting.{printing}
+use Rattle.osstate.proofs.Histories.{own-step}
 use Rattle.osstate.proofs.Sounds.{same-jobs}
 use Rattle.osstate.proofs.state.CoreState.wait.Goals as goal
 
@@ -21,5 +22,8 @@ wait-requires g c =
 pub invariant_of-self : goal.invariant_of-self
 invariant_of-self g c = rw (c.wait.ensures, c.record.ensures.progress) (same-jobs [] (Printed (Mark.EventAwaited c.args.task c.args.mask)) refl refl c.self.invariant)
 
+pub returns-clause-state : goal.returns-clause-state
+returns-clause-state g c = own-step (Printed (Mark.EventAwaited c.args.task c.args.mask)) (subst (IsSound g.row.P g.row.J) c.self.view_is c.self.invariant) c.requires.own (search rules)
+
 pub returns-clause-effects : goal.returns-clause-effects
-returns-clause-effects g c = printing (subst (IsSound g.row.P g.row.J) c.self.view_is c.self.invariant) c.requires.own (search rules) c.record.ensures.marks
+returns-clause-effects g c = printing (subst (IsSound g.row.P g.row.J) c.self.view_is c.self.invariant) (returns-clause-state g c) c.record.ensures.marks

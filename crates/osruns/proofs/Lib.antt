@@ -1,0 +1,3 @@
+mod Seeing
+pub mod Law
+pub mod Effects
