@@ -1,0 +1,8 @@
+mod Releases
+mod Suspensions
+mod Granted
+mod Lines
+mod Waiting
+mod Holders
+mod Takings
+mod Entering

@@ -1,0 +1,10 @@
+pub mod Jobs
+pub mod Held
+pub mod Depth
+pub mod Spinlocks
+pub mod Takes
+pub mod Worked
+pub mod Waits
+pub mod Holders
+pub mod Taken
+pub mod Entered
