@@ -3,9 +3,9 @@ use Rattle.osbase.specs.declared.statuses.Status.TheVariants.{EOsCore}
 use Rattle.osbase.specs.declared.messages.Message.{Message}
 use Rattle.osbase.specs.declared.messages.RemoteCall.{RemoteCall}
 use Rattle.osbase.specs.declared.marks.Mark.TheVariants as Mark
-use Rattle.osservice.specs.Acts.{Acts, Prints, Sends, both, if_started, look, nothing, one_then, prints, when}
+use Rattle.osacts.specs.Acts.{Acts, Prints, Sends, both, if_started, look, nothing, one_then, prints, when}
 use Rattle.osservice.specs.Returning.{reports}
-use Rattle.osservice.specs.Seen.{is_this_core}
+use Rattle.osacts.specs.Seen.{is_this_core}
 use Rattle.osservice.specs.Service.{effect_of, status_of}
 use Rattle.oscall.specs.Border.{core_of_call, service_of}
 

@@ -8,7 +8,7 @@ use Rattle.oscript.specs.Calls.{is_activation}
 use Rattle.osplan.specs.declared.plans.Core.{Core}
 use Rattle.osplan.specs.declared.plans.ExpiryPoint.{ExpiryPoint}
 use Rattle.osplan.specs.Objects.{may_act}
-use Rattle.osservice.specs.Acts.{Acts, Prints, both, for_each, one_then}
+use Rattle.osacts.specs.Acts.{Acts, Prints, both, for_each, one_then}
 use Rattle.osaction.specs.Actions.{acts}
 
 -- An activation of a task, or else a setting of events.

@@ -3,12 +3,12 @@
 ghost use Rattle.std.specs.Prelude.{◌≡◌, ◌<◌, ◌≤◌, IsTrue, false, true, length, suc};
 ghost use Rattle.osbase.specs.declared.limits.TheConstants.{CORES};
 ghost use Rattle.osbase.specs.History.{same_core};
-ghost use Rattle.osstate.specs.Does.{Effects, HasRoom};
+ghost use Rattle.osstate.specs.Does.{HasRoom};
 ghost use Rattle.osservice.specs.Terms.{MayBegin};
-ghost use Rattle.osservice.specs.Acts.{does};
 ghost use Rattle.oscall.specs.Border.{core_of_call, is_known_call};
 ghost use Rattle.osstate.specs.Readings.{is_served};
 ghost use Rattle.osaction.specs.Actions.{acts, acts_here, posts};
+ghost use Rattle.osacts.specs.Steps.{Steps};
 
 use osbase::{CoreId, Mark, Message, RemoteCall, Status};
 use oscall::serve;
@@ -25,7 +25,7 @@ pub fn act<const P: usize, const J: usize, const OUT: usize>(
     requires known { IsTrue (is_known_call state.old.view.own call) }
     requires outbox { same_core (core_of_call call) state.old.view.own.id ≡ false → length state.old.border.outbox < OUT }
     requires begins { MayBegin 2 2 state.old marks.old }
-    ensures effects { Effects 2 2 (does (acts call)) state.old state.new marks.old marks.new }
+    ensures steps { Steps 2 2 (acts call) state.old state.new marks.old marks.new }
     ensures here { same_core (core_of_call call) state.old.view.own.id ≡ true → state.new.border ≡ state.old.border }
     ensures outbox { length state.new.border.outbox ≤ suc (length state.old.border.outbox) }
 {
@@ -47,7 +47,7 @@ fn act_here<const P: usize, const J: usize, const OUT: usize>(
 )
     requires served { IsTrue (is_served state.old.view call) }
     requires begins { MayBegin 2 2 state.old marks.old }
-    ensures effects { Effects 2 2 (does (acts_here call)) state.old state.new marks.old marks.new }
+    ensures steps { Steps 2 2 (acts_here call) state.old state.new marks.old marks.new }
     ensures border { state.new.border ≡ state.old.border }
 {
     let answer = serve(state, call, marks);
@@ -66,7 +66,7 @@ fn post<const P: usize, const J: usize, const OUT: usize>(
     requires receiver { core.number < CORES }
     requires outbox { length state.old.border.outbox < OUT }
     requires room { HasRoom 2 1 state.old marks.old }
-    ensures effects { Effects 2 1 (does (posts call)) state.old state.new marks.old marks.new }
+    ensures steps { Steps 2 1 (posts call) state.old state.new marks.old marks.new }
     ensures outbox { length state.new.border.outbox ≡ suc (length state.old.border.outbox) }
 {
     state.print(Mark::CallQueued { core, call }, marks);

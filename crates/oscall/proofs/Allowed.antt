@@ -11,20 +11,22 @@ use Rattle.osbase.specs.declared.objects.Object.{Object}
 use Rattle.osbase.specs.Answers.{served}
 use Rattle.oscript.specs.declared.Op.{Op}
 use Rattle.oscript.specs.Calls.{call_of_op}
-use Rattle.osservice.specs.Acts.{Prints}
+use Rattle.osacts.specs.Acts.{Prints}
 use Rattle.osservice.specs.Checks.{first_failing}
-use Rattle.osservice.specs.Seen.{Seen}
-use Rattle.osservice.specs.Service.{serves}
+use Rattle.osacts.specs.Seen.{Seen}
+use Rattle.osservice.specs.Service.{effect_of, serves}
 use Rattle.osservice.proofs.Called.{IsAllowed, called-passes}
-use Rattle.osservice.proofs.Kept.{AreAllowed, IsNamed, Leave, crosses-ok, is_allowed, is_within, returns-ok, serves-ok}
+use Rattle.osservice.proofs.Kept.{AreAllowed, IsNamed, IsSeen, Leave, crosses-ok, is_allowed, is_within, returns-ok, serves-ok}
+use Rattle.osservice_alarms.proofs.Allowed.{absolute-ok, relative-ok}
 use Rattle.oscall.specs.Border.{calls, core_of_call, service_of}
 use Rattle.oscall.specs.Shutdown.{core_acts, starting_checks}
 use Rattle.oscall.specs.Variables.{script_acts}
 
 module _ (l : Leave) where
-  pub service-ok : (call : RemoteCall) → l.names (core_of_call call) ≡ true → (s : Seen) → AreAllowed l (service_of call s).effect
-  service-ok (RemoteCall.ActivateTask t) n s = assumption
-  service-ok call n s = assumption
+  pub service-ok : (call : RemoteCall) → l.names (core_of_call call) ≡ true → (s : Seen) → IsSeen l s → AreAllowed l (effect_of (service_of call s))
+  service-ok (RemoteCall.SetRelAlarm a increment cycle) n s seen = relative-ok l a increment cycle s seen
+  service-ok (RemoteCall.SetAbsAlarm a start cycle) n s seen = absolute-ok l a start cycle s seen
+  service-ok call n s seen = (λ ok. assumption, λ failed. tt)
 
   pub served-ok : (from : CoreId) (call : RemoteCall) (status : Status) (value : Option ℤ) → l.names (core_of_call call) ≡ true → is_allowed l (Prints (served from call status value)) ≡ true
   served-ok from (RemoteCall.GetAlarm alarm variable) status (Some x) n = n
@@ -35,7 +37,7 @@ module _ (l : Leave) where
   called-ok r op id (Some call) n is allowed =
       let within = called-passes (λ (o : Object). is_within l.view l.may o.place.core) op id call is allowed.objects in
       let named = l.named (core_of_call call) within in
-      assumption (crosses-ok l r id (core_of_call call) call (λ s. serves r id (service_of call s)) n named within (λ s. serves-ok l r id (service_of call s) n (service-ok call named s)))
+      assumption (crosses-ok l r id (core_of_call call) call (λ s. serves r id (service_of call s)) n named within (λ s seen. serves-ok l r id (service_of call s) n (service-ok call named s seen)))
 
   -- Whoever starts or counts cores asks for what they share, and whoever shuts all down asks them all.
   pub core_acts-ok : (r : Runner) (op : Op) → IsNamed l r → IsAllowed l.view l.may op → IfSome (core_acts r op) (AreAllowed l)

@@ -14,9 +14,9 @@ use Rattle.osbase.specs.Answers.{reply, served}
 use Rattle.osplan.specs.declared.plans.Core.{Core}
 use Rattle.osplan.specs.Objects.{may_name}
 use Rattle.osservice.specs.declared.returning.ServiceResult.{ServiceResult}
-use Rattle.osservice.specs.Acts.{Acts, Sends, both, if_started, look, nothing, one_then, prints, when}
+use Rattle.osacts.specs.Acts.{Acts, Sends, both, if_started, look, nothing, one_then, prints, when}
 use Rattle.osservice.specs.Returning.{asks, reports, returns}
-use Rattle.osservice.specs.Seen.{Seen, is_this_core}
+use Rattle.osacts.specs.Seen.{Seen, is_this_core}
 use Rattle.osservice.specs.Service.{Service, answer_of, effect_of, serves}
 use Rattle.osservice_tasks.specs.Events.{setting}
 use Rattle.osservice_tasks.specs.Tasks.{activation}

@@ -12,10 +12,10 @@ use Rattle.osbase.specs.declared.marks.Mark.TheVariants as Mark
 use Rattle.osbase.specs.declared.histories.Awaited.TheVariants as Awaited
 use Rattle.osbase.specs.History.{Opened, WentDown, same_core}
 use Rattle.oscript.specs.declared.Op.{Op}
-use Rattle.osservice.specs.Acts.{Acts, Prints, look_around, notes, one_then}
+use Rattle.osacts.specs.Acts.{Acts, Prints, look_around, notes, one_then}
 use Rattle.osservice.specs.Checks.{Check, first_failing}
 use Rattle.osservice.specs.Returning.{returns}
-use Rattle.osservice.specs.Seen.{AllCores}
+use Rattle.osacts.specs.Seen.{AllCores}
 use Rattle.oscall.specs.Variables.{sets}
 
 -- No core of this number is configured, or it is the invalid identifier.

@@ -9,7 +9,7 @@ use Rattle.osbase.specs.History.{Done}
 use Rattle.osbase.specs.Words.{status_number}
 use Rattle.oscript.specs.declared.Op.{Op}
 use Rattle.oscript.specs.Frames.{value_of}
-use Rattle.osservice.specs.Acts.{Acts, Prints, look, notes, one_then}
+use Rattle.osacts.specs.Acts.{Acts, Prints, look, notes, one_then}
 
 -- A sum stops at the ends of a signed number of 64 bits.
 abbrev pub sum_of : ℤ → ℤ → ℤ

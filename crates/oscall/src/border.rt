@@ -2,15 +2,17 @@
 
 ghost use Rattle.std.specs.Prelude.{◌≡◌, ◌<◌, IfSome, IsTrue, false};
 ghost use Rattle.osbase.specs.declared.limits.TheConstants.{CORES};
-ghost use Rattle.osstate.specs.Does.{Effects, Reads, service_entries, service_marks};
+ghost use Rattle.osstate.specs.Does.{service_entries, service_marks};
 ghost use Rattle.osservice.specs.Terms.{MayBegin, MayPost, MayServe};
-ghost use Rattle.osservice.specs.Acts.{both, does, prints};
+ghost use Rattle.osacts.specs.Acts.{both, prints};
 ghost use Rattle.osservice.specs.Checks.{is_ok_status};
-ghost use Rattle.osservice.specs.Service.{answers_with, carries_out};
+ghost use Rattle.osservice.specs.Service.{carries_out, answer_of};
 ghost use Rattle.osbase.specs.Answers.{reply, served};
 ghost use Rattle.osjobs.specs.Jobs.{is_plain};
 ghost use Rattle.oscall.specs.Border.{calls, core_of_call, crosses, is_known_call, serves_action, serves_request, service_of};
 ghost use Rattle.osstate.specs.Readings.{is_served};
+ghost use Rattle.osacts.specs.Runs.{seen_in};
+ghost use Rattle.osacts.specs.Steps.{Steps};
 
 use osbase::{CoreId, Mark, Message, RemoteCall, Runner, ServiceId, Status};
 use osservice::{ServiceResult, ask, finish, refuse, report};
@@ -27,9 +29,9 @@ pub fn serve<const P: usize, const J: usize, const OUT: usize>(
 ) -> ServiceResult
     requires served { IsTrue (is_served state.old.view call) }
     requires begins { MayBegin 2 2 state.old marks.old }
-    ensures answer { Reads (answers_with (service_of call)) state.old result }
-    ensures effects { Effects 2 2 (does (carries_out (service_of call))) state.old state.new marks.old marks.new }
-    ensures refused { is_ok_status result.status ≡ false → Effects 0 0 (does (carries_out (service_of call))) state.old state.new marks.old marks.new }
+    ensures answer { result ≡ answer_of (service_of call (seen_in state.old)) }
+    ensures steps { Steps 2 2 (carries_out (service_of call)) state.old state.new marks.old marks.new }
+    ensures refused { is_ok_status result.status ≡ false → Steps 0 0 (carries_out (service_of call)) state.old state.new marks.old marks.new }
     ensures border { state.new.border ≡ state.old.border }
 {
     match call {
@@ -62,7 +64,7 @@ pub fn call<const P: usize, const J: usize, const OUT: usize>(
 )
     requires known { IfSome target (λ call. IsTrue (is_known_call state.old.view.own call)) }
     requires serves { MayServe 1 OUT state.old runner marks.old }
-    ensures { Effects service_entries service_marks (does (calls runner service target)) state.old state.new marks.old marks.new }
+    ensures { Steps service_entries service_marks (calls runner service target) state.old state.new marks.old marks.new }
 {
     let Some(call) = target else {
         return refuse(state, runner, service, Status::EOsId, marks);
@@ -86,7 +88,7 @@ fn cross<const P: usize, const J: usize, const OUT: usize>(
     requires known { IsTrue (is_known_call state.old.view.own call) }
     requires receiver { (core_of_call call).number < CORES }
     requires serves { MayServe 1 OUT state.old runner marks.old }
-    ensures { Effects service_entries service_marks (does (crosses runner service call)) state.old state.new marks.old marks.new }
+    ensures { Steps service_entries service_marks (crosses runner service call) state.old state.new marks.old marks.new }
 {
     let core = call.object().place.core;
     if !state.is_this_core(core) {
@@ -105,8 +107,8 @@ fn serve_for<const P: usize, const J: usize, const OUT: usize>(
 ) -> ServiceResult
     requires served { IsTrue (is_served state.old.view call) }
     requires begins { MayBegin 3 3 state.old marks.old }
-    ensures answer { Reads (answers_with (service_of call)) state.old result }
-    ensures effects { Effects 3 3 (does (both (carries_out (service_of call)) (prints (served from call result.status result.value)))) state.old state.new marks.old marks.new }
+    ensures answer { result ≡ answer_of (service_of call (seen_in state.old)) }
+    ensures steps { Steps 3 3 (both (carries_out (service_of call)) (prints (served from call result.status result.value))) state.old state.new marks.old marks.new }
     ensures border { state.new.border ≡ state.old.border }
 {
     let answer = serve(state, call, marks);
@@ -154,7 +156,7 @@ pub fn serve_request<const P: usize, const J: usize, const OUT: usize>(
     requires served { IsTrue (is_served state.old.view call) }
     requires sender { from.number < CORES }
     requires posts { MayPost 1 OUT service_entries service_marks state.old marks.old }
-    ensures { Effects service_entries service_marks (does (serves_request from call)) state.old state.new marks.old marks.new }
+    ensures { Steps service_entries service_marks (serves_request from call) state.old state.new marks.old marks.new }
 {
     let answer = serve_for(state, from, call, marks);
     state.queue(from, reply_of(answer));
@@ -169,7 +171,7 @@ pub fn serve_action<const P: usize, const J: usize, const OUT: usize>(
 )
     requires served { IsTrue (is_served state.old.view call) }
     requires begins { MayBegin service_entries service_marks state.old marks.old }
-    ensures { Effects service_entries service_marks (does (serves_action from call)) state.old state.new marks.old marks.new }
+    ensures { Steps service_entries service_marks (serves_action from call) state.old state.new marks.old marks.new }
 {
     let answer = serve_for(state, from, call, marks);
     report(state, answer.status, marks);

@@ -2,12 +2,12 @@
 
 ghost use Rattle.std.specs.Prelude.{◌≡◌, ◌≤◌, ◌+◌, ◌^◌, IsTrue};
 ghost use Rattle.osjobs.specs.Priorities.{is_own_runner};
-ghost use Rattle.osstate.specs.Does.{Effects, HasRoom, Reads, Remarks, service_entries, service_marks};
+ghost use Rattle.osstate.specs.Does.{HasRoom, service_entries, service_marks};
 ghost use Rattle.osservice.specs.Terms.{MayAct, Offered};
-ghost use Rattle.osservice.specs.Acts.{does};
 ghost use Rattle.osservice.specs.Checks.{first_failing};
-ghost use Rattle.osservice.specs.Seen.{all_cores};
 ghost use Rattle.oscall.specs.Shutdown.{core_acts, core_count, counts_cores, goes_down, is_ignored, is_unknown, refuses_start, shuts_down_all, starting_checks};
+ghost use Rattle.osacts.specs.Runs.{all_cores_in};
+ghost use Rattle.osacts.specs.Steps.{QuietSteps, Steps};
 
 use crate::variables::set;
 use osbase::{Awaited, CoreId, CoreSet, Mark, OpenCall, Runner, ServiceId, Status, Variable};
@@ -20,7 +20,7 @@ fn is_unknown<const P: usize, const J: usize, const OUT: usize>(
     state: &CoreState<'_, P, J, OUT>,
     target: Option<CoreId>,
 ) -> bool
-    ensures { Reads (λ v h. is_unknown (all_cores v h) target) state.now result }
+    ensures { result ≡ is_unknown (all_cores_in state.now) target }
 {
     match target {
         Some(core) => !state.is_configured(core),
@@ -33,7 +33,7 @@ fn status_of_starting<const P: usize, const J: usize, const OUT: usize>(
     state: &CoreState<'_, P, J, OUT>,
     target: Option<CoreId>,
 ) -> Status
-    ensures { Reads (λ v h. first_failing (starting_checks (all_cores v h) target)) state.now result }
+    ensures { result ≡ first_failing (starting_checks (all_cores_in state.now) target) }
 {
     if is_unknown(state, target) {
         Status::EOsId
@@ -51,7 +51,7 @@ fn start_core<const P: usize, const J: usize, const OUT: usize>(
     marks: &mut Vec<Mark>,
 )
     requires { MayAct service_entries service_marks state.old runner marks.old }
-    ensures { Effects service_entries service_marks (does (refuses_start runner target)) state.old state.new marks.old marks.new }
+    ensures { Steps service_entries service_marks (refuses_start runner target) state.old state.new marks.old marks.new }
 {
     let status = status_of_starting(state, target);
     refuse(state, runner, ServiceId::StartCore, status, marks);
@@ -72,7 +72,7 @@ fn count_cores<const P: usize, const J: usize, const OUT: usize>(
     marks: &mut Vec<Mark>,
 )
     requires { MayAct service_entries service_marks state.old runner marks.old }
-    ensures { Effects service_entries service_marks (does (counts_cores runner variable)) state.old state.new marks.old marks.new }
+    ensures { Steps service_entries service_marks (counts_cores runner variable) state.old state.new marks.old marks.new }
 {
     let count = core_count(&state.started_cores());
     set(state, runner, variable, count as i64, marks);
@@ -86,7 +86,7 @@ pub fn go_down<const P: usize, const J: usize, const OUT: usize>(
     marks: &mut Vec<Mark>,
 )
     requires { HasRoom 2 1 state.old marks.old }
-    ensures effects { Effects 2 1 (does (goes_down status)) state.old state.new marks.old marks.new }
+    ensures steps { Steps 2 1 (goes_down status) state.old state.new marks.old marks.new }
     ensures outbox { state.new.border.outbox ≡ state.old.border.outbox }
 {
     state.print(Mark::ShutdownHook(status), marks);
@@ -102,7 +102,7 @@ fn shut_down_all<const P: usize, const J: usize, const OUT: usize>(
 )
     requires own { IsTrue (is_own_runner state.old.view.own runner) }
     requires count { state.old.progress.entries + 1 ≤ 2 ^ 63 }
-    ensures { Remarks 1 (does (shuts_down_all runner status)) state.old state.new }
+    ensures { QuietSteps 1 (shuts_down_all runner status) state.old state.new }
 {
     state.open_call(OpenCall {
         runner,

@@ -1,10 +1,10 @@
 //! The operations of a script that are no services: those that work on its variables, jumps, and work.
 
 ghost use Rattle.std.specs.Prelude.{◌≡◌};
-ghost use Rattle.osstate.specs.Does.{Effects, service_entries, service_marks};
+ghost use Rattle.osstate.specs.Does.{service_entries, service_marks};
 ghost use Rattle.osservice.specs.Terms.{MayAct, Offered};
-ghost use Rattle.osservice.specs.Acts.{does};
 ghost use Rattle.oscall.specs.Variables.{adds, adds_variable, script_acts, sets, stores_status, sum_of};
+ghost use Rattle.osacts.specs.Steps.{Steps};
 
 use osbase::{Mark, Runner, Status, Variable};
 use oscript::Op;
@@ -20,7 +20,7 @@ pub(crate) fn set<const P: usize, const J: usize, const OUT: usize>(
     marks: &mut Vec<Mark>,
 )
     requires { MayAct service_entries service_marks state.old runner marks.old }
-    ensures { Effects service_entries service_marks (does (sets runner variable value)) state.old state.new marks.old marks.new }
+    ensures { Steps service_entries service_marks (sets runner variable value) state.old state.new marks.old marks.new }
 {
     let mark = Mark::VariableSet {
         runner,
@@ -47,7 +47,7 @@ fn add<const P: usize, const J: usize, const OUT: usize>(
     marks: &mut Vec<Mark>,
 )
     requires { MayAct service_entries service_marks state.old runner marks.old }
-    ensures { Effects service_entries service_marks (does (adds runner variable number)) state.old state.new marks.old marks.new }
+    ensures { Steps service_entries service_marks (adds runner variable number) state.old state.new marks.old marks.new }
 {
     let frame = state.frame(runner);
     let value = sum(frame.value(variable), number);
@@ -63,7 +63,7 @@ fn add_variable<const P: usize, const J: usize, const OUT: usize>(
     marks: &mut Vec<Mark>,
 )
     requires { MayAct service_entries service_marks state.old runner marks.old }
-    ensures { Effects service_entries service_marks (does (adds_variable runner variable other)) state.old state.new marks.old marks.new }
+    ensures { Steps service_entries service_marks (adds_variable runner variable other) state.old state.new marks.old marks.new }
 {
     let frame = state.frame(runner);
     let value = sum(frame.value(variable), frame.value(other));
@@ -78,7 +78,7 @@ fn store_status<const P: usize, const J: usize, const OUT: usize>(
     marks: &mut Vec<Mark>,
 )
     requires { MayAct service_entries service_marks state.old runner marks.old }
-    ensures { Effects service_entries service_marks (does (stores_status runner variable)) state.old state.new marks.old marks.new }
+    ensures { Steps service_entries service_marks (stores_status runner variable) state.old state.new marks.old marks.new }
 {
     let frame = state.frame(runner);
     let number = i64::from(frame.status.number());

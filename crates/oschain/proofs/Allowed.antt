@@ -1,10 +1,11 @@
 -- Which acts ChainTask does: it names only objects of cores that marks may name, and asks only cores that may be asked. The check
 -- makes the cases of a table itself: the first clause is only there to begin them.
-use Rattle.std.proofs.Common.{◌≡◌, true, Some, IfSome}
+use Rattle.std.proofs.Common.{◌≡◌, nat_lt, true, Some, IfSome}
 use Rattle.std.proofs.lemmas.Bool.{and_parts}
 use Rattle.osbase.specs.declared.statuses.ServiceId.{ServiceId}
 use Rattle.osbase.specs.declared.references.Runner.{Runner}
 use Rattle.osbase.specs.declared.messages.RemoteCall.{RemoteCall}
+use Rattle.osbase.specs.declared.limits.TheConstants.{CORES}
 use Rattle.oscript.specs.declared.Op.{Op}
 use Rattle.osservice.proofs.Called.{IsAllowed}
 use Rattle.osservice.proofs.Kept.{AreAllowed, IsNamed, Leave, crosses-ok, is_within}
@@ -16,6 +17,6 @@ module _ (l : Leave) where
   chain_acts-ok r (Op.ChainTask (Some t)) n allowed =
       let within = (and_parts (is_within l.view l.may t.core) true allowed.objects).0 in
       let named = l.named t.core within in
-      let chained : AreAllowed l (chains_to r t) = crosses-ok l r ServiceId.ChainTask t.core (RemoteCall.ActivateTask t) (λ s. chains_here r t) n named within (λ s q seen. assumption (ends-ok l r n, named)) in
-      assumption
+      let chained : nat_lt t.core.number CORES ≡ true → AreAllowed l (chains_to r t) = crosses-ok l r ServiceId.ChainTask t.core (RemoteCall.ActivateTask t) (λ s. chains_here r t) n named within (λ s seen q at. assumption (ends-ok l r n, named)) in
+      (λ task. (within, (λ known s seen. (λ free. chained known, assumption), assumption)), assumption)
   chain_acts-ok r op n allowed = assumption

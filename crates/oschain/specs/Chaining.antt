@@ -9,10 +9,10 @@ use Rattle.osbase.specs.declared.references.Runner.{Runner}
 use Rattle.osbase.specs.declared.messages.RemoteCall.TheVariants as Remote
 use Rattle.osbase.specs.History.{same_runner}
 use Rattle.oscript.specs.declared.Op.{Op}
-use Rattle.osservice.specs.Acts.{Acts, both, if_started, look, when}
+use Rattle.osacts.specs.Acts.{Acts, both, if_started, look, when}
 use Rattle.osservice.specs.Callers.{by_task, holding_checks}
 use Rattle.osservice.specs.Returning.{answers, asks, returns}
-use Rattle.osservice.specs.Seen.{Seen, is_at_limit, is_this_core}
+use Rattle.osacts.specs.Seen.{Seen, is_at_limit, is_this_core}
 use Rattle.osservice_tasks.specs.Tasks.{activates, ends}
 
 -- As many jobs of the task are live as it may have. The caller's own task has one less once the caller has ended.

@@ -1,18 +1,16 @@
 //! ChainTask.
 
-ghost use Rattle.std.specs.Prelude.{◌≡◌, ◌<◌, ◌&&◌, IsTrue, false, not};
+ghost use Rattle.std.specs.Prelude.{◌≡◌, ◌<◌, IsTrue, false};
 ghost use Rattle.osbase.specs.declared.limits.TheConstants.{CORES};
-ghost use Rattle.osbase.specs.History.{same_runner};
 ghost use Rattle.osbase.specs.Objects.{task_object};
 ghost use Rattle.osbase.specs.Phases.{is_before_live};
 ghost use Rattle.osplan.specs.Objects.{may_name};
 ghost use Rattle.osjobs.specs.Priorities.{is_own_runner};
-ghost use Rattle.osstate.specs.Does.{Effects, Reads, service_entries, service_marks};
-ghost use Rattle.osstate.specs.Queries.{is_at_limit_in};
+ghost use Rattle.osstate.specs.Does.{service_entries, service_marks};
 ghost use Rattle.osservice.specs.Terms.{MayAct, MayOperate, MayServe, Offered};
-ghost use Rattle.osservice.specs.Acts.{does};
-ghost use Rattle.osservice.specs.Seen.{seen_of};
 ghost use Rattle.oschain.specs.Chaining.{chain_acts, chains, chains_across, chains_here, chains_if, chains_to, ends_caller, exceeds_limit, resumes};
+ghost use Rattle.osacts.specs.Runs.{seen_in};
+ghost use Rattle.osacts.specs.Steps.{Steps};
 
 use osbase::{Mark, RemoteCall, Runner, ServiceId, Status, TaskRef};
 use oscript::Op;
@@ -32,7 +30,7 @@ fn chain<const P: usize, const J: usize, const OUT: usize>(
     marks: &mut Vec<Mark>,
 )
     requires { MayOperate 1 OUT state.old runner (Op.ChainTask target) marks.old }
-    ensures { Effects service_entries service_marks (does (chains runner target)) state.old state.new marks.old marks.new }
+    ensures { Steps service_entries service_marks (chains runner target) state.old state.new marks.old marks.new }
 {
     match runner {
         Runner::Task(caller) => chain_if(state, caller, target, marks),
@@ -74,7 +72,7 @@ fn chain_if<const P: usize, const J: usize, const OUT: usize>(
     marks: &mut Vec<Mark>,
 )
     requires { MayOperate 1 OUT state.old (Runner.Task caller) (Op.ChainTask target) marks.old }
-    ensures { Effects service_entries service_marks (does (chains_if (Runner.Task caller) target)) state.old state.new marks.old marks.new }
+    ensures { Steps service_entries service_marks (chains_if (Runner.Task caller) target) state.old state.new marks.old marks.new }
 {
     let runner = Runner::Task(caller);
     match target {
@@ -92,7 +90,7 @@ fn chain_across<const P: usize, const J: usize, const OUT: usize>(
 )
     requires known { IsTrue (may_name state.old.view.own (task_object task)) }
     requires serves { MayServe 1 OUT state.old (Runner.Task caller) marks.old }
-    ensures { Effects service_entries service_marks (does (chains_across (Runner.Task caller) task)) state.old state.new marks.old marks.new }
+    ensures { Steps service_entries service_marks (chains_across (Runner.Task caller) task) state.old state.new marks.old marks.new }
 {
     let runner = Runner::Task(caller);
     if !state.knows_started(task.core) {
@@ -116,7 +114,7 @@ fn chain_to<const P: usize, const J: usize, const OUT: usize>(
     requires known { IsTrue (may_name state.old.view.own (task_object task)) }
     requires receiver { task.core.number < CORES }
     requires serves { MayServe 1 OUT state.old (Runner.Task caller) marks.old }
-    ensures { Effects service_entries service_marks (does (chains_to (Runner.Task caller) task)) state.old state.new marks.old marks.new }
+    ensures { Steps service_entries service_marks (chains_to (Runner.Task caller) task) state.old state.new marks.old marks.new }
 {
     if state.is_this_core(task.core) {
         return chain_here(state, caller, task, marks);
@@ -136,7 +134,7 @@ fn chain_here<const P: usize, const J: usize, const OUT: usize>(
     requires target { IsTrue (is_own_runner state.old.view.own (Runner.Task task)) }
     requires live { is_before_live state.old.progress.phase ≡ false }
     requires acts { MayAct service_entries service_marks state.old (Runner.Task caller) marks.old }
-    ensures { Effects service_entries service_marks (does (chains_here (Runner.Task caller) task)) state.old state.new marks.old marks.new }
+    ensures { Steps service_entries service_marks (chains_here (Runner.Task caller) task) state.old state.new marks.old marks.new }
 {
     if exceeds_limit(state, caller, task) {
         let runner = Runner::Task(caller);
@@ -153,8 +151,7 @@ fn exceeds_limit<const P: usize, const J: usize, const OUT: usize>(
     task: TaskRef,
 ) -> bool
     requires own { IsTrue (is_own_runner state.now.view.own (Runner.Task task)) }
-    ensures value { result ≡ (not (same_runner (Runner.Task caller) (Runner.Task task)) && is_at_limit_in task state.now) }
-    ensures reads { Reads (λ v h. exceeds_limit (seen_of v h) (Runner.Task caller) task) state.now result }
+    ensures { result ≡ exceeds_limit (seen_in state.now) (Runner.Task caller) task }
 {
     !Runner::Task(caller).is(Runner::Task(task)) && state.is_at_limit(task)
 }
@@ -176,7 +173,7 @@ pub fn resume<const P: usize, const J: usize, const OUT: usize>(
     marks: &mut Vec<Mark>,
 )
     requires { MayAct 3 2 state.old runner marks.old }
-    ensures { Effects 3 2 (does (resumes runner service answer.status answer.value)) state.old state.new marks.old marks.new }
+    ensures { Steps 3 2 (resumes runner service answer.status answer.value) state.old state.new marks.old marks.new }
 {
     if ends_caller(service, answer.status) {
         return end(state, runner, marks);

@@ -5,7 +5,7 @@ use Rattle.osbase.specs.declared.histories.Job.{Job}
 use Rattle.osbase.specs.declared.references.Runner.{Runner}
 use Rattle.oscript.specs.declared.Op.{Op}
 use Rattle.oscript.specs.Calls.{call_of_op}
-use Rattle.osservice.specs.Acts.{Acts, nothing}
+use Rattle.osacts.specs.Acts.{Acts, nothing}
 use Rattle.oskernel.specs.Operations.{acts_alone}
 
 -- Each job has a smaller stamp than those behind it. So the first of greatest priority is also the one that was

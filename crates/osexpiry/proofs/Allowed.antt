@@ -3,7 +3,7 @@
 use Rattle.std.proofs.Common.{◌≡◌, Bool, true, false, Option, Some, IfSome, None, refl, sym, subst}
 use Rattle.std.specs.List.{list_all}
 use Rattle.std.specs.Option.{option_map_or}
-use Rattle.std.proofs.lemmas.Bool.{and_parts}
+use Rattle.std.proofs.lemmas.Bool.{and_from, and_parts}
 use Rattle.std.proofs.lemmas.Option.{option_and_then_some}
 use Rattle.osbase.specs.declared.references.AlarmRef.{AlarmRef}
 use Rattle.osbase.specs.declared.references.CoreId.{CoreId}
@@ -22,7 +22,7 @@ use Rattle.osplan.specs.View.{View, own_alarm}
 use Rattle.osplan.proofs.Tests.{all-filter}
 use Rattle.ostable.specs.declared.tables.DueTable.{DueTable}
 use Rattle.ostable.specs.Waiting.{are_own}
-use Rattle.osservice.specs.Acts.{Acts}
+use Rattle.osacts.specs.Acts.{Acts}
 use Rattle.osservice.proofs.Kept.{AreAllowed, IsNamed, Leave, each-ok, elsewhere, for_each-ok, found-ok, is_within}
 use Rattle.osservice.proofs.Partners.{Partner}
 use Rattle.oscall.specs.Border.{core_of_call}
@@ -56,7 +56,7 @@ module _ (l : Leave) (actions : ActionsAllow l.view l.may) where
   acts-ok : (call : RemoteCall) → within call ≡ true → Allowed (acts call)
   acts-ok call is s seen =
       let named = l.named (core_of_call call) is in
-      (λ own q p. assumption (service-ok l call named q), λ other. assumption (elsewhere l s seen (core_of_call call) other is))
+      (λ own q p. assumption (service-ok l call named q p), λ other. (is, (λ known. (named, (and_from _ _ known (elsewhere l s seen (core_of_call call) other is), tt)), (refl, tt))))
 
   expires-ok : (a : AlarmRef) → Allowed (expires a)
   expires-ok a s seen =

@@ -11,7 +11,7 @@ use Rattle.osplan.specs.Objects.{most_posts_of_table, is_posting}
 use Rattle.osplan.specs.View.{own_alarm, own_table}
 use Rattle.osclock.specs.Clocks.{attached_to}
 use Rattle.ostable.specs.Tables.{timed_by}
-use Rattle.osservice.specs.Acts.{Acts, Notes, both, look, one_then}
+use Rattle.osacts.specs.Acts.{Acts, Notes, both, look, one_then}
 use Rattle.osexpiry.specs.Expiring.{expire_each}
 use Rattle.osexpiry.specs.ExpiryPoints.{process_tables}
 

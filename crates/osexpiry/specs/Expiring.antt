@@ -6,7 +6,7 @@ use Rattle.osbase.specs.declared.messages.RemoteCall.{RemoteCall}
 use Rattle.osbase.specs.declared.marks.Mark.TheVariants as Mark
 use Rattle.osplan.specs.declared.plans.Alarm.{Alarm}
 use Rattle.osplan.specs.View.{own_alarm}
-use Rattle.osservice.specs.Acts.{Acts, Prints, for_each, look, nothing, one_then}
+use Rattle.osacts.specs.Acts.{Acts, Prints, for_each, look, nothing, one_then}
 use Rattle.osaction.specs.Actions.{acts}
 
 -- The alarm's line, and then its action. [OSEK/VDX OS 2.2.3, section 9.2]

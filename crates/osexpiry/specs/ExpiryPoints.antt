@@ -11,7 +11,7 @@ use Rattle.osplan.specs.Objects.{posted_at}
 use Rattle.osplan.specs.View.{own_table}
 use Rattle.ostable.specs.declared.tables.DueTable.{DueTable}
 use Rattle.ostable.specs.Waiting.{repeats}
-use Rattle.osservice.specs.Acts.{Acts, Notes, Prints, both, for_each, look, nothing, notes, one_then, when}
+use Rattle.osacts.specs.Acts.{Acts, Notes, Prints, both, for_each, look, nothing, notes, one_then, when}
 use Rattle.osaction.specs.Points.{does_point}
 
 -- ---- a point, if there is one

@@ -9,10 +9,10 @@ use Rattle.oscript.specs.declared.Op.{Op}
 use Rattle.osplan.specs.declared.plans.Core.{Core}
 use Rattle.osplan.specs.declared.plans.Counter.{Counter}
 use Rattle.osplan.specs.View.{own_counter}
-use Rattle.osservice.specs.Acts.{Acts, both, look, nothing}
+use Rattle.osacts.specs.Acts.{Acts, both, look, nothing}
 use Rattle.osservice.specs.Checks.{Check}
 use Rattle.osservice.specs.Returning.{answers, returns}
-use Rattle.osservice.specs.Seen.{Seen, is_this_core}
+use Rattle.osacts.specs.Seen.{Seen, is_this_core}
 use Rattle.osexpiry.specs.Advancing.{counts}
 
 -- A hardware counter of the core, which ticks alone advance. [AUTOSAR SWS OS 4.x, OsCounterType]

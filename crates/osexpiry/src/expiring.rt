@@ -3,11 +3,10 @@
 ghost use Rattle.std.specs.Prelude.{◌≤◌, ◌+◌, IsTrue, length};
 ghost use Rattle.osbase.specs.Objects.{alarm_object};
 ghost use Rattle.osplan.specs.Objects.{is_own_object};
-ghost use Rattle.osstate.specs.Does.{Effects};
 ghost use Rattle.osservice.specs.Terms.{MayPost};
-ghost use Rattle.osservice.specs.Acts.{does};
 ghost use Rattle.osexpiry.specs.Advancing.{posted_for};
 ghost use Rattle.osexpiry.specs.Expiring.{expires};
+ghost use Rattle.osacts.specs.Steps.{Steps};
 
 use osaction::act;
 use osbase::{AlarmRef, Mark};
@@ -21,7 +20,7 @@ pub(crate) fn expire<const P: usize, const J: usize, const OUT: usize>(
 )
     requires own { IsTrue (is_own_object state.old.view.own (alarm_object alarm)) }
     requires posts { MayPost (posted_for state.old.view.own alarm) OUT 3 3 state.old marks.old }
-    ensures effects { Effects 3 3 (does (expires alarm)) state.old state.new marks.old marks.new }
+    ensures steps { Steps 3 3 (expires alarm) state.old state.new marks.old marks.new }
     ensures outbox { length state.new.border.outbox ≤ length state.old.border.outbox + posted_for state.old.view.own alarm }
 {
     let action = state.alarm_action(alarm);

@@ -4,11 +4,11 @@ ghost use Rattle.std.specs.Prelude.{◌≡◌, ◌≤◌, ◌+◌, IfSome, IsTru
 ghost use Rattle.osbase.specs.Objects.{table_object};
 ghost use Rattle.osplan.specs.Objects.{is_own_object};
 ghost use Rattle.ostable.specs.Waiting.{are_own, repeats};
-ghost use Rattle.osstate.specs.Does.{Effects, HasRoom};
+ghost use Rattle.osstate.specs.Does.{HasRoom};
 ghost use Rattle.osservice.specs.Terms.{MayPost};
-ghost use Rattle.osservice.specs.Acts.{does};
 ghost use Rattle.osaction.specs.Points.{is_known_point};
 ghost use Rattle.osexpiry.specs.ExpiryPoints.{begins, due_point, ends, first_point, processes_table, posted_by_end, posted_by_point, posted_by_table, processes_point, stops};
+ghost use Rattle.osacts.specs.Steps.{Steps};
 
 use osaction::do_point;
 use osbase::{Mark, TableRef};
@@ -24,7 +24,7 @@ pub(crate) fn process_table<const P: usize, const J: usize, const OUT: usize>(
 )
     requires own { IsTrue (are_own state.old.view.own due) }
     requires posts { MayPost (posted_by_table state.old.view.own due) OUT 38 36 state.old marks.old }
-    ensures effects { Effects 38 36 (does (processes_table due)) state.old state.new marks.old marks.new }
+    ensures steps { Steps 38 36 (processes_table due) state.old state.new marks.old marks.new }
     ensures outbox { length state.new.border.outbox ≤ length state.old.border.outbox + posted_by_table state.old.view.own due }
 {
     let point = due_point(state, due);
@@ -44,7 +44,7 @@ fn end<const P: usize, const J: usize, const OUT: usize>(
     requires own { IsTrue (is_own_object state.old.view.own (table_object table)) }
     requires next { IfSome next (λ u. IsTrue (is_own_object state.old.view.own (table_object u))) }
     requires posts { MayPost (posted_by_end state.old.view.own table next) OUT 21 19 state.old marks.old }
-    ensures effects { Effects 21 19 (does (ends table next)) state.old state.new marks.old marks.new }
+    ensures steps { Steps 21 19 (ends table next) state.old state.new marks.old marks.new }
     ensures outbox { length state.new.border.outbox ≤ length state.old.border.outbox + posted_by_end state.old.view.own table next }
 {
     if let Some(next) = next {
@@ -77,7 +77,7 @@ fn stop<const P: usize, const J: usize, const OUT: usize>(
 )
     requires own { IsTrue (is_own_object state.old.view.own (table_object table)) }
     requires room { HasRoom 2 1 state.old marks.old }
-    ensures effects { Effects 2 1 (does (stops table)) state.old state.new marks.old marks.new }
+    ensures steps { Steps 2 1 (stops table) state.old state.new marks.old marks.new }
     ensures border { state.new.border ≡ state.old.border }
 {
     state.print(Mark::TableStopped(table), marks);
@@ -91,7 +91,7 @@ fn begin<const P: usize, const J: usize, const OUT: usize>(
 )
     requires own { IsTrue (is_own_object state.old.view.own (table_object table)) }
     requires posts { MayPost (posted_by_point state.old.view.own (first_point state.old.view.own table)) OUT 19 18 state.old marks.old }
-    ensures effects { Effects 19 18 (does (begins table)) state.old state.new marks.old marks.new }
+    ensures steps { Steps 19 18 (begins table) state.old state.new marks.old marks.new }
     ensures outbox { length state.new.border.outbox ≤ length state.old.border.outbox + posted_by_point state.old.view.own (first_point state.old.view.own table) }
 {
     state.print(Mark::TableBegun(table), marks);
@@ -144,7 +144,7 @@ fn process_point<const P: usize, const J: usize, const OUT: usize>(
 )
     requires known { IfSome (option_copied point) (λ x. IsTrue (is_known_point state.old.view.own x)) }
     requires posts { MayPost (posted_by_point state.old.view.own (option_copied point)) OUT 17 17 state.old marks.old }
-    ensures effects { Effects 17 17 (does (processes_point table (option_copied point.entry))) state.old state.new marks.old marks.new }
+    ensures steps { Steps 17 17 (processes_point table (option_copied point.entry)) state.old state.new marks.old marks.new }
     ensures outbox { length state.new.border.outbox ≤ length state.old.border.outbox + posted_by_point state.old.view.own (option_copied point.entry) }
 {
     if let Some(point) = point {

@@ -3,10 +3,10 @@
 ghost use Rattle.std.specs.Prelude.{◌≡◌, Some, IsTrue};
 ghost use Rattle.osplan.specs.Clocked.{are_clocks_within};
 ghost use Rattle.osplan.specs.Objects.{most_posts_per_tick};
-ghost use Rattle.osstate.specs.Does.{Effects, service_entries, service_marks};
+ghost use Rattle.osstate.specs.Does.{service_entries, service_marks};
 ghost use Rattle.osservice.specs.Terms.{MayOperate, Offered};
-ghost use Rattle.osservice.specs.Acts.{does};
 ghost use Rattle.osexpiry.specs.Incrementing.{increment_acts, increments, is_hardware};
+ghost use Rattle.osacts.specs.Steps.{Steps};
 
 use crate::advancing::advance;
 use osbase::{CounterRef, Mark, Runner, ServiceId, Status};
@@ -38,7 +38,7 @@ fn increment_counter<const P: usize, const J: usize, const OUT: usize>(
     marks: &mut Vec<Mark>,
 )
     requires { MayOperate (most_posts_per_tick state.old.view.own) OUT state.old runner (Op.IncrementCounter target) marks.old }
-    ensures { Effects service_entries service_marks (does (increments runner target)) state.old state.new marks.old marks.new }
+    ensures { Steps service_entries service_marks (increments runner target) state.old state.new marks.old marks.new }
 {
     let service = ServiceId::IncrementCounter;
     match target {
@@ -54,7 +54,7 @@ fn increment<const P: usize, const J: usize, const OUT: usize>(
     marks: &mut Vec<Mark>,
 )
     requires { MayOperate (most_posts_per_tick state.old.view.own) OUT state.old runner (Op.IncrementCounter (Some counter)) marks.old }
-    ensures { Effects service_entries service_marks (does (increments runner (Some counter))) state.old state.new marks.old marks.new }
+    ensures { Steps service_entries service_marks (increments runner (Some counter)) state.old state.new marks.old marks.new }
 {
     let service = ServiceId::IncrementCounter;
     if is_hardware(state, counter) {

@@ -1,33 +1,23 @@
 -- What is autostarted: a task has a place for its first job, and an alarm's and a table's times are within their counter's.
-use Rattle.std.proofs.Common.{◌≡◌, ℕ, zero, suc, ◌+◌, ◌≤◌, ◌<◌, Bool, true, false, cond, Option, Some, None, List, [], ◌∷◌, ◌++◌, length, refl, ap, sym, subst, ◌∙◌, arith, nat_le}
+use Rattle.std.proofs.Common.{◌≡◌, ℕ, zero, suc, ◌+◌, ◌≤◌, ◌<◌, Bool, true, false, cond, Some, List, [], ◌∷◌, ◌++◌, length, refl, ap, sym, subst, ◌∙◌, arith, nat_le}
 use Rattle.std.specs.List.{slice_get, list_all}
-use Rattle.std.specs.Option.{option_map_or}
 use Rattle.std.proofs.lemmas.Bool.{false_from_ne_true, leb-true}
 use Rattle.osbase.specs.declared.references.TableRef.{TableRef}
 use Rattle.osbase.specs.declared.references.Runner.{Runner}
-use Rattle.osbase.specs.declared.items.Agreement.{Agreement}
-use Rattle.osbase.specs.History.{History, TableStarted, job_count, marks_of, same_runner}
+use Rattle.osbase.specs.History.{job_count, same_runner}
 use Rattle.osbase.proofs.Same.{same_runner-true, same_core-refl}
-use Rattle.osplan.specs.declared.plans.Alarm.{Alarm}
-use Rattle.osplan.specs.declared.plans.AlarmStart.{AlarmStart}
 use Rattle.osplan.specs.declared.plans.Core.{Core}
 use Rattle.osplan.specs.declared.plans.Table.{Table}
 use Rattle.osplan.specs.declared.plans.TableStart.{TableStart}
 use Rattle.osplan.specs.declared.plans.Task.{Task}
 use Rattle.osplan.specs.Clocked.{are_clocks_within}
-use Rattle.osplan.specs.View.{View, own_table}
+use Rattle.osplan.specs.View.{own_table}
 use Rattle.osbase.proofs.Places.{passes-at}
 use Rattle.osplan.proofs.Timing.{own-counter-there, own-table-attached, own-table-within, table-start-bounds}
 use Rattle.osstate.specs.Readings.{task_ref}
 use Rattle.osstate.specs.Sound.{activation_limit}
 use Rattle.osstate.specs.State.{KernelState}
 use Rattle.osstate.proofs.JobLists.{job_count-append}
-use Rattle.osclock.specs.Clocks.{alarm_ref}
-use Rattle.ostable.specs.Tables.{table_ref}
-use Rattle.osservice.specs.Acts.{does, nothing, notes}
-use Rattle.osservice.proofs.Remarking.{silent-if}
-use Rattle.osservice_alarms.specs.Alarms.{sets_alarm}
-use Rattle.oskernel.specs.Step.{autostarts_alarm, autostarts_table, starts_if, starts_in}
 use Rattle.oskernel.specs.Taking.{have_places}
 
 -- Where there is no job yet each task may have one.
@@ -61,21 +51,6 @@ later-places old new index stamp view jobs places k from within =
 
     other : (own : Core) (k : ℕ) → index + 1 ≤ k → same_runner (Runner.Task (task_ref own index)) (Runner.Task (task_ref own k)) ≡ false
     other own k from = false_from_ne_true _ (λ e. let same : index ≡ k = ap index_of (same_runner-true (Runner.Task (task_ref own index)) (Runner.Task (task_ref own k)) e) in absurd (omega (arith, from, same)))
-
--- An alarm and a table print nothing.
-pub quiet-alarm : (agreement : Option Agreement) (core : Core) (n : ℕ) (alarm : Alarm) (v : View) (h : History) → marks_of (does (autostarts_alarm agreement core n alarm) v h) ≡ marks_of h
-quiet-alarm agreement core n alarm v h = by alarm.auto
-  where
-    by : (o : Option AlarmStart) → marks_of (does (option_map_or (λ (x : AlarmStart). starts_if agreement x.modes (sets_alarm (alarm_ref core n) x.start x.cycle)) o nothing) v h) ≡ marks_of h
-    by None = refl
-    by (Some x) = silent-if (starts_in agreement x.modes) _ h refl
-
-pub quiet-table : (agreement : Option Agreement) (core : Core) (n : ℕ) (table : Table) (v : View) (h : History) → marks_of (does (autostarts_table agreement core n table) v h) ≡ marks_of h
-quiet-table agreement core n table v h = by table.auto
-  where
-    by : (o : Option TableStart) → marks_of (does (option_map_or (λ (x : TableStart). starts_if agreement x.modes (notes (TableStarted (table_ref core n) x.offset))) o nothing) v h) ≡ marks_of h
-    by None = refl
-    by (Some x) = silent-if (starts_in agreement x.modes) _ h refl
 
 -- An automatic table's offset is within a turn.
 pub offset-within : (core : Core) (s : TableRef) (x : Table) (auto : TableStart) → are_clocks_within core ≡ true → own_table core s ≡ Some x → x.auto ≡ Some auto → auto.offset ≤ 1000000001

@@ -1,9 +1,10 @@
 -- What a core does at an item it does to every history that reads the same.
 use native.Mathlib.Omega.{arith}
-use Rattle.std.proofs.Common.{◌≡◌, ◌&&◌, ℕ, ℤ, Bool, true, false, cond, Option, Some, None, option_and_then, List, [], ◌∷◌, refl, subst, sym, ◌∙◌}
+use Rattle.std.proofs.Common.{◌≡◌, ◌&&◌, ◌||◌, ℕ, ℤ, not, Bool, true, false, cond, Option, Some, None, option_and_then, List, [], ◌∷◌, refl, subst, sym, ◌∙◌}
 use Rattle.std.specs.List.{list_all, slice_get}
 use Rattle.std.specs.Option.{option_map_or}
 use Rattle.std.proofs.lemmas.Bool.{and_from, and_parts, or_right}
+use Rattle.std.proofs.lemmas.Option.{slice_get_within}
 use Rattle.osbase.specs.declared.statuses.Status.{Status}
 use Rattle.osbase.specs.declared.statuses.Status.TheVariants.{EOk}
 use Rattle.osbase.specs.declared.references.CoreId.{CoreId}
@@ -15,23 +16,29 @@ use Rattle.osbase.specs.declared.items.Item.{Item}
 use Rattle.osbase.specs.declared.items.Stimulus.{Stimulus}
 use Rattle.osbase.specs.declared.histories.Awaited.{Awaited}
 use Rattle.osbase.specs.declared.histories.Job.{Job}
-use Rattle.osbase.specs.History.{History, Took, current_task, same_job}
+use Rattle.osbase.specs.History.{AlarmSet, History, Noted, Took, current_task, same_job}
 use Rattle.osbase.specs.Marks.{core_of_runner}
 use Rattle.oscript.specs.declared.Op.{Op}
 use Rattle.oscript.specs.declared.Action.TheVariants.{Perform, End}
 use Rattle.oscript.specs.Rows.{asks_shared, halts_all, objects_of}
 use Rattle.osplan.specs.declared.protection.Protection.{Protection}
+use Rattle.osplan.specs.declared.plans.Alarm.{Alarm}
+use Rattle.osplan.specs.declared.plans.AlarmStart.{AlarmStart}
+use Rattle.osplan.specs.declared.plans.Core.{Core}
+use Rattle.osplan.specs.Clocked.{are_clocks_within}
 use Rattle.osplan.specs.Objects.{core_actions}
 use Rattle.osplan.specs.View.{Around, View}
-use Rattle.osclock.specs.Clocks.{counter_ref}
+use Rattle.osclock.specs.Clocks.{alarm_ref, counter_ref, is_setting_granted}
+use Rattle.osclock.proofs.Places.{alarm-is, alarm-own}
+use Rattle.osclock.proofs.Starts.{starts-within}
 use Rattle.ostable.proofs.Asked.{dues-own}
 use Rattle.osstate.specs.Readings.{best_job, running, script_of}
 use Rattle.osstate.specs.State.{state_of}
-use Rattle.osservice.specs.Acts.{Acts, does}
-use Rattle.osservice.specs.Seen.{Seen, seen_of}
+use Rattle.osacts.specs.Acts.{Acts, Notes, does}
+use Rattle.osacts.specs.Seen.{Seen, seen_of}
 use Rattle.osservice.specs.Service.{answer_of}
 use Rattle.osservice.proofs.Called.{locks-any}
-use Rattle.osservice.proofs.Kept.{AreAllowed, IsKept, IsNamed, IsSeen, Leave, anybody, each-ok, found-ok, is_within, kept-by, replies-ok, reports-ok, returns-ok, seen_as}
+use Rattle.osservice.proofs.Kept.{AreAllowed, IsKept, IsNamed, IsSeen, Leave, anybody, each-ok, found-ok, in_turn-ok, is_allowed, is_within, kept-by, replies-ok, reports-ok, returns-ok, seen_as, turns-shown}
 use Rattle.osservice.proofs.Partners.{Partner}
 use Rattle.osservice_tasks.proofs.Allowed.{ends-ok, ends_without_terminate-ok}
 use Rattle.oscall.specs.Border.{core_of_call, service_of}
@@ -101,7 +108,7 @@ abbrev pub leave_all : View → (Partner → Bool) → (CoreId → Bool) → Lea
 leave_all v may answered = record { view = v; may = may; answered = answered; names = anybody; named = λ core within. refl; own_named = refl }
 
 pub acting-anybody : (v : View) (may : Partner → Bool) (answered : CoreId → Bool) (h : History) → NamesActing (leave_all v may answered) h
-acting-anybody v may answered h = record { seen = record { id = refl; core = refl; due_tables = λ c. dues-own v.own c h; running = always _; awaits = always _ }; current = always _; next = always _ }
+acting-anybody v may answered h = record { seen = record { id = refl; core = refl; due_tables = λ c. dues-own v.own c h; running = always _; awaits = always _; turns = λ a start own. turns-shown v.own a start h own }; current = always _; next = always _ }
   where
     always : {A : Type 0} (o : Option A) → passes o (λ x. true) ≡ true
     always o = grind arith
@@ -117,6 +124,17 @@ dispatches-is v h = by (may_dispatch (state_of v h)) (best_job v h)
     by b o = grind arith
 
 -- ---- what follows from an item
+
+-- An autostarted alarm is set within its counter's values.
+start-granted : (l : Leave) (core : Core) (n : ℕ) (alarm : Alarm) (auto : AlarmStart) → core ≡ l.view.own → slice_get core.alarms n ≡ Some alarm → alarm.auto ≡ Some auto → is_allowed l (Notes (AlarmSet (alarm_ref core n) auto.start auto.cycle)) ≡ true
+start-granted l core n alarm auto own at starts = rw (sym own) (by (are_clocks_within core) refl)
+  where
+    by : (b : Bool) → are_clocks_within core ≡ b → not b || is_setting_granted core (Noted (AlarmSet (alarm_ref core n) auto.start auto.cycle)) ≡ true
+    by false e = refl
+    by true e =
+        let place = alarm-own core n (slice_get_within core.alarms n alarm at) in
+        let bounds = starts-within core (alarm_ref core n) alarm auto e (alarm-is core (alarm_ref core n) place ∙ at) starts in
+        grind (arith, bounds.later, bounds.turn, bounds.cycle)
 
 module _ (l : Leave) (allowed : NamesAllow l.view l.may) where
   abbrev Allowed : Acts → Type 0
@@ -149,11 +167,11 @@ module _ (l : Leave) (allowed : NamesAllow l.view l.may) where
       by None is = tt
       by (Some r) is = faults-ok r (rw is at seen.running) (fault_of s r)
 
-  effect-ok : (item : Item) → is_replied l.answered l.names item ≡ true → Allowed (effect item)
+  pub effect-ok : (item : Item) → is_replied l.answered l.names item ≡ true → Allowed (effect item)
   effect-ok (Item.Pass1 agreement) m = (grind arith, tt)
   effect-ok (Item.Pass2 cores) m = λ s seen.
       let own : l.names s.core.id ≡ true = rw seen.core l.own_named in
-      (each-ok l _ (λ p. assumption own) _, (each-ok l _ (λ p. found-ok l _ p.1.auto (λ x is. assumption)) _, each-ok l _ (λ p. found-ok l _ p.1.auto (λ x is. assumption)) _))
+      (each-ok l _ (λ p. assumption own) _, (in_turn-ok l _ s.core.alarms (λ n alarm at. found-ok l _ alarm.auto (λ x is. (λ yes. (start-granted l s.core n alarm x seen.core at is, tt), λ no. tt))), each-ok l _ (λ p. found-ok l _ p.1.auto (λ x is. assumption)) _))
   effect-ok (Item.Stim Stimulus.Op) m = λ s seen. found-ok l _ s.running (λ r is q at. performs-ok r (rw is at seen.running) (slice_get (script_of q.core r) (q.row r).frame.pc) (λ op found. allowed.scripts r (q.row r).frame.pc op (rw at.core at found)))
   effect-ok (Item.Stim Stimulus.Tick) m = ((refl, tt), (protects-ok, λ t at. (λ going s seen. each-ok l _ (λ p. assumption (counts-ok l allowed.actions (counter_ref s.core p.0))) _, λ down. tt)))
   effect-ok (Item.Stim (Stimulus.Irq isr)) m = λ s seen. (λ pending. (m, tt), λ none. (m, tt))
@@ -161,13 +179,13 @@ module _ (l : Leave) (allowed : NamesAllow l.view l.may) where
       let parts = and_parts (l.answered from) (l.names (core_of_call call)) m in (
         λ going s seen.
             let answer = answer_of (service_of call s) in
-            assumption (service-ok l call parts.1 s, served-ok l from call answer.status answer.value parts.1, replies-ok l from answer.status answer.value parts.0),
+            assumption (service-ok l call parts.1 s seen, served-ok l from call answer.status answer.value parts.1, replies-ok l from answer.status answer.value parts.0),
         λ down. (parts.0, tt),
       )
   effect-ok (Item.Received from number (Message.Action call)) m = λ t at. (
     λ going s seen.
         let answer = answer_of (service_of call s) in
-        assumption (service-ok l call m s, served-ok l from call answer.status answer.value m, reports-ok l answer.status),
+        assumption (service-ok l call m s seen, served-ok l from call answer.status answer.value m, reports-ok l answer.status),
     λ down. tt,
   )
   effect-ok (Item.Received from number (Message.Reply status)) m = λ s seen. closes-ok s seen status None

@@ -12,8 +12,8 @@ use Rattle.osbase.specs.History.{Entry, History, Note, current_task, Took, Print
 use Rattle.osbase.specs.Marks.{core_of_runner}
 use Rattle.osplan.specs.View.{View}
 use Rattle.osstate.specs.Readings.{knows_started}
-use Rattle.osservice.specs.Acts.{Sends, act}
-use Rattle.osservice.specs.Seen.{all_cores, seen_of}
+use Rattle.osacts.specs.Acts.{Sends, act}
+use Rattle.osacts.specs.Seen.{all_cores, seen_of}
 use Rattle.osservice.proofs.Kept.{IsKept, IsSeen, Leave, anybody, is_local, may_open, nobody}
 use Rattle.osservice.proofs.Partners.{Partner}
 use Rattle.oskernel.specs.Step.{after}

@@ -2,7 +2,6 @@ pub mod Phases
 pub mod Taken
 pub mod Autostart
 pub mod Operated
-pub mod Families
 pub mod Carried
 pub mod JobLists
 pub mod Holding
@@ -15,3 +14,5 @@ pub mod Opened
 pub mod Locked
 pub mod Among
 pub mod Stepping
+pub mod Dispatched
+pub mod Permitted

@@ -27,7 +27,7 @@ use Rattle.osplan.specs.View.{View}
 use Rattle.osstate.specs.Readings.{is_served, running}
 use Rattle.osstate.specs.State.{state_of}
 use Rattle.ostable.proofs.Asked.{dues-own}
-use Rattle.osservice.proofs.Kept.{Leave, anybody, is_local, is_within}
+use Rattle.osservice.proofs.Kept.{Leave, anybody, is_within, turns-shown}
 use Rattle.osservice.proofs.Partners.{Partner}
 use Rattle.osadmit.specs.Admission.{admits}
 use Rattle.osawait.specs.Free.{may_go_on}
@@ -88,7 +88,7 @@ module _ (v : View) (may : Partner → Bool) (names : CoreId → Bool) (allowed 
       let own = act-own names h p.own in
       let best = best-passes v h (own_job names) own.jobs own.isrs in
       let runs : passes (running v h) (own_job names) ≡ true = running-passes v h (own_job names) own.jobs own.isrs in
-      record { seen = record { id = refl; core = refl; due_tables = λ c. dues-own v.own c h; running = grind (arith, runs); awaits = p.caller }; current = own.current; next = grind (arith, best) }
+      record { seen = record { id = refl; core = refl; due_tables = λ c. dues-own v.own c h; running = grind (arith, runs); awaits = p.caller; turns = λ a start here. turns-shown v.own a start h here }; current = own.current; next = grind (arith, best) }
 
   inside-holds : Holds may anybody names (Inside names)
   inside-holds = record {

@@ -14,7 +14,7 @@ use Rattle.osbase.specs.History.{Entry, History, Took, Printed, Noted, current_t
 use Rattle.osbase.proofs.Same.{same_core-true}
 use Rattle.osplan.specs.View.{Around, View}
 use Rattle.osstate.specs.Readings.{best_job, knows_started, running}
-use Rattle.osservice.specs.Seen.{seen_of}
+use Rattle.osacts.specs.Seen.{seen_of}
 use Rattle.osservice.proofs.Kept.{IsKept, anybody, is_local, is_within, nobody, seen_as}
 use Rattle.osservice.proofs.SeenSame.{ReadsSame, seen-same}
 use Rattle.oskernel.specs.Step.{after, effect}

@@ -9,10 +9,10 @@ use Rattle.osbase.specs.declared.references.Runner.{Runner}
 use Rattle.oscript.specs.declared.Op.{Op}
 use Rattle.oscript.specs.Calls.{call_of_op}
 use Rattle.oscript.specs.Frames.{service_of_op}
-use Rattle.osservice.specs.Acts.{Acts, look, nothing, when}
+use Rattle.osacts.specs.Acts.{Acts, look, nothing, when}
 use Rattle.osservice.specs.Callers.{has_suspended}
 use Rattle.osservice.specs.Returning.{returns}
-use Rattle.osservice.specs.Seen.{Seen}
+use Rattle.osacts.specs.Seen.{Seen}
 use Rattle.osservice_tasks.specs.Tasks.{task_acts}
 use Rattle.osservice_alarms.specs.Counters.{counter_acts}
 use Rattle.osservice_tables.specs.Tables.{table_acts}

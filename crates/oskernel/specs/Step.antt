@@ -35,8 +35,9 @@ use Rattle.osplan.specs.View.{View}
 use Rattle.osclock.specs.Clocks.{alarm_ref}
 use Rattle.ostable.specs.Tables.{table_ref}
 use Rattle.osstate.specs.Readings.{script_of, best_job, running, task_ref}
-use Rattle.osstate.specs.State.{state_of}
-use Rattle.osservice.specs.Acts.{Acts, Sends, both, does, in_turn, look, notes, nothing, one_then, prints, when}
+use Rattle.osstate.specs.Queries.{best_in, running_in}
+use Rattle.osstate.specs.State.{KernelState, state_of}
+use Rattle.osacts.specs.Acts.{Acts, Sends, both, does, in_turn, look, notes, nothing, one_then, prints, when}
 use Rattle.osservice_alarms.specs.Alarms.{sets_alarm}
 use Rattle.osservice_tasks.specs.Tasks.{activates, ends_without_terminate}
 use Rattle.oscall.specs.Border.{serves_request, serves_action}
@@ -184,6 +185,22 @@ goes_to v (Some j) h = if option_map_or (same_job j) (running v h) false then h 
 -- Dispatch comes at the end of an item where the core may dispatch. [OSEK/VDX OS 2.2.3, section 4.6]
 abbrev pub dispatches : View → History → History
 dispatches v h = if may_dispatch (state_of v h) then goes_to v (best_job v h) h else h
+
+-- The same as acts, by what the core's state says.
+abbrev pub leaves_by : Option TaskRef → Acts
+leaves_by None = nothing
+leaves_by (Some t) = prints (Mark.PostTaskHook t)
+
+abbrev pub enters_by : Option TaskRef → Runner → Acts
+enters_by current (Runner.Task t) = both (leaves_by current) (prints (Mark.PreTaskHook t))
+enters_by current (Runner.Isr i) = prints (Mark.IsrEntered i)
+
+abbrev pub goes_in : KernelState → Option Job → Acts
+goes_in s None = nothing
+goes_in s (Some j) = when (option_map_or (same_job j) (running_in s) false) nothing (enters_by s.tasks.current j.runner)
+
+abbrev pub dispatches_in : KernelState → Acts
+dispatches_in s = when (may_dispatch s) (goes_in s (best_in s)) nothing
 
 -- The history after an item: the item, what follows from it, and dispatch. [own]
 abbrev pub after : View → History → Item → History

@@ -1,5 +1,5 @@
 -- What an admitted item says of the state before it is taken.
-use Rattle.std.specs.Prelude.{◌≡◌, ℕ, ◌+◌, ◌<◌, ◌≤◌, length, Bool, true, false, Option, Some, None}
+use Rattle.std.specs.Prelude.{ℕ, ◌<◌, ◌≤◌, length, Bool, true, false, Option, Some, None}
 use Rattle.osbase.specs.declared.items.Agreement.{Agreement}
 use Rattle.osbase.specs.declared.items.Item.{Item}
 use Rattle.osbase.specs.declared.references.ModeId.{ModeId}
@@ -10,11 +10,6 @@ use Rattle.osplan.specs.Stimuli.{knows_stimulus}
 use Rattle.osstate.specs.Readings.{is_served, task_ref}
 use Rattle.osstate.specs.Sound.{activation_limit}
 use Rattle.osstate.specs.State.{KernelState}
-
--- One item is taken, and the history grows by at most so many entries. [own]
-pub record TakesItem (most : ℕ) (old new : KernelState) : Type 0 where
-  pub items : new.progress.items ≡ old.progress.items + 1
-  pub entries : new.progress.entries ≤ old.progress.entries + most
 
 -- The second gate's item.
 abbrev pub is_second_gate : Item → Bool

@@ -1,21 +1,24 @@
 //! What follows from an item.
 
-ghost use Rattle.std.specs.Prelude.{◌≡◌, ◌+◌, ◌<◌, ◌≤◌, ◌∷◌, ◌||◌, [], IsTrue, Some, false, length, vec_len, vec_capacity};
+ghost use Rattle.std.specs.Prelude.{◌≡◌, ◌+◌, ◌<◌, ◌≤◌, [], IsTrue, Some, false, length};
 ghost use Rattle.osbase.specs.declared.limits.TheConstants.{CORES};
-ghost use Rattle.osbase.specs.History.{Took, outbox_after, phase_after};
+ghost use Rattle.osbase.specs.History.{Took};
 ghost use Rattle.osbase.specs.Phases.{is_before_live, is_past_first_gate};
+ghost use Rattle.osplan.specs.Clocked.{are_clocks_within};
 ghost use Rattle.osplan.specs.Objects.{most_posts_per_tick, outbox_needed};
 ghost use Rattle.osplan.specs.Stimuli.{knows_stimulus};
 ghost use Rattle.osjobs.specs.Jobs.{is_plain};
-ghost use Rattle.osstate.specs.Does.{Adds, Does, Effects, HasRoom, item_entries, item_marks, service_entries, service_marks};
-ghost use Rattle.osstate.specs.Sound.{is_first_gate, is_grant_known, is_posted, is_sender_known};
+ghost use Rattle.osstate.specs.Does.{HasRoom, item_entries, item_marks, service_entries, service_marks};
+ghost use Rattle.osstate.specs.Sound.{is_sender_known};
+ghost use Rattle.osstate.specs.Steps.{state_after};
 ghost use Rattle.osservice.specs.Terms.{MayBegin, MayPost, MayServe};
-ghost use Rattle.osservice.specs.Acts.{does, look, prints};
+ghost use Rattle.osacts.specs.Acts.{look, prints};
 ghost use Rattle.osstate.specs.Readings.{is_served};
 ghost use Rattle.osadmit.specs.Admission.{admits};
 ghost use Rattle.oskernel.specs.Bounded.{step_entries};
 ghost use Rattle.oskernel.specs.Step.{calls_shutdown_hook, closes, effect, ends_core, gate_mark, next_operation, receives, service_awaiting, stimulates, success_value};
-ghost use Rattle.oskernel.specs.Taking.{TakesItem, is_acting, is_filling, is_for_core, is_going_on, is_known, is_request, is_second_gate};
+ghost use Rattle.oskernel.specs.Taking.{is_acting, is_filling, is_for_core, is_going_on, is_known, is_request, is_second_gate};
+ghost use Rattle.osacts.specs.Steps.{Steps};
 
 use crate::interrupts::raise;
 use crate::starting::start;
@@ -37,38 +40,11 @@ pub(crate) fn take<const P: usize, const J: usize, const OUT: usize>(
     requires admitted { IsTrue (admits OUT state.old item.now) }
     requires outbox { outbox_needed state.old.view.own ≤ OUT }
     requires room { HasRoom step_entries item_marks state.old marks.old }
-    ensures does { Does (λ v h. does (effect item.now) v (Took item.now ∷ h)) state.old state.new marks.old.items marks.new.items }
-    ensures takes { TakesItem (item_entries + 1) state.old state.new }
-    ensures view { state.new.view ≡ state.old.view }
-    ensures adds { Adds item_marks marks.old.items marks.new.items }
-    ensures len { vec_len marks.new ≤ vec_len marks.old + item_marks }
-    ensures capacity { vec_capacity marks.new ≡ vec_capacity marks.old }
+    ensures steps { Steps item_entries item_marks (effect item.now) (state_after (Took item.now) state.old) state.new marks.old marks.new }
+    ensures within { IsTrue (are_clocks_within state.old.view.own) }
 {
-    show_admitted(state, item);
     state.take_item(item);
     follow(state, item, marks);
-}
-
-// What an admitted item says of the state: it runs no test, but shows what taking the item asks for.
-fn show_admitted<const P: usize, const J: usize, const OUT: usize>(
-    state: &CoreState<'_, P, J, OUT>,
-    item: &Item,
-)
-    requires admitted { IsTrue (admits OUT state.now item.now) }
-    requires outbox { 1 ≤ OUT }
-    ensures sender { IsTrue (is_sender_known item.now) }
-    ensures lock { IsTrue (is_grant_known item.now) }
-    ensures forward { IsTrue (is_before_live (phase_after (Took item.now) state.now.progress.phase)) → IsTrue (is_before_live state.now.progress.phase) }
-    ensures onward { IsTrue (is_past_first_gate (phase_after (Took item.now) state.now.progress.phase)) → IsTrue (is_first_gate item.now || is_past_first_gate state.now.progress.phase) }
-    ensures live { IsTrue (is_acting item.now) → is_before_live (phase_after (Took item.now) state.now.progress.phase) ≡ false }
-    ensures past { IsTrue (is_second_gate item.now) → IsTrue (is_past_first_gate (phase_after (Took item.now) state.now.progress.phase)) }
-    ensures fresh { IsTrue (is_second_gate item.now) → IsTrue (is_before_live state.now.progress.phase) }
-    ensures front { IsTrue (is_posted item.now) → 0 < length state.now.border.outbox }
-    ensures filling { IsTrue (is_filling item.now) → length (outbox_after (Took item.now) state.now.border.outbox) < OUT }
-    ensures empty { IsTrue (is_going_on item.now) → outbox_after (Took item.now) state.now.border.outbox ≡ [] }
-    ensures known { IsTrue (is_known state.now item.now) }
-{
-    let _call = state.awaited_call();
 }
 
 // What follows from an item that was taken.
@@ -87,7 +63,7 @@ fn follow<const P: usize, const J: usize, const OUT: usize>(
     requires empty { IsTrue (is_going_on item.now) → state.old.border.outbox ≡ [] }
     requires places { outbox_needed state.old.view.own ≤ OUT }
     requires room { HasRoom item_entries item_marks state.old marks.old }
-    ensures { Effects item_entries item_marks (does (effect item.now)) state.old state.new marks.old marks.new }
+    ensures { Steps item_entries item_marks (effect item.now) state.old state.new marks.old marks.new }
 {
     match item {
         Item::Began { core, status } => {
@@ -132,7 +108,7 @@ fn print_halt<const P: usize, const J: usize, const OUT: usize>(
     marks: &mut Vec<Mark>,
 )
     requires { HasRoom 1 1 state.old marks.old }
-    ensures { Effects 1 1 (does (prints (Mark.Halted core status))) state.old state.new marks.old marks.new }
+    ensures { Steps 1 1 (prints (Mark.Halted core status)) state.old state.new marks.old marks.new }
 {
     let mark = Mark::Halted { core, status };
     state.print(mark, marks);
@@ -145,7 +121,7 @@ fn end<const P: usize, const J: usize, const OUT: usize>(
     marks: &mut Vec<Mark>,
 )
     requires { HasRoom 1 1 state.old marks.old }
-    ensures { Effects 1 1 (does (ends_core shutdown)) state.old state.new marks.old marks.new }
+    ensures { Steps 1 1 (ends_core shutdown) state.old state.new marks.old marks.new }
 {
     if let Some((_, status)) = shutdown {
         call_shutdown_hook(state, status, marks);
@@ -159,7 +135,7 @@ fn call_shutdown_hook<const P: usize, const J: usize, const OUT: usize>(
     marks: &mut Vec<Mark>,
 )
     requires { HasRoom 1 1 state.old marks.old }
-    ensures { Effects 1 1 (does (calls_shutdown_hook status)) state.old state.new marks.old marks.new }
+    ensures { Steps 1 1 (calls_shutdown_hook status) state.old state.new marks.old marks.new }
 {
     if !state.course().is_down() {
         state.print(Mark::ShutdownHook(status), marks);
@@ -186,7 +162,7 @@ fn dispatch_stimulus<const P: usize, const J: usize, const OUT: usize>(
 )
     requires known { IsTrue (knows_stimulus state.old.view.own stimulus) }
     requires posts { MayPost (1 + most_posts_per_tick state.old.view.own) OUT service_entries service_marks state.old marks.old }
-    ensures { Effects service_entries service_marks (does (stimulates stimulus)) state.old state.new marks.old marks.new }
+    ensures { Steps service_entries service_marks (stimulates stimulus) state.old state.new marks.old marks.new }
 {
     match stimulus {
         Stimulus::Op => do_next_operation(state, marks),
@@ -201,7 +177,7 @@ fn do_next_operation<const P: usize, const J: usize, const OUT: usize>(
     marks: &mut Vec<Mark>,
 )
     requires { MayPost (1 + most_posts_per_tick state.old.view.own) OUT service_entries service_marks state.old marks.old }
-    ensures { Effects service_entries service_marks (does (look (λ s. next_operation s.running))) state.old state.new marks.old marks.new }
+    ensures { Steps service_entries service_marks (look (λ s. next_operation s.running)) state.old state.new marks.old marks.new }
 {
     if let Some(job) = state.running_job() {
         do_next_action(state, job.runner, marks);
@@ -214,7 +190,7 @@ fn do_next_action<const P: usize, const J: usize, const OUT: usize>(
     marks: &mut Vec<Mark>,
 )
     requires { MayServe (1 + most_posts_per_tick state.old.view.own) OUT state.old runner marks.old }
-    ensures { Effects service_entries service_marks (does (next_operation (Some runner))) state.old state.new marks.old marks.new }
+    ensures { Steps service_entries service_marks (next_operation (Some runner)) state.old state.new marks.old marks.new }
 {
     match state.next_action(runner) {
         Action::Perform(op) => crate::operations::operate(state, Step { runner, op }, marks),
@@ -232,7 +208,7 @@ fn receive<const P: usize, const J: usize, const OUT: usize>(
     requires sender { from.number < CORES }
     requires outbox { IsTrue (is_request message.now) → length state.old.border.outbox < OUT }
     requires begins { MayBegin service_entries service_marks state.old marks.old }
-    ensures { Effects service_entries service_marks (does (receives from message.now)) state.old state.new marks.old marks.new }
+    ensures { Steps service_entries service_marks (receives from message.now) state.old state.new marks.old marks.new }
 {
     match message {
         Message::Request(call) => serve_request(state, from, *call, marks),
@@ -252,7 +228,7 @@ fn serve_request<const P: usize, const J: usize, const OUT: usize>(
     requires served { IsTrue (is_served state.old.view call) }
     requires sender { from.number < CORES }
     requires posts { MayPost 1 OUT service_entries service_marks state.old marks.old }
-    ensures { Effects service_entries service_marks (does (receives from (Message.Request call))) state.old state.new marks.old marks.new }
+    ensures { Steps service_entries service_marks (receives from (Message.Request call)) state.old state.new marks.old marks.new }
 {
     if state.course().is_going() {
         oscall::serve_request(state, from, call, marks);
@@ -270,7 +246,7 @@ fn serve_action<const P: usize, const J: usize, const OUT: usize>(
 )
     requires served { IsTrue (is_served state.old.view call) }
     requires begins { MayBegin service_entries service_marks state.old marks.old }
-    ensures { Effects service_entries service_marks (does (receives from (Message.Action call))) state.old state.new marks.old marks.new }
+    ensures { Steps service_entries service_marks (receives from (Message.Action call)) state.old state.new marks.old marks.new }
 {
     if state.course().is_going() {
         oscall::serve_action(state, from, call, marks);
@@ -298,7 +274,7 @@ fn close<const P: usize, const J: usize, const OUT: usize>(
     marks: &mut Vec<Mark>,
 )
     requires { HasRoom service_entries service_marks state.old marks.old }
-    ensures { Effects service_entries service_marks (does (look (λ s. closes s.awaits status value))) state.old state.new marks.old marks.new }
+    ensures { Steps service_entries service_marks (look (λ s. closes s.awaits status value)) state.old state.new marks.old marks.new }
 {
     let Some(call) = state.awaited_call() else {
         return;

@@ -2,10 +2,10 @@
 
 ghost use Rattle.std.specs.Prelude.{IsTrue};
 ghost use Rattle.osjobs.specs.Priorities.{is_own_runner};
-ghost use Rattle.osstate.specs.Does.{Effects, HasRoom};
+ghost use Rattle.osstate.specs.Does.{HasRoom};
 ghost use Rattle.osbase.specs.declared.references.Runner.{Runner as RunnerValue};
-ghost use Rattle.osservice.specs.Acts.{does};
 ghost use Rattle.oskernel.specs.Step.{raises};
+ghost use Rattle.osacts.specs.Steps.{Steps};
 
 use osbase::{IsrRef, Mark};
 use osstate::CoreState;
@@ -19,7 +19,7 @@ pub(crate) fn raise<const P: usize, const J: usize, const OUT: usize>(
 )
     requires own { IsTrue (is_own_runner state.old.view.own (RunnerValue.Isr isr)) }
     requires room { HasRoom 1 1 state.old marks.old }
-    ensures { Effects 1 1 (does (raises isr)) state.old state.new marks.old marks.new }
+    ensures { Steps 1 1 (raises isr) state.old state.new marks.old marks.new }
 {
     if state.is_pending(isr) {
         state.print(Mark::InterruptLost(isr), marks);

@@ -1,13 +1,13 @@
 //! The operations of a running job.
 
 ghost use Rattle.std.specs.Prelude.{◌≡◌, ◌+◌};
-ghost use Rattle.osstate.specs.Does.{Effects, Reads, service_entries, service_marks};
+ghost use Rattle.osstate.specs.Does.{service_entries, service_marks};
 ghost use Rattle.osplan.specs.Objects.{most_posts_per_tick};
 ghost use Rattle.osservice.specs.Terms.{MayAct, MayOperate};
 ghost use Rattle.oscript.specs.Calls.{call_of_op};
-ghost use Rattle.osservice.specs.Acts.{does};
-ghost use Rattle.osservice.specs.Seen.{seen_of};
 ghost use Rattle.oskernel.specs.Operations.{acts_alone, acts_on_shared, acts_suspended, is_ignored_now, operates, operates_by, refused_now, refused_of};
+ghost use Rattle.osacts.specs.Runs.{seen_in};
+ghost use Rattle.osacts.specs.Steps.{Steps};
 
 use osbase::{Mark, ServiceId, Status};
 use oscall::{call, shutdown, variables};
@@ -24,7 +24,7 @@ pub(crate) fn operate<const P: usize, const J: usize, const OUT: usize>(
     marks: &mut Vec<Mark>,
 )
     requires { MayOperate (1 + most_posts_per_tick state.old.view.own) OUT state.old step.runner step.op marks.old }
-    ensures { Effects service_entries service_marks (does (operates step.runner step.op)) state.old state.new marks.old marks.new }
+    ensures { Steps service_entries service_marks (operates step.runner step.op) state.old state.new marks.old marks.new }
 {
     if is_ignored_now(state, step) {
         return state.complete(step.runner, Status::EOk, None);
@@ -40,7 +40,7 @@ fn is_ignored_now<const P: usize, const J: usize, const OUT: usize>(
     state: &CoreState<'_, P, J, OUT>,
     step: Step,
 ) -> bool
-    ensures { Reads (λ v h. is_ignored_now (seen_of v h) step.runner step.op) state.now result }
+    ensures { result ≡ is_ignored_now (seen_in state.now) step.runner step.op }
 {
     shutdown::is_ignored(step.op) && state.is_locked(step.runner)
 }
@@ -50,7 +50,7 @@ fn refused_now<const P: usize, const J: usize, const OUT: usize>(
     state: &CoreState<'_, P, J, OUT>,
     step: Step,
 ) -> Option<ServiceId>
-    ensures { Reads (λ v h. refused_now (seen_of v h) step.runner step.op) state.now result }
+    ensures { result ≡ refused_now (seen_in state.now) step.runner step.op }
 {
     if state.is_locked(step.runner) {
         refused_of(step.op.service())
@@ -85,7 +85,7 @@ fn do_operation<const P: usize, const J: usize, const OUT: usize>(
     marks: &mut Vec<Mark>,
 )
     requires { MayOperate (1 + most_posts_per_tick state.old.view.own) OUT state.old step.runner step.op marks.old }
-    ensures { Effects service_entries service_marks (does (operates_by step.runner step.op (call_of_op step.op))) state.old state.new marks.old marks.new }
+    ensures { Steps service_entries service_marks (operates_by step.runner step.op (call_of_op step.op)) state.old state.new marks.old marks.new }
 {
     match call_of_op(step.op) {
         Some((service, target)) => call(state, step.runner, service, target, marks),
@@ -100,7 +100,7 @@ fn act_alone<const P: usize, const J: usize, const OUT: usize>(
     marks: &mut Vec<Mark>,
 )
     requires { MayOperate (1 + most_posts_per_tick state.old.view.own) OUT state.old step.runner step.op marks.old }
-    ensures { Effects service_entries service_marks (does (acts_alone step.runner step.op)) state.old state.new marks.old marks.new }
+    ensures { Steps service_entries service_marks (acts_alone step.runner step.op) state.old state.new marks.old marks.new }
 {
     if variables::operate(state, step, marks) {
         return;
@@ -130,7 +130,7 @@ fn act_on_shared<const P: usize, const J: usize, const OUT: usize>(
     marks: &mut Vec<Mark>,
 )
     requires { MayAct service_entries service_marks state.old step.runner marks.old }
-    ensures { Effects service_entries service_marks (does (acts_on_shared step.runner step.op)) state.old state.new marks.old marks.new }
+    ensures { Steps service_entries service_marks (acts_on_shared step.runner step.op) state.old state.new marks.old marks.new }
 {
     if osservice_spins::operate(state, step, marks) {
         return;

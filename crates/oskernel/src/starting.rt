@@ -4,11 +4,12 @@ ghost use Rattle.std.specs.Prelude.{◌≡◌, ◌==◌, ◌+◌, ◌<◌, ◌�
 ghost use Rattle.std.specs.List.{list_any, slice_get};
 ghost use Rattle.osbase.specs.Phases.{is_before_live, is_past_first_gate};
 ghost use Rattle.osplan.specs.Clocked.{are_clocks_within};
-ghost use Rattle.osstate.specs.Does.{Effects, HasRoom, Remarks, item_entries, item_marks};
+ghost use Rattle.osstate.specs.Does.{HasRoom, item_entries, item_marks};
 ghost use Rattle.osstate.specs.Sound.{is_agreed};
-ghost use Rattle.osservice.specs.Acts.{does, in_turn, look};
+ghost use Rattle.osacts.specs.Acts.{in_turn, look};
 ghost use Rattle.oskernel.specs.Step.{autostarts_alarm, autostarts_table, autostarts_task, starts, starts_in};
 ghost use Rattle.oskernel.specs.Taking.{agreement_on, have_places};
+ghost use Rattle.osacts.specs.Steps.{QuietSteps, Steps};
 
 use osbase::{Agreement, AlarmRef, List, Mark, ModeId, TableRef, TaskRef};
 use osplan::{Alarm, Table, Task};
@@ -23,7 +24,7 @@ pub(crate) fn start<const P: usize, const J: usize, const OUT: usize>(
     requires past { IsTrue (is_past_first_gate state.old.progress.phase) }
     requires fresh { state.old.tasks.jobs ≡ [] }
     requires room { HasRoom item_entries item_marks state.old marks.old }
-    ensures { Effects item_entries item_marks (does (look (λ s. starts s.agreement s.core))) state.old state.new marks.old marks.new }
+    ensures { Steps item_entries item_marks (look (λ s. starts s.agreement s.core)) state.old state.new marks.old marks.new }
 {
     let mode = agreed_mode(state.agreement());
     start_tasks(state, mode, marks);
@@ -40,7 +41,7 @@ fn start_tasks<const P: usize, const J: usize, const OUT: usize>(
     requires live { is_before_live state.old.progress.phase ≡ false }
     requires fresh { state.old.tasks.jobs ≡ [] }
     requires room { HasRoom 32 32 state.old marks.old }
-    ensures { Effects 32 32 (λ v h. does (in_turn (autostarts_task (Some (agreement_on mode)) v.own) v.own.tasks) v h) state.old state.new marks.old marks.new }
+    ensures { Steps 32 32 (in_turn (autostarts_task (Some (agreement_on mode)) state.old.view.own) state.old.view.own.tasks) state.old state.new marks.old marks.new }
 {
     let tasks = state.tasks();
     let mut index: u8 = 0;
@@ -62,7 +63,7 @@ fn autostart_task<const P: usize, const J: usize, const OUT: usize>(
     requires ready { have_places index state.old }
     requires live { is_before_live state.old.progress.phase ≡ false }
     requires room { HasRoom 1 1 state.old marks.old }
-    ensures effects { Effects 1 1 (λ v h. does (autostarts_task (Some (agreement_on mode)) v.own index task.now) v h) state.old state.new marks.old marks.new }
+    ensures steps { Steps 1 1 (autostarts_task (Some (agreement_on mode)) state.old.view.own index task.now) state.old state.new marks.old marks.new }
     ensures ready { have_places (index + 1) state.new }
 {
     let core = state.id();
@@ -77,7 +78,7 @@ fn start_alarms<const P: usize, const J: usize, const OUT: usize>(
     mode: Option<ModeId>,
 )
     requires count { state.old.progress.entries + 32 ≤ 2 ^ 63 }
-    ensures { Remarks 32 (λ v h. does (in_turn (autostarts_alarm (Some (agreement_on mode)) v.own) v.own.alarms) v h) state.old state.new }
+    ensures { QuietSteps 32 (in_turn (autostarts_alarm (Some (agreement_on mode)) state.old.view.own) state.old.view.own.alarms) state.old state.new }
 {
     let alarms = state.alarms();
     let mut index: u8 = 0;
@@ -97,7 +98,7 @@ fn autostart_alarm<const P: usize, const J: usize, const OUT: usize>(
     requires own { slice_get state.old.view.own.alarms index ≡ Some alarm.now }
     requires within { IsTrue (are_clocks_within state.old.view.own) }
     requires count { state.old.progress.entries < 2 ^ 63 }
-    ensures { Remarks 1 (λ v h. does (autostarts_alarm (Some (agreement_on mode)) v.own index alarm.now) v h) state.old state.new }
+    ensures { QuietSteps 1 (autostarts_alarm (Some (agreement_on mode)) state.old.view.own index alarm.now) state.old state.new }
 {
     let core = state.id();
     if let Some(start) = &alarm.auto {
@@ -113,7 +114,7 @@ fn start_tables<const P: usize, const J: usize, const OUT: usize>(
     mode: Option<ModeId>,
 )
     requires count { state.old.progress.entries + 8 ≤ 2 ^ 63 }
-    ensures { Remarks 8 (λ v h. does (in_turn (autostarts_table (Some (agreement_on mode)) v.own) v.own.tables) v h) state.old state.new }
+    ensures { QuietSteps 8 (in_turn (autostarts_table (Some (agreement_on mode)) state.old.view.own) state.old.view.own.tables) state.old state.new }
 {
     let tables = state.tables();
     let mut index: u8 = 0;
@@ -133,7 +134,7 @@ fn autostart_table<const P: usize, const J: usize, const OUT: usize>(
     requires own { slice_get state.old.view.own.tables index ≡ Some table.now }
     requires within { IsTrue (are_clocks_within state.old.view.own) }
     requires count { state.old.progress.entries < 2 ^ 63 }
-    ensures { Remarks 1 (λ v h. does (autostarts_table (Some (agreement_on mode)) v.own index table.now) v h) state.old state.new }
+    ensures { QuietSteps 1 (autostarts_table (Some (agreement_on mode)) state.old.view.own index table.now) state.old state.new }
 {
     let core = state.id();
     if let Some(start) = &table.auto {

@@ -12,7 +12,7 @@ use Rattle.osbase.specs.Phases.{halted_from, is_down, is_going, stands_in}
 use Rattle.oscript.specs.Rows.{asks_shared, halts_all}
 use Rattle.osplan.specs.View.{View}
 use Rattle.osgroup.specs.Groups.{bare_core}
-use Rattle.osservice.specs.Acts.{does}
+use Rattle.osacts.specs.Acts.{does}
 use Rattle.osservice.proofs.Called.{locks-none}
 use Rattle.osservice.proofs.Kept.{anybody, nobody}
 use Rattle.osstate.specs.Readings.{next_start, phase_at}

@@ -1,4 +1,5 @@
--- What the cores of a group did in a run of the whole, they did in a run of the group's configuration, in which the others have no objects.
+-- A group of cores by itself. The lists of items of its cores fit by the group's configuration too, in which the others have no objects,
+-- beside lists of the others that leave out what a core without objects cannot take; and each core of the group prints the same.
 use Rattle.std.specs.Prelude.{◌≡◌, Bool, true, false, if◌then◌else◌, IsTrue, List, filter, map}
 use Rattle.osbase.specs.declared.references.CoreId.{CoreId}
 use Rattle.osbase.specs.declared.items.CoreSet.{CoreSet}

@@ -79,8 +79,8 @@ lists_in reports = map (λ (r : Report). (r.core, r.items)) reports
 -- The promise. The reports are those of the configured cores, ascending, one each; each says what its own items say; the
 -- items fit one another, the listed stimuli and what the cores share: stimuli, mailboxes, the spinlocks and the shared board
 -- each have one order that all cores' items agree with; each separate core, one that names no other core's object and no
--- spinlock and that no other core names, prints what its configuration alone prints; and what a group of cores did, in what no core
--- outside has a say, it could do by its own configuration. [own]
+-- spinlock and that no other core names, prints what its configuration alone prints; and the items of a
+-- group of cores, in which no core outside has a say, fit by the group's own configuration and print the same there. [own]
 pub record AreSound (plan : Plan) (stimuli : List CoreStimuli) (reports : List Report) : Type 0 where
   pub cores : map (λ (r : Report). r.core) reports ≡ ids_of plan
   pub own : AllByRecursion (IsOwn plan) reports

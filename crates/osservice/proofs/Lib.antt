@@ -1,12 +1,7 @@
-pub mod Remarking
-pub mod Answering
-pub mod Serving
-pub mod Offering
 pub mod Partners
 pub mod Kept
+pub mod Permitted
 pub mod SeenSame
-pub mod Carrying
 pub mod Called
 pub mod InTurn
 pub mod Numbered
-pub mod Going

@@ -1,26 +1,24 @@
 -- A loop over a core's objects of one kind, in index order: those before a place have acted.
-use Rattle.std.proofs.Common.{◌≡◌, ℕ, ◌+◌, ◌<◌, ◌≤◌, Some, List, [], ◌∷◌, length, take, refl, ap, sym, ◌∙◌, arith, get_or, Vec, Global}
+use Rattle.std.proofs.Common.{◌≡◌, ℕ, ◌+◌, ◌<◌, ◌≤◌, Some, List, [], ◌∷◌, ◌++◌, length, take, ap, sym, subst, ◌∙◌, arith, get_or, Vec, Global}
 use Rattle.std.specs.List.{enumerate_from, slice_get}
-use Rattle.std.proofs.lemmas.List.{take_all}
+use Rattle.std.proofs.lemmas.List.{take_all, take_more}
 use Rattle.std.proofs.lemmas.List.FromFn.{get_or-enumerate_from, length-enumerate_from}
 use Rattle.std.proofs.lemmas.Option.{slice_get-get_or}
 use Rattle.osbase.specs.declared.marks.Mark.{Mark}
-use Rattle.osbase.specs.History.{History, marks_of}
 use Rattle.osplan.specs.declared.plans.Core.{Core}
 use Rattle.osplan.specs.View.{View}
-use Rattle.osstate.specs.Does.{Effects, Remarks}
-use Rattle.osstate.specs.State.{KernelState, Stands}
-use Rattle.osstate.proofs.Effecting.{as_effect, then}
-use Rattle.osservice.specs.Acts.{Acts, does, for_each, in_turn}
-use Rattle.osservice.proofs.Remarking.{as_remarks, remarks-then}
-use Rattle.osservice.proofs.InTurn.{next-done}
+use Rattle.osstate.specs.State.{KernelState}
+use Rattle.osacts.specs.Acts.{Acts, for_each, in_turn}
+use Rattle.osacts.specs.Runs.{runs, says}
+use Rattle.osacts.specs.Steps.{QuietSteps, Steps}
+use Rattle.osacts.proofs.Each.{as_steps, quiet-as, quiet-then, runs-append, says-append, then}
 
 module _ {A : Type 0} (acts : Core → ℕ → A → Acts) (objects : Core → List A) where
-  abbrev pub acted : ℕ → View → History → History
-  acted place v h = does (for_each (λ (p : ℕ × A). acts v.own p.0 p.1) (take place (enumerate_from 0 (objects v.own)))) v h
+  abbrev pub acted : Core → ℕ → Acts
+  acted core place = for_each (λ (p : ℕ × A). acts core p.0 p.1) (take place (enumerate_from 0 (objects core)))
 
-  abbrev pub act_all : View → History → History
-  act_all v h = does (in_turn (acts v.own) (objects v.own)) v h
+  abbrev pub act_all : Core → Acts
+  act_all core = in_turn (acts core) (objects core)
 
   -- The next one stands at its place.
   pub object-at : (old now : KernelState) (xs : List A) (index place : ℕ) (x : A) → xs ≡ objects old.view.own → now.view ≡ old.view → index ≡ place → place < length xs → x ≡ get_or xs place x → slice_get (objects now.view.own) index ≡ Some x
@@ -28,44 +26,49 @@ module _ {A : Type 0} (acts : Core → ℕ → A → Acts) (objects : Core → L
       (λ i. slice_get (objects (view i).own) (at i)) ∙ ap (λ (ys : List A). slice_get ys place) (sym same) ∙ slice_get-get_or xs place x within ∙ ap (λ (y : A). Some y) (sym is)
 
   -- In a loop over a list of the objects, at a place.
-  module _ {old : KernelState} (xs : List A) (place : ℕ) (same : xs ≡ objects old.view.own) where
-    here : (v : View) (h : History) → Stands v h old → xs ≡ objects v.own
-    here v h stands = same ∙ ap (λ (s : KernelState). objects s.view.own) stands.is
+  module _ (core : Core) (xs : List A) (place : ℕ) (same : xs ≡ objects core) where
+    objects-length : length (enumerate_from 0 (objects core)) ≡ length xs
+    objects-length = length-enumerate_from 0 (objects core) ∙ ap length (sym same)
 
     -- Past the last one all have acted.
-    past-last : length xs ≤ place → (v : View) (h : History) → Stands v h old → act_all v h ≡ acted place v h
-    past-last past v h stands =
-        ap (λ (ps : List (ℕ × A)). does (for_each (λ (p : ℕ × A). acts v.own p.0 p.1) ps) v h)
-        (sym (take_all place (enumerate_from 0 (objects v.own)) (omega (arith, past, ap length (here v h stands), length-enumerate_from 0 (objects v.own)))))
+    pub past-last : length xs ≤ place → act_all core ≡ acted core place
+    past-last past =
+        ap (λ (ps : List (ℕ × A)). for_each (λ (p : ℕ × A). acts core p.0 p.1) ps)
+        (sym (take_all place (enumerate_from 0 (objects core)) (omega (arith, past, objects-length))))
 
-    pub all-acted : {now : KernelState} {vec vec' : Vec Mark Global} {m n m' n' : ℕ} → length xs ≤ place → m ≤ m' → n ≤ n' → Effects m n (acted place) old now vec vec' → Effects m' n' act_all old now vec vec'
-    all-acted past few short before = as_effect (past-last past) few short before
+    -- The next one acts as well.
+    module _ (x : A) (within : place < length xs) (is : x ≡ get_or xs place x) where
+      one-longer : take (place + 1) (enumerate_from 0 (objects core)) ≡ take place (enumerate_from 0 (objects core)) ++ (place, x) ∷ []
+      one-longer =
+          let inside : place < length (objects core) = omega (arith, within, ap length same) in
+          let zero : 0 + place ≡ place = omega arith in
+          let found : get_or (enumerate_from 0 (objects core)) place (place, x) ≡ (place, x) = get_or-enumerate_from 0 (objects core) place (place, x) inside ∙ λ i. (zero i, (sym (is ∙ ap (λ (ys : List A). get_or ys place x) same)) i) in
+          take_more (enumerate_from 0 (objects core)) place (place, x) (omega (arith, within, objects-length)) ∙ ap (λ (p : ℕ × A). take place (enumerate_from 0 (objects core)) ++ p ∷ []) found
+
+      pub more-runs : (s : KernelState) → runs (acted core (place + 1)) s ≡ runs (acts core place x) (runs (acted core place) s)
+      more-runs s = ap (λ (ps : List (ℕ × A)). runs (for_each (λ (p : ℕ × A). acts core p.0 p.1) ps) s) one-longer ∙ runs-append (λ (p : ℕ × A). acts core p.0 p.1) (take place (enumerate_from 0 (objects core))) (place, x) s
+
+      pub more-says : (s : KernelState) → says (acted core (place + 1)) s ≡ says (acted core place) s ++ says (acts core place x) (runs (acted core place) s)
+      more-says s = ap (λ (ps : List (ℕ × A)). says (for_each (λ (p : ℕ × A). acts core p.0 p.1) ps) s) one-longer ∙ says-append (λ (p : ℕ × A). acts core p.0 p.1) (take place (enumerate_from 0 (objects core))) (place, x) s
+
+  module _ {old : KernelState} (xs : List A) (place : ℕ) (same : xs ≡ objects old.view.own) where
+    pub all-acted : {now : KernelState} {vec vec' : Vec Mark Global} {m n m' n' : ℕ} → length xs ≤ place → m ≤ m' → n ≤ n' → Steps m n (acted old.view.own place) old now vec vec' → Steps m' n' (act_all old.view.own) old now vec vec'
+    all-acted past few short before =
+        let all = past-last old.view.own xs place same past in
+        as_steps (ap (λ (x : Acts). runs x old) all) (ap (λ (x : Acts). says x old) all) few short before
+
+    pub all-noted : {now : KernelState} {m m' : ℕ} → length xs ≤ place → m ≤ m' → QuietSteps m (acted old.view.own place) old now → QuietSteps m' (act_all old.view.own) old now
+    all-noted past few before =
+        let all = past-last old.view.own xs place same past in
+        quiet-as (ap (λ (x : Acts). runs x old) all) (ap (λ (x : Acts). says x old) all) few before
 
     module _ (x : A) (within : place < length xs) (is : x ≡ get_or xs place x) where
-      -- It acts as well.
-      module _ {f : View → History → History} (means : (v : View) (h : History) → old.view ≡ v → f v h ≡ does (acts v.own place x) v h) where
-        one-act : (v : View) (h : History) → Stands v h old → acted (place + 1) v h ≡ f v (acted place v h)
-        one-act v h stands =
-            let there = here v h stands in
-            let inside : place < length (objects v.own) = omega (arith, within, ap length there) in
-            let zero : 0 + place ≡ place = omega arith in
-            let found : (place, x) ≡ get_or (enumerate_from 0 (objects v.own)) place (place, x) = sym (get_or-enumerate_from 0 (objects v.own) place (place, x) inside ∙ λ i. (zero i, (sym (is ∙ ap (λ (ys : List A). get_or ys place x) there)) i)) in
-            next-done (λ (p : ℕ × A) (k : History). does (acts v.own p.0 p.1) v k) (λ (ps : List (ℕ × A)) (k : History). does (for_each (λ (p : ℕ × A). acts v.own p.0 p.1) ps) v k) (λ k. refl) (λ p ps k. refl) (enumerate_from 0 (objects v.own)) place (place, x) (place, x) h (omega (arith, inside, length-enumerate_from 0 (objects v.own))) found
-            ∙ sym (means v (acted place v h) (ap (λ (s : KernelState). s.view) stands.is))
+      pub one-more : {now next : KernelState} {vec vec' vec'' : Vec Mark Global} {a b m n m' n' : ℕ} → m + a ≤ m' → n + b ≤ n' → Steps m n (acted old.view.own place) old now vec vec' → Steps a b (acts now.view.own place x) now next vec' vec'' → Steps m' n' (acted old.view.own (place + 1)) old next vec vec''
+      one-more {now = now} {next = next} {vec' = vec'} {vec'' = vec''} {a = a} {b = b} few short before one =
+          as_steps (more-runs old.view.own xs place same x within is old) (more-says old.view.own xs place same x within is old) few short
+          (then before (subst (λ (core : Core). Steps a b (acts core place x) now next vec' vec'') (ap (λ (v : View). v.own) before.view) one))
 
-        pub one-more : {now next : KernelState} {vec vec' vec'' : Vec Mark Global} {a b m n m' n' : ℕ} → m + a ≤ m' → n + b ≤ n' → Effects m n (acted place) old now vec vec' → Effects a b f now next vec' vec'' → Effects m' n' (acted (place + 1)) old next vec vec''
-        one-more few short before one = as_effect one-act few short (then before one)
-
-  -- The same where nothing is printed.
-  module _ (quiet : (core : Core) (n : ℕ) (x : A) (v : View) (h : History) → marks_of (does (acts core n x) v h) ≡ marks_of h) where
-    quiet-each : (ps : List (ℕ × A)) (v : View) (h : History) → marks_of (does (for_each (λ (p : ℕ × A). acts v.own p.0 p.1) ps) v h) ≡ marks_of h
-    quiet-each [] v h = refl
-    quiet-each (p ∷ ps) v h = quiet-each ps v (does (acts v.own p.0 p.1) v h) ∙ quiet v.own p.0 p.1 v h
-
-    module _ {old now : KernelState} {m m' : ℕ} (xs : List A) (place : ℕ) (same : xs ≡ objects old.view.own) where
-      pub all-noted : length xs ≤ place → m ≤ m' → Remarks m (acted place) old now → Remarks m' act_all old now
-      all-noted past few before = as_remarks (past-last xs place same past) (λ v h. quiet-each (enumerate_from 0 (objects v.own)) v h) few before
-
-      pub one-noted : {next : KernelState} {a : ℕ} {f : View → History → History} (x : A) → place < length xs → x ≡ get_or xs place x → ((v : View) (h : History) → old.view ≡ v → f v h ≡ does (acts v.own place x) v h) → m + a ≤ m'
-          → Remarks m (acted place) old now → Remarks a f now next → Remarks m' (acted (place + 1)) old next
-      one-noted x within is means few before one = as_remarks (one-act xs place same x within is means) (λ v h. quiet-each (take (place + 1) (enumerate_from 0 (objects v.own))) v h) few (remarks-then before one)
+      pub one-noted : {now next : KernelState} {a m m' : ℕ} → m + a ≤ m' → QuietSteps m (acted old.view.own place) old now → QuietSteps a (acts now.view.own place x) now next → QuietSteps m' (acted old.view.own (place + 1)) old next
+      one-noted {now = now} {next = next} {a = a} few before one =
+          quiet-as (more-runs old.view.own xs place same x within is old) (more-says old.view.own xs place same x within is old) few
+          (quiet-then before (subst (λ (core : Core). QuietSteps a (acts core place x) now next) (ap (λ (v : View). v.own) before.view) one))

@@ -18,7 +18,7 @@ use Rattle.ostable.specs.Ahead.{due_at, status_of}
 use Rattle.ostable.specs.Tables.{due_by, due_table, next_by, state_by, table_refs, timed_by, waits_for}
 use Rattle.osrunner.specs.Rows.{is_occupied, row_in}
 use Rattle.osstate.specs.Readings.{is_pending, rows_of, running}
-use Rattle.osservice.specs.Seen.{seen_of}
+use Rattle.osacts.specs.Seen.{seen_of}
 use Rattle.osservice.proofs.Kept.{seen_as}
 
 -- What is read off both histories is the same.

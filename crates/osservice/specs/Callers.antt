@@ -5,7 +5,7 @@ use Rattle.osbase.specs.declared.statuses.Status.TheVariants.{EOsAccess, EOsCall
 use Rattle.osbase.specs.Spins.{newest_of}
 use Rattle.osjobs.specs.Priorities.{holds_any, is_extended}
 use Rattle.osservice.specs.Checks.{Check}
-use Rattle.osservice.specs.Seen.{Seen}
+use Rattle.osacts.specs.Seen.{Seen}
 
 -- The runner is an ISR.
 abbrev pub is_isr : Runner → Bool

@@ -1,5 +1,3 @@
-pub mod Seen
-pub mod Acts
 pub mod Checks
 pub mod Callers
 pub mod Named

@@ -13,7 +13,7 @@ use Rattle.osbase.specs.declared.marks.Mark.{Mark}
 use Rattle.osbase.specs.declared.histories.Awaited.TheVariants as Awaited
 use Rattle.osbase.specs.History.{Opened, Done}
 use Rattle.osbase.specs.Answers.{returned}
-use Rattle.osservice.specs.Acts.{Acts, nothing, one_then, both, when, Prints, Sends, notes, prints}
+use Rattle.osacts.specs.Acts.{Acts, nothing, one_then, both, when, Prints, Sends, notes, prints}
 use Rattle.osservice.specs.Checks.{Check, first_failing, is_ok_status}
 
 -- A status other than E_OK calls ErrorHook. [OSEK/VDX OS 2.2.3, section 11.2]

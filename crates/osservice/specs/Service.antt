@@ -8,10 +8,10 @@ use Rattle.osbase.specs.History.{History}
 use Rattle.osplan.specs.declared.plans.Core.{Core}
 use Rattle.osplan.specs.View.{View}
 use Rattle.osservice.specs.declared.returning.ServiceResult.{ServiceResult}
-use Rattle.osservice.specs.Acts.{Acts, nothing, both, when, look}
+use Rattle.osacts.specs.Acts.{Acts, nothing, both, when, look}
 use Rattle.osservice.specs.Checks.{Check, first_failing, is_ok_status}
 use Rattle.osservice.specs.Returning.{returns}
-use Rattle.osservice.specs.Seen.{Seen, seen_of}
+use Rattle.osacts.specs.Seen.{Seen, seen_of}
 
 -- The checks that only the object's core can make, the effect, and the value that E_OK brings along. [own]
 pub record Service : Type 0 where

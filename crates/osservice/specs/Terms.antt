@@ -1,16 +1,17 @@
 -- What functions of the kernel ask for, and what families of services promise: one record for each kind of function, so that a
 -- further fact has one place.
-use Rattle.std.specs.Prelude.{◌≡◌, ◌≤◌, ◌+◌, ℕ, Bool, true, false, IsTrue, Option, is_some, unwrap_or, length, Vec}
+use Rattle.std.specs.Prelude.{◌≡◌, ◌≤◌, ◌+◌, Bool, true, false, IsTrue, Option, is_some, unwrap_or, length, Vec, ℕ}
 use Rattle.std.specs.declared.alloc.Global.{Global}
 use Rattle.osbase.specs.declared.marks.Mark.{Mark}
 use Rattle.osbase.specs.declared.references.Runner.{Runner}
 use Rattle.osbase.specs.Phases.{is_before_live}
 use Rattle.oscript.specs.declared.Op.{Op}
 use Rattle.osjobs.specs.Priorities.{is_own_runner}
-use Rattle.osstate.specs.Does.{Effects, HasRoom, service_entries, service_marks}
+use Rattle.osstate.specs.Does.{HasRoom, service_entries, service_marks}
 use Rattle.osstate.specs.Sound.{has_objects_of}
 use Rattle.osstate.specs.State.{KernelState}
-use Rattle.osservice.specs.Acts.{Acts, does, nothing}
+use Rattle.osacts.specs.Acts.{Acts, nothing}
+use Rattle.osacts.specs.Steps.{Steps}
 
 -- The preconditions of a function that acts for a runner: the runner is one of the core's own, and there is room for so many entries of
 -- the history and so many marks. [own]
@@ -44,5 +45,5 @@ pub record MayOperate (places size : ℕ) (s : KernelState) (r : Runner) (op : O
 -- them; else nothing changed. [own]
 pub record Offered (acts : Option Acts) (is_known : Bool) (old new : KernelState) (old_vec new_vec : Vec Mark Global) : Type 0 where
   pub known : is_known ≡ is_some acts
-  pub effects : is_known ≡ true → Effects service_entries service_marks (does (unwrap_or acts nothing)) old new old_vec new_vec
+  pub steps : is_known ≡ true → Steps service_entries service_marks (unwrap_or acts nothing) old new old_vec new_vec
   pub others : is_known ≡ false → (new ≡ old) × (new_vec ≡ old_vec)

@@ -5,11 +5,11 @@ ghost use Rattle.osbase.specs.declared.statuses.Status.TheVariants.{EOk};
 ghost use Rattle.osbase.specs.declared.limits.TheConstants.{CORES};
 ghost use Rattle.osbase.specs.Answers.{returned};
 ghost use Rattle.osjobs.specs.Jobs.{is_plain};
-ghost use Rattle.osstate.specs.Does.{Effects, HasRoom};
+ghost use Rattle.osstate.specs.Does.{HasRoom};
 ghost use Rattle.osservice.specs.Terms.{MayAct};
-ghost use Rattle.osservice.specs.Acts.{does};
 ghost use Rattle.osservice.specs.Checks.{is_ok_status};
 ghost use Rattle.osservice.specs.Returning.{asks, calls_no_hook, reports, reports_of, returns};
+ghost use Rattle.osacts.specs.Steps.{Steps};
 
 use osbase::{Awaited, CoreId, Mark, Message, OpenCall, RemoteCall, Runner, ServiceId, Status};
 use osstate::CoreState;
@@ -45,7 +45,7 @@ pub fn report<const P: usize, const J: usize, const OUT: usize>(
     marks: &mut Vec<Mark>,
 )
     requires { HasRoom 1 1 state.old marks.old }
-    ensures { Effects 1 1 (does (reports status)) state.old state.new marks.old marks.new }
+    ensures { Steps 1 1 (reports status) state.old state.new marks.old marks.new }
 {
     if !is_ok(status) {
         state.print(Mark::ErrorHook(status), marks);
@@ -67,7 +67,7 @@ fn report_of<const P: usize, const J: usize, const OUT: usize>(
     marks: &mut Vec<Mark>,
 )
     requires { HasRoom 1 1 state.old marks.old }
-    ensures { Effects 1 1 (does (reports_of service status)) state.old state.new marks.old marks.new }
+    ensures { Steps 1 1 (reports_of service status) state.old state.new marks.old marks.new }
 {
     if !calls_no_hook(service) {
         report(state, status, marks);
@@ -103,7 +103,7 @@ pub fn finish<const P: usize, const J: usize, const OUT: usize>(
     marks: &mut Vec<Mark>,
 )
     requires { MayAct 3 2 state.old runner marks.old }
-    ensures { Effects 3 2 (does (returns runner service answer.status answer.value)) state.old state.new marks.old marks.new }
+    ensures { Steps 3 2 (returns runner service answer.status answer.value) state.old state.new marks.old marks.new }
 {
     state.print(mark_of(runner, service, answer), marks);
     report_of(state, service, answer.status, marks);
@@ -119,7 +119,7 @@ pub fn refuse<const P: usize, const J: usize, const OUT: usize>(
     marks: &mut Vec<Mark>,
 )
     requires { MayAct 3 2 state.old runner marks.old }
-    ensures { Effects 3 2 (does (returns runner service status None)) state.old state.new marks.old marks.new }
+    ensures { Steps 3 2 (returns runner service status None) state.old state.new marks.old marks.new }
 {
     finish(state, runner, service, without_value(status), marks);
 }
@@ -132,7 +132,7 @@ pub fn accept<const P: usize, const J: usize, const OUT: usize>(
     marks: &mut Vec<Mark>,
 )
     requires { MayAct 3 2 state.old runner marks.old }
-    ensures { Effects 3 2 (does (returns runner service EOk None)) state.old state.new marks.old marks.new }
+    ensures { Steps 3 2 (returns runner service EOk None) state.old state.new marks.old marks.new }
 {
     finish(state, runner, service, without_value(Status::EOk), marks);
 }
@@ -150,7 +150,7 @@ pub fn ask<const P: usize, const J: usize, const OUT: usize>(
     requires receiver { core.number < CORES }
     requires outbox { length state.old.border.outbox < OUT }
     requires acts { MayAct 3 1 state.old runner marks.old }
-    ensures { Effects 3 1 (does (asks runner service core call)) state.old state.new marks.old marks.new }
+    ensures { Steps 3 1 (asks runner service core call) state.old state.new marks.old marks.new }
 {
     state.print(Mark::CallQueued { core, call }, marks);
     state.queue(core, Message::Request(call));

@@ -1,3 +1,1 @@
-pub mod Inquired
-pub mod Settings
 pub mod Allowed

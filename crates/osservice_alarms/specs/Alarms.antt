@@ -9,9 +9,9 @@ use Rattle.osplan.specs.declared.plans.Core.{Core}
 use Rattle.osplan.specs.declared.plans.Counter.{Counter}
 use Rattle.osplan.specs.Limits.{counter_sizes, is_cycle}
 use Rattle.osplan.specs.View.{own_alarm, own_counter}
-use Rattle.osservice.specs.Acts.{Acts, nothing, notes}
+use Rattle.osacts.specs.Acts.{Acts, nothing, notes}
 use Rattle.osservice.specs.Checks.{Check}
-use Rattle.osservice.specs.Seen.{Seen}
+use Rattle.osacts.specs.Seen.{Seen}
 use Rattle.osservice.specs.Service.{Service, without_value}
 
 -- The counter of one of the core's alarms, as it is configured.

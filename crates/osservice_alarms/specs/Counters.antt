@@ -5,9 +5,9 @@ use Rattle.osbase.specs.declared.references.CounterRef.{CounterRef}
 use Rattle.osbase.specs.declared.references.Runner.{Runner}
 use Rattle.osbase.specs.Objects.{counter_object}
 use Rattle.oscript.specs.declared.Op.{Op}
-use Rattle.osservice.specs.Acts.{Acts, nothing}
+use Rattle.osacts.specs.Acts.{Acts, nothing}
 use Rattle.osservice.specs.Named.{own_of}
-use Rattle.osservice.specs.Seen.{Seen}
+use Rattle.osacts.specs.Seen.{Seen}
 use Rattle.osservice.specs.Service.{Service, serves_own}
 
 -- The value is the counter's. [AUTOSAR SWS OS 4.x, SWS_Os_00377]

@@ -5,12 +5,11 @@ ghost use Rattle.osbase.specs.Objects.{alarm_object};
 ghost use Rattle.osplan.specs.Limits.{counter_sizes, is_cycle};
 ghost use Rattle.osplan.specs.Objects.{is_own_object};
 ghost use Rattle.osclock.specs.Clocks.{max_for};
-ghost use Rattle.osstate.specs.Does.{Reads, Remarks};
-ghost use Rattle.osservice.specs.Acts.{does};
 ghost use Rattle.osservice.specs.Checks.{first_failing, is_ok_status};
-ghost use Rattle.osservice.specs.Seen.{seen_of};
-ghost use Rattle.osservice.specs.Service.{answers_with, carries_out};
+ghost use Rattle.osservice.specs.Service.{carries_out, answer_of};
 ghost use Rattle.osservice_alarms.specs.Alarms.{IsWithin, absolute_setting, cancellation, counter_for, inquiry, is_increment, is_setting, is_start, relative_setting, setting_checks, use_checks};
+ghost use Rattle.osacts.specs.Runs.{seen_in};
+ghost use Rattle.osacts.specs.Steps.{QuietSteps};
 
 use osbase::{AlarmRef, Status};
 use osplan::Counter;
@@ -74,7 +73,7 @@ fn status_of_setting<const P: usize, const J: usize, const OUT: usize>(
     is_admitted: bool,
 ) -> Status
     requires own { IsTrue (is_own_object state.now.view.own (alarm_object alarm)) }
-    ensures status { Reads (λ v h. first_failing (setting_checks (seen_of v h) alarm is_admitted)) state.now result }
+    ensures status { result ≡ first_failing (setting_checks (seen_in state.now) alarm is_admitted) }
     ensures admitted { IsTrue (is_ok_status result) → IsTrue is_admitted }
 {
     if state.is_alarm_in_use(alarm) {
@@ -97,9 +96,9 @@ pub fn set_relative<const P: usize, const J: usize, const OUT: usize>(
 ) -> ServiceResult
     requires own { IsTrue (is_own_object state.old.view.own (alarm_object alarm)) }
     requires count { state.old.progress.entries < 2 ^ 63 }
-    ensures answer { Reads (answers_with (relative_setting alarm increment cycle)) state.old result }
-    ensures effects { Remarks 1 (does (carries_out (relative_setting alarm increment cycle))) state.old state.new }
-    ensures refused { is_ok_status result.status ≡ false → Remarks 0 (does (carries_out (relative_setting alarm increment cycle))) state.old state.new }
+    ensures answer { result ≡ answer_of (relative_setting alarm increment cycle (seen_in state.old)) }
+    ensures steps { QuietSteps 1 (carries_out (relative_setting alarm increment cycle)) state.old state.new }
+    ensures refused { is_ok_status result.status ≡ false → QuietSteps 0 (carries_out (relative_setting alarm increment cycle)) state.old state.new }
     ensures border { state.new.border ≡ state.old.border }
 {
     let is_admitted = admits_increment(state, alarm, increment, cycle);
@@ -122,9 +121,9 @@ pub fn set_absolute<const P: usize, const J: usize, const OUT: usize>(
 ) -> ServiceResult
     requires own { IsTrue (is_own_object state.old.view.own (alarm_object alarm)) }
     requires count { state.old.progress.entries < 2 ^ 63 }
-    ensures answer { Reads (answers_with (absolute_setting alarm start cycle)) state.old result }
-    ensures effects { Remarks 1 (does (carries_out (absolute_setting alarm start cycle))) state.old state.new }
-    ensures refused { is_ok_status result.status ≡ false → Remarks 0 (does (carries_out (absolute_setting alarm start cycle))) state.old state.new }
+    ensures answer { result ≡ answer_of (absolute_setting alarm start cycle (seen_in state.old)) }
+    ensures steps { QuietSteps 1 (carries_out (absolute_setting alarm start cycle)) state.old state.new }
+    ensures refused { is_ok_status result.status ≡ false → QuietSteps 0 (carries_out (absolute_setting alarm start cycle)) state.old state.new }
     ensures border { state.new.border ≡ state.old.border }
 {
     let is_admitted = admits_start(state, alarm, start, cycle);
@@ -143,7 +142,7 @@ fn status_of_use<const P: usize, const J: usize, const OUT: usize>(
     alarm: AlarmRef,
 ) -> Status
     requires own { IsTrue (is_own_object state.now.view.own (alarm_object alarm)) }
-    ensures { Reads (λ v h. first_failing (use_checks (seen_of v h) alarm)) state.now result }
+    ensures { result ≡ first_failing (use_checks (seen_in state.now) alarm) }
 {
     if state.is_alarm_in_use(alarm) {
         Status::EOk
@@ -160,9 +159,9 @@ pub fn cancel<const P: usize, const J: usize, const OUT: usize>(
 ) -> ServiceResult
     requires own { IsTrue (is_own_object state.old.view.own (alarm_object alarm)) }
     requires count { state.old.progress.entries < 2 ^ 63 }
-    ensures answer { Reads (answers_with (cancellation alarm)) state.old result }
-    ensures effects { Remarks 1 (does (carries_out (cancellation alarm))) state.old state.new }
-    ensures refused { is_ok_status result.status ≡ false → Remarks 0 (does (carries_out (cancellation alarm))) state.old state.new }
+    ensures answer { result ≡ answer_of (cancellation alarm (seen_in state.old)) }
+    ensures steps { QuietSteps 1 (carries_out (cancellation alarm)) state.old state.new }
+    ensures refused { is_ok_status result.status ≡ false → QuietSteps 0 (carries_out (cancellation alarm)) state.old state.new }
     ensures border { state.new.border ≡ state.old.border }
 {
     let status = status_of_use(state, alarm);
@@ -180,7 +179,7 @@ pub fn ask_left<const P: usize, const J: usize, const OUT: usize>(
     alarm: AlarmRef,
 ) -> ServiceResult
     requires own { IsTrue (is_own_object state.now.view.own (alarm_object alarm)) }
-    ensures { Reads (answers_with (inquiry alarm)) state.now result }
+    ensures { result ≡ answer_of (inquiry alarm (seen_in state.now)) }
 {
     match state.counts_left(alarm) {
         Some(left) => ServiceResult {

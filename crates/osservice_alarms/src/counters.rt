@@ -1,13 +1,14 @@
 //! The services of counters.
 
-ghost use Rattle.std.specs.Prelude.{IsTrue};
+ghost use Rattle.std.specs.Prelude.{◌≡◌, IsTrue};
 ghost use Rattle.osbase.specs.Objects.{counter_object};
 ghost use Rattle.osplan.specs.Objects.{is_own_object};
-ghost use Rattle.osstate.specs.Does.{Effects, Reads, service_entries, service_marks};
+ghost use Rattle.osstate.specs.Does.{service_entries, service_marks};
 ghost use Rattle.osservice.specs.Terms.{MayAct, Offered};
-ghost use Rattle.osservice.specs.Acts.{does};
-ghost use Rattle.osservice.specs.Service.{answers_with};
+ghost use Rattle.osservice.specs.Service.{answer_of};
 ghost use Rattle.osservice_alarms.specs.Counters.{counter_acts, gets_value, value_inquiry};
+ghost use Rattle.osacts.specs.Runs.{seen_in};
+ghost use Rattle.osacts.specs.Steps.{Steps};
 
 use osbase::{CounterRef, Mark, Runner, ServiceId, Status};
 use oscript::Op;
@@ -20,7 +21,7 @@ fn read_value<const P: usize, const J: usize, const OUT: usize>(
     counter: CounterRef,
 ) -> ServiceResult
     requires own { IsTrue (is_own_object state.now.view.own (counter_object counter)) }
-    ensures { Reads (answers_with (value_inquiry counter)) state.now result }
+    ensures { result ≡ answer_of (value_inquiry counter (seen_in state.now)) }
 {
     let value = state.counter_value(counter);
     ServiceResult {
@@ -38,7 +39,7 @@ fn get_counter_value<const P: usize, const J: usize, const OUT: usize>(
     marks: &mut Vec<Mark>,
 )
     requires { MayAct service_entries service_marks state.old runner marks.old }
-    ensures { Effects service_entries service_marks (does (gets_value runner target)) state.old state.new marks.old marks.new }
+    ensures { Steps service_entries service_marks (gets_value runner target) state.old state.new marks.old marks.new }
 {
     let answer = match own_of(state, target) {
         Some(counter) => read_value(state, counter),

@@ -10,7 +10,7 @@ use Rattle.osbase.specs.declared.histories.Awaited.{Awaited}
 use Rattle.osbase.specs.declared.histories.Awaited.TheVariants as Awaits
 use Rattle.oscript.specs.declared.Op.{Op}
 use Rattle.osservice.specs.Checks.{Check}
-use Rattle.osservice.specs.Seen.{AllCores, Seen}
+use Rattle.osacts.specs.Seen.{AllCores, Seen}
 use Rattle.osservice.proofs.Called.{IsAllowed}
 use Rattle.osservice.proofs.Kept.{AreAllowed, IsNamed, Leave, answers-ok, returns-ok}
 use Rattle.osservice.proofs.Partners.{Partner, partner_of}

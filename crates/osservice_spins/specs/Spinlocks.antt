@@ -14,10 +14,10 @@ use Rattle.osbase.specs.Spins.{has_spinlock, newest_of, same_spinlock}
 use Rattle.osgot.specs.Grants.{is_held_by}
 use Rattle.oscript.specs.declared.Op.{Op}
 use Rattle.osplan.specs.Spinlocks.{comes_after}
-use Rattle.osservice.specs.Acts.{Acts, look, look_around, notes}
+use Rattle.osacts.specs.Acts.{Acts, look, look_around, notes}
 use Rattle.osservice.specs.Checks.{Check}
 use Rattle.osservice.specs.Returning.{answers, returns}
-use Rattle.osservice.specs.Seen.{AllCores, Seen}
+use Rattle.osacts.specs.Seen.{AllCores, Seen}
 
 -- ---- what is checked
 

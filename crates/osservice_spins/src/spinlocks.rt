@@ -1,14 +1,15 @@
 //! The services of spinlocks.
 
 ghost use Rattle.std.specs.Prelude.{◌≡◌, IsTrue};
-ghost use Rattle.osstate.specs.Does.{Effects, Reads, service_entries, service_marks};
+ghost use Rattle.osstate.specs.Does.{service_entries, service_marks};
 ghost use Rattle.osstate.specs.Sound.{is_awaited_known, is_lock_known};
 ghost use Rattle.osservice.specs.Terms.{MayAct, Offered};
-ghost use Rattle.osservice.specs.Acts.{does, when};
+ghost use Rattle.osacts.specs.Acts.{when};
 ghost use Rattle.osservice.specs.Checks.{first_failing, is_ok_status};
 ghost use Rattle.osservice.specs.Returning.{returns};
-ghost use Rattle.osservice.specs.Seen.{all_cores, seen_of};
 ghost use Rattle.osservice_spins.specs.Spinlocks.{awaits, breaks_order, gets_spinlock, getting_checks, is_not_newest, releases_spinlock, releasing_checks, spin_acts, tries_spinlock};
+ghost use Rattle.osacts.specs.Runs.{all_cores_in, seen_in};
+ghost use Rattle.osacts.specs.Steps.{Steps};
 
 use osbase::{Awaited, Mark, OpenCall, Runner, ServiceId, SpinlockId, Status};
 use oscript::Op;
@@ -21,7 +22,7 @@ fn breaks_order<const P: usize, const J: usize, const OUT: usize>(
     runner: Runner,
     lock: SpinlockId,
 ) -> bool
-    ensures { Reads (λ v h. breaks_order (all_cores v h) (seen_of v h) runner lock) state.now result }
+    ensures { result ≡ breaks_order (all_cores_in state.now) (seen_in state.now) runner lock }
 {
     match state.newest_spinlock(runner) {
         Some(newest) => !state.comes_after(newest, lock),
@@ -35,7 +36,7 @@ fn status_of_getting<const P: usize, const J: usize, const OUT: usize>(
     runner: Runner,
     lock: SpinlockId,
 ) -> Status
-    ensures status { Reads (λ v h. first_failing (getting_checks runner (all_cores v h) (seen_of v h) lock)) state.now result }
+    ensures status { result ≡ first_failing (getting_checks runner (all_cores_in state.now) (seen_in state.now) lock) }
     ensures known { IsTrue (is_ok_status result) → IsTrue (is_lock_known lock) }
 {
     if !state.knows_spinlock(lock) {
@@ -55,7 +56,7 @@ fn is_not_newest<const P: usize, const J: usize, const OUT: usize>(
     runner: Runner,
     lock: SpinlockId,
 ) -> bool
-    ensures { Reads (λ v h. is_not_newest (seen_of v h) runner lock) state.now result }
+    ensures { result ≡ is_not_newest (seen_in state.now) runner lock }
 {
     match state.newest_spinlock(runner) {
         Some(newest) => lock != newest,
@@ -69,7 +70,7 @@ fn status_of_releasing<const P: usize, const J: usize, const OUT: usize>(
     runner: Runner,
     lock: SpinlockId,
 ) -> Status
-    ensures status { Reads (λ v h. first_failing (releasing_checks runner (all_cores v h) (seen_of v h) lock)) state.now result }
+    ensures status { result ≡ first_failing (releasing_checks runner (all_cores_in state.now) (seen_in state.now) lock) }
     ensures known { IsTrue (is_ok_status result) → IsTrue (is_lock_known lock) }
 {
     if !state.knows_spinlock(lock) {
@@ -93,7 +94,7 @@ fn ask<const P: usize, const J: usize, const OUT: usize>(
 )
     requires known { IsTrue (is_ok_status status) → IsTrue (is_awaited_known call.awaits) }
     requires acts { MayAct service_entries service_marks state.old call.runner marks.old }
-    ensures { Effects service_entries service_marks (does (when (is_ok_status status) (awaits call.runner call.awaits) (returns call.runner service status None))) state.old state.new marks.old marks.new }
+    ensures { Steps service_entries service_marks (when (is_ok_status status) (awaits call.runner call.awaits) (returns call.runner service status None)) state.old state.new marks.old marks.new }
 {
     if is_ok(status) {
         state.open_call(call);
@@ -112,7 +113,7 @@ fn get_spinlock<const P: usize, const J: usize, const OUT: usize>(
     marks: &mut Vec<Mark>,
 )
     requires { MayAct service_entries service_marks state.old runner marks.old }
-    ensures { Effects service_entries service_marks (does (gets_spinlock runner target)) state.old state.new marks.old marks.new }
+    ensures { Steps service_entries service_marks (gets_spinlock runner target) state.old state.new marks.old marks.new }
 {
     let service = ServiceId::GetSpinlock;
     let Some(lock) = target else {
@@ -132,7 +133,7 @@ fn try_spinlock<const P: usize, const J: usize, const OUT: usize>(
     marks: &mut Vec<Mark>,
 )
     requires { MayAct service_entries service_marks state.old runner marks.old }
-    ensures { Effects service_entries service_marks (does (tries_spinlock runner target)) state.old state.new marks.old marks.new }
+    ensures { Steps service_entries service_marks (tries_spinlock runner target) state.old state.new marks.old marks.new }
 {
     let service = ServiceId::TryToGetSpinlock;
     let Some(lock) = target else {
@@ -153,7 +154,7 @@ fn release_spinlock<const P: usize, const J: usize, const OUT: usize>(
     marks: &mut Vec<Mark>,
 )
     requires { MayAct service_entries service_marks state.old runner marks.old }
-    ensures { Effects service_entries service_marks (does (releases_spinlock runner target)) state.old state.new marks.old marks.new }
+    ensures { Steps service_entries service_marks (releases_spinlock runner target) state.old state.new marks.old marks.new }
 {
     let service = ServiceId::ReleaseSpinlock;
     let Some(lock) = target else {

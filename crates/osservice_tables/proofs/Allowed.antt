@@ -5,7 +5,7 @@ use Rattle.osbase.specs.declared.references.Runner.{Runner}
 use Rattle.osbase.specs.declared.references.TableRef.{TableRef}
 use Rattle.osbase.specs.Objects.{table_object}
 use Rattle.oscript.specs.declared.Op.{Op}
-use Rattle.osservice.specs.Acts.{Acts}
+use Rattle.osacts.specs.Acts.{Acts}
 use Rattle.osservice.specs.Named.{own_of}
 use Rattle.osservice.proofs.Kept.{AreAllowed, IsNamed, Leave, serves_own-ok}
 use Rattle.osservice_tables.specs.Tables.{absolute_start, own_pair, quits, quits_next, relative_start, status_inquiry, stop, switch, table_acts}

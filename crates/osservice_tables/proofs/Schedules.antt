@@ -1,18 +1,14 @@
 -- What the counter of a schedule table admits.
-use Rattle.std.proofs.Common.{◌≡◌, ◌≤◌, Option, Some, None, refl, ap, sym, IsTrue}
+use Rattle.std.proofs.Common.{◌≡◌, ◌≤◌, Option, Some, ap, sym, IsTrue}
 use Rattle.std.specs.Option.{option_map_or}
 use Rattle.osbase.specs.declared.references.TableRef.{TableRef}
-use Rattle.osbase.specs.History.{History, marks_of}
 use Rattle.osplan.specs.declared.plans.Core.{Core}
 use Rattle.osplan.specs.declared.plans.Counter.{Counter}
 use Rattle.osplan.specs.declared.plans.Table.{Table}
 use Rattle.osplan.specs.Clocked.{are_clocks_within}
-use Rattle.osplan.specs.View.{View, own_counter, own_table}
+use Rattle.osplan.specs.View.{own_counter, own_table}
 use Rattle.osplan.proofs.Timing.{own-counter-there, own-table-attached}
 use Rattle.osclock.specs.Clocks.{max_of}
-use Rattle.ostable.specs.Tables.{next_by}
-use Rattle.osservice.specs.Acts.{does}
-use Rattle.osservice_tables.specs.Tables.{quits, quits_next}
 
 -- A table's counter has no value above 1,000,000,000.
 pub max-most : (core : Core) (s : TableRef) (table : Table) → IsTrue (are_clocks_within core) → Some table ≡ own_table core s → max_of core table.counter ≤ 1000000000
@@ -22,11 +18,3 @@ max-most core s table within is =
 
 pub counter-most : (core : Core) (s : TableRef) (table : Table) (counter : Counter) → IsTrue (are_clocks_within core) → Some table ≡ own_table core s → Some counter ≡ own_counter core table.counter → counter.max ≤ 1000000000
 counter-most core s table counter within is found = rw (ap (λ (o : Option Counter). option_map_or (λ (x : Counter). x.max) o 0) found) (max-most core s table within is)
-
--- That no table waits any longer prints nothing.
-pub quits-silent : (v : View) (t : TableRef) (h : History) → marks_of (does (quits_next t) v h) ≡ marks_of h
-quits-silent v t h = by (next_by v.own t h)
-  where
-    by : (o : Option TableRef) → marks_of (does (quits o) v h) ≡ marks_of h
-    by None = refl
-    by (Some u) = refl

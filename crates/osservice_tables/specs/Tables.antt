@@ -16,10 +16,10 @@ use Rattle.osplan.specs.Limits.{counter_sizes, is_table_start}
 use Rattle.osplan.specs.View.{own_counter, own_table}
 use Rattle.ostable.specs.Status.{is_running, is_stopped, number_of}
 use Rattle.ostable.specs.Waiting.{are_of_one_counter}
-use Rattle.osservice.specs.Acts.{Acts, nothing, both, look, notes}
+use Rattle.osacts.specs.Acts.{Acts, nothing, both, look, notes}
 use Rattle.osservice.specs.Checks.{Check}
 use Rattle.osservice.specs.Named.{own_of}
-use Rattle.osservice.specs.Seen.{Seen}
+use Rattle.osacts.specs.Seen.{Seen}
 use Rattle.osservice.specs.Service.{Service, serves_own, without_value}
 
 -- ---- of a table of the core

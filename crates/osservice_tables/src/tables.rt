@@ -6,13 +6,13 @@ ghost use Rattle.osbase.specs.Objects.{table_object};
 ghost use Rattle.osplan.specs.Limits.{first_offset, point_sizes};
 ghost use Rattle.osplan.specs.Objects.{is_own_object};
 ghost use Rattle.ostable.specs.Waiting.{are_of_one_counter};
-ghost use Rattle.osstate.specs.Does.{Effects, Reads, Remarks, service_entries, service_marks};
+ghost use Rattle.osstate.specs.Does.{service_entries, service_marks};
 ghost use Rattle.osservice.specs.Terms.{MayAct, Offered};
-ghost use Rattle.osservice.specs.Acts.{does};
 ghost use Rattle.osservice.specs.Checks.{first_failing, is_ok_status};
-ghost use Rattle.osservice.specs.Seen.{seen_of};
-ghost use Rattle.osservice.specs.Service.{answers_with, carries_out};
+ghost use Rattle.osservice.specs.Service.{carries_out, answer_of};
 ghost use Rattle.osservice_tables.specs.Tables.{absolute_start, counts_to_start, gets_table_status, is_offset, is_value, own_pair, quits_next, relative_start, starting_checks, starts_table_absolute, starts_table_relative, status_inquiry, stop, stops_table, suits, switch, switches_tables, table_acts};
+ghost use Rattle.osacts.specs.Runs.{seen_in};
+ghost use Rattle.osacts.specs.Steps.{QuietSteps, Steps};
 
 use osbase::{CounterRef, Mark, Runner, ServiceId, Status, TableRef};
 use oscript::Op;
@@ -27,7 +27,7 @@ fn status_of_start<const P: usize, const J: usize, const OUT: usize>(
     is_admitted: bool,
 ) -> Status
     requires own { IsTrue (is_own_object state.now.view.own (table_object table)) }
-    ensures status { Reads (λ v h. first_failing (starting_checks (seen_of v h) table is_admitted)) state.now result }
+    ensures status { result ≡ first_failing (starting_checks (seen_in state.now) table is_admitted) }
     ensures admitted { IsTrue (is_ok_status result) → IsTrue is_admitted }
 {
     if !state.table_status(table).is_stopped() {
@@ -73,7 +73,7 @@ fn admits_value<const P: usize, const J: usize, const OUT: usize>(
     table: TableRef,
     start: u32,
 ) -> bool
-    ensures value { result ≡ suits (is_value start) state.now.view.own table }
+    ensures { result ≡ suits (is_value start) state.now.view.own table }
 {
     let Some(own) = state.table(Some(table)) else {
         return false;
@@ -92,7 +92,7 @@ fn counts_to_start<const P: usize, const J: usize, const OUT: usize>(
 ) -> u32
     requires own { IsTrue (is_own_object state.now.view.own (table_object table)) }
     requires admitted { IsTrue (suits (is_value start) state.now.view.own table) }
-    ensures reads { Reads (λ v h. counts_to_start (seen_of v h) table start) state.now result }
+    ensures value { result ≡ counts_to_start (seen_in state.now) table start }
     ensures turn { result ≤ 1000000001 }
 {
     match state.table(Some(table)) {
@@ -108,8 +108,8 @@ fn start_relative<const P: usize, const J: usize, const OUT: usize>(
 ) -> ServiceResult
     requires own { IsTrue (is_own_object state.old.view.own (table_object table)) }
     requires count { state.old.progress.entries < 2 ^ 63 }
-    ensures answer { Reads (answers_with (relative_start offset table)) state.old result }
-    ensures effects { Remarks 1 (does (carries_out (relative_start offset table))) state.old state.new }
+    ensures answer { result ≡ answer_of (relative_start offset table (seen_in state.old)) }
+    ensures steps { QuietSteps 1 (carries_out (relative_start offset table)) state.old state.new }
 {
     let is_admitted = admits_offset(state, table, offset);
     let status = status_of_start(state, table, is_admitted);
@@ -127,8 +127,8 @@ fn start_absolute<const P: usize, const J: usize, const OUT: usize>(
 ) -> ServiceResult
     requires own { IsTrue (is_own_object state.old.view.own (table_object table)) }
     requires count { state.old.progress.entries < 2 ^ 63 }
-    ensures answer { Reads (answers_with (absolute_start start table)) state.old result }
-    ensures effects { Remarks 1 (does (carries_out (absolute_start start table))) state.old state.new }
+    ensures answer { result ≡ answer_of (absolute_start start table (seen_in state.old)) }
+    ensures steps { QuietSteps 1 (carries_out (absolute_start start table)) state.old state.new }
 {
     let is_admitted = admits_value(state, table, start);
     let status = status_of_start(state, table, is_admitted);
@@ -146,7 +146,7 @@ fn quit_next<const P: usize, const J: usize, const OUT: usize>(
     table: TableRef,
 )
     requires count { state.old.progress.entries < 2 ^ 63 }
-    ensures { Remarks 1 (does (quits_next table)) state.old state.new }
+    ensures { QuietSteps 1 (quits_next table) state.old state.new }
 {
     if let Some(next) = state.next_table(table) {
         state.stop_table(next);
@@ -162,8 +162,8 @@ fn switch<const P: usize, const J: usize, const OUT: usize>(
     requires to { IsTrue (is_own_object state.old.view.own (table_object to)) }
     requires counter { IsTrue (are_of_one_counter state.old.view.own from to) }
     requires count { state.old.progress.entries + 2 ≤ 2 ^ 63 }
-    ensures answer { Reads (answers_with (switch (from, to))) state.old result }
-    ensures effects { Remarks 2 (does (carries_out (switch (from, to)))) state.old state.new }
+    ensures answer { result ≡ answer_of (switch (from, to) (seen_in state.old)) }
+    ensures steps { QuietSteps 2 (carries_out (switch (from, to))) state.old state.new }
 {
     if !state.table_status(to).is_stopped() {
         return without_value(Status::EOsState);
@@ -182,8 +182,8 @@ fn stop<const P: usize, const J: usize, const OUT: usize>(
 ) -> ServiceResult
     requires own { IsTrue (is_own_object state.old.view.own (table_object table)) }
     requires count { state.old.progress.entries + 2 ≤ 2 ^ 63 }
-    ensures answer { Reads (answers_with (stop table)) state.old result }
-    ensures effects { Remarks 2 (does (carries_out (stop table))) state.old state.new }
+    ensures answer { result ≡ answer_of (stop table (seen_in state.old)) }
+    ensures steps { QuietSteps 2 (carries_out (stop table)) state.old state.new }
 {
     if state.table_status(table).is_stopped() {
         return without_value(Status::EOsNofunc);
@@ -204,7 +204,7 @@ fn start_schedule_table_rel<const P: usize, const J: usize, const OUT: usize>(
     marks: &mut Vec<Mark>,
 )
     requires { MayAct service_entries service_marks state.old runner marks.old }
-    ensures { Effects service_entries service_marks (does (starts_table_relative runner target offset)) state.old state.new marks.old marks.new }
+    ensures { Steps service_entries service_marks (starts_table_relative runner target offset) state.old state.new marks.old marks.new }
 {
     let answer = match own_of(state, target) {
         Some(table) => start_relative(state, table, offset),
@@ -230,7 +230,7 @@ fn start_schedule_table_abs<const P: usize, const J: usize, const OUT: usize>(
     marks: &mut Vec<Mark>,
 )
     requires { MayAct service_entries service_marks state.old runner marks.old }
-    ensures { Effects service_entries service_marks (does (starts_table_absolute runner target start)) state.old state.new marks.old marks.new }
+    ensures { Steps service_entries service_marks (starts_table_absolute runner target start) state.old state.new marks.old marks.new }
 {
     let answer = match own_of(state, target) {
         Some(table) => start_absolute(state, table, start),
@@ -256,7 +256,7 @@ fn next_schedule_table<const P: usize, const J: usize, const OUT: usize>(
     marks: &mut Vec<Mark>,
 )
     requires { MayAct service_entries service_marks state.old runner marks.old }
-    ensures { Effects service_entries service_marks (does (switches_tables runner from to)) state.old state.new marks.old marks.new }
+    ensures { Steps service_entries service_marks (switches_tables runner from to) state.old state.new marks.old marks.new }
 {
     let answer = match own_pair(state, from, to) {
         Some((from, to)) => switch(state, from, to),
@@ -274,7 +274,7 @@ fn stop_schedule_table<const P: usize, const J: usize, const OUT: usize>(
     marks: &mut Vec<Mark>,
 )
     requires { MayAct service_entries service_marks state.old runner marks.old }
-    ensures { Effects service_entries service_marks (does (stops_table runner target)) state.old state.new marks.old marks.new }
+    ensures { Steps service_entries service_marks (stops_table runner target) state.old state.new marks.old marks.new }
 {
     let answer = match own_of(state, target) {
         Some(table) => stop(state, table),
@@ -292,7 +292,7 @@ fn get_schedule_table_status<const P: usize, const J: usize, const OUT: usize>(
     marks: &mut Vec<Mark>,
 )
     requires { MayAct service_entries service_marks state.old runner marks.old }
-    ensures { Effects service_entries service_marks (does (gets_table_status runner target)) state.old state.new marks.old marks.new }
+    ensures { Steps service_entries service_marks (gets_table_status runner target) state.old state.new marks.old marks.new }
 {
     let answer = match own_of(state, target) {
         Some(table) => tell_status(state, table),
@@ -312,7 +312,7 @@ fn tell_status<const P: usize, const J: usize, const OUT: usize>(
     table: TableRef,
 ) -> ServiceResult
     requires own { IsTrue (is_own_object state.now.view.own (table_object table)) }
-    ensures { Reads (answers_with (status_inquiry table)) state.now result }
+    ensures { result ≡ answer_of (status_inquiry table (seen_in state.now)) }
 {
     let status = state.table_status(table);
     ServiceResult {

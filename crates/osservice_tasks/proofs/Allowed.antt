@@ -7,7 +7,7 @@ use Rattle.osbase.specs.declared.histories.HeldResource.{HeldResource}
 use Rattle.osbase.specs.Objects.{task_object}
 use Rattle.oscript.specs.declared.Op.{Op}
 use Rattle.osstate.specs.Readings.{resource_of}
-use Rattle.osservice.specs.Acts.{Acts, both}
+use Rattle.osacts.specs.Acts.{Acts, both}
 use Rattle.osservice.specs.Named.{own_of}
 use Rattle.osservice.specs.Returning.{returns}
 use Rattle.osservice.proofs.Kept.{AreAllowed, IsNamed, Leave, answers-ok, returns-ok, serves_own-ok}

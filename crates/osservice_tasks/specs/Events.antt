@@ -7,12 +7,12 @@ use Rattle.osbase.specs.declared.references.Runner.{Runner}
 use Rattle.osbase.specs.declared.marks.Mark.TheVariants as Mark
 use Rattle.osbase.specs.History.{Done, awaits_one_of, have_common}
 use Rattle.osbase.specs.Objects.{task_object}
-use Rattle.osservice.specs.Acts.{Acts, nothing, both, when, look, notes, prints}
+use Rattle.osacts.specs.Acts.{Acts, nothing, both, when, look, notes, prints}
 use Rattle.osservice.specs.Callers.{by_extended, by_task, holding_checks}
 use Rattle.osservice.specs.Checks.{Check}
 use Rattle.osservice.specs.Named.{own_of}
 use Rattle.osservice.specs.Returning.{answers, returns}
-use Rattle.osservice.specs.Seen.{Seen, is_suspended}
+use Rattle.osacts.specs.Seen.{Seen, is_suspended}
 use Rattle.osservice.specs.Service.{Service, serves_own, without_value}
 
 -- ---- of any task, where it stands

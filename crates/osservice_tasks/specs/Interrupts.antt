@@ -4,7 +4,7 @@ use Rattle.osbase.specs.declared.statuses.Status.TheVariants.{EOk, EOsDisabledin
 use Rattle.osbase.specs.declared.references.Runner.{Runner}
 use Rattle.osbase.specs.declared.marks.Mark.TheVariants as Mark
 use Rattle.osbase.specs.History.{Done, InterruptsSuspended, InterruptsResumed}
-use Rattle.osservice.specs.Acts.{Acts, Notes, nothing, one_then, look, notes, prints, when}
+use Rattle.osacts.specs.Acts.{Acts, Notes, nothing, one_then, look, notes, prints, when}
 use Rattle.osservice.specs.Callers.{has_suspended}
 
 -- SuspendAllInterrupts: while a job has them suspended it runs, whatever is activated or pending. Calls nest.

@@ -9,10 +9,10 @@ use Rattle.osbase.specs.declared.histories.HeldResource.{HeldResource}
 use Rattle.osbase.specs.History.{ResourceOccupied, ResourceReleased}
 use Rattle.osjobs.specs.Priorities.{is_newest, static_priority}
 use Rattle.osstate.specs.Readings.{resource_of}
-use Rattle.osservice.specs.Acts.{Acts, nothing, both, look, notes}
+use Rattle.osacts.specs.Acts.{Acts, nothing, both, look, notes}
 use Rattle.osservice.specs.Checks.{Check}
 use Rattle.osservice.specs.Returning.{answers, returns}
-use Rattle.osservice.specs.Seen.{Seen}
+use Rattle.osacts.specs.Seen.{Seen}
 
 -- The static priority of the caller is above the ceiling of the resource. [OSEK/VDX OS 2.2.3, section 13.4.3.1 and 13.4.3.2]
 abbrev pub is_below : Seen → Runner → HeldResource → Bool

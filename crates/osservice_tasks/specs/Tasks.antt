@@ -6,11 +6,11 @@ use Rattle.osbase.specs.declared.references.TaskRef.{TaskRef}
 use Rattle.osbase.specs.declared.references.Runner.{Runner}
 use Rattle.osbase.specs.declared.marks.Mark.TheVariants as Mark
 use Rattle.oscript.specs.declared.Op.{Op}
-use Rattle.osservice.specs.Acts.{Acts, both, look, prints}
+use Rattle.osacts.specs.Acts.{Acts, both, look, prints}
 use Rattle.osservice.specs.Callers.{by_task, holding_checks}
 use Rattle.osservice.specs.Checks.{Check}
 use Rattle.osservice.specs.Returning.{answers, returns}
-use Rattle.osservice.specs.Seen.{Seen, is_at_limit}
+use Rattle.osacts.specs.Seen.{Seen, is_at_limit}
 use Rattle.osservice.specs.Service.{Service, without_value}
 use Rattle.osservice_tasks.specs.Events.{clears_event, gets_event, waits_event}
 use Rattle.osservice_tasks.specs.Interrupts.{reports_suspended, resumes_interrupts, suspends_interrupts}

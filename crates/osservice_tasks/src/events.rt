@@ -2,13 +2,13 @@
 
 ghost use Rattle.std.specs.Prelude.{◌≡◌, IsTrue, true, false};
 ghost use Rattle.osjobs.specs.Priorities.{is_extended, is_own_runner};
-ghost use Rattle.osstate.specs.Does.{Effects, Reads, service_entries, service_marks};
+ghost use Rattle.osstate.specs.Does.{service_entries, service_marks};
 ghost use Rattle.osservice.specs.Terms.{MayAct};
-ghost use Rattle.osservice.specs.Acts.{does};
 ghost use Rattle.osservice.specs.Checks.{first_failing, is_ok_status};
-ghost use Rattle.osservice.specs.Seen.{seen_of};
-ghost use Rattle.osservice.specs.Service.{answers_with, carries_out};
+ghost use Rattle.osservice.specs.Service.{carries_out, answer_of};
 ghost use Rattle.osservice_tasks.specs.Events.{begins_to_wait, clearing_checks, clears_and_returns, clears_event, event_checks, gets_event, goes_on_or_waits, reading, releases, sets_events, setting, waiting_checks, waits_event};
+ghost use Rattle.osacts.specs.Runs.{seen_in};
+ghost use Rattle.osacts.specs.Steps.{Steps};
 
 use crate::tasks::status_of_holding;
 use osbase::{Mark, Runner, ServiceId, Status, TaskRef};
@@ -21,7 +21,7 @@ fn status_of_events<const P: usize, const J: usize, const OUT: usize>(
     task: TaskRef,
 ) -> Status
     requires own { IsTrue (is_own_runner state.now.view.own (Runner.Task task)) }
-    ensures reads { Reads (λ v h. first_failing (event_checks (seen_of v h) task)) state.now result }
+    ensures value { result ≡ first_failing (event_checks (seen_in state.now) task) }
     ensures extended { IsTrue (is_ok_status result) → is_extended state.now.view.own (Runner.Task task) ≡ true }
 {
     if !state.is_extended(Runner::Task(task)) {
@@ -43,9 +43,9 @@ pub fn set_events<const P: usize, const J: usize, const OUT: usize>(
     marks: &mut Vec<Mark>,
 ) -> ServiceResult
     requires { MayAct 2 2 state.old (Runner.Task task) marks.old }
-    ensures answer { Reads (answers_with (setting task mask)) state.old result }
-    ensures effects { Effects 2 2 (does (carries_out (setting task mask))) state.old state.new marks.old marks.new }
-    ensures refused { is_ok_status result.status ≡ false → Effects 0 0 (does (carries_out (setting task mask))) state.old state.new marks.old marks.new }
+    ensures answer { result ≡ answer_of (setting task mask (seen_in state.old)) }
+    ensures steps { Steps 2 2 (carries_out (setting task mask)) state.old state.new marks.old marks.new }
+    ensures refused { is_ok_status result.status ≡ false → Steps 0 0 (carries_out (setting task mask)) state.old state.new marks.old marks.new }
     ensures border { state.new.border ≡ state.old.border }
 {
     let status = status_of_events(state, task);
@@ -64,7 +64,7 @@ fn set_and_release<const P: usize, const J: usize, const OUT: usize>(
 )
     requires act { MayAct 2 2 state.old (Runner.Task task) marks.old }
     requires extended { is_extended state.old.view.own (Runner.Task task) ≡ true }
-    ensures effects { Effects 2 2 (does (sets_events task mask)) state.old state.new marks.old marks.new }
+    ensures steps { Steps 2 2 (sets_events task mask) state.old state.new marks.old marks.new }
     ensures border { state.new.border ≡ state.old.border }
 {
     state.set_events(task, mask, marks);
@@ -80,7 +80,7 @@ fn release_from<const P: usize, const J: usize, const OUT: usize>(
 )
     requires act { MayAct 1 1 state.old (Runner.Task task) marks.old }
     requires extended { is_extended state.old.view.own (Runner.Task task) ≡ true }
-    ensures effects { Effects 1 1 (does (releases task mask)) state.old state.new marks.old marks.new }
+    ensures steps { Steps 1 1 (releases task mask) state.old state.new marks.old marks.new }
     ensures border { state.new.border ≡ state.old.border }
 {
     if osevent::awaits_one_of(state.events(Runner::Task(task)), mask) {
@@ -94,7 +94,7 @@ fn read_events<const P: usize, const J: usize, const OUT: usize>(
     task: TaskRef,
 ) -> ServiceResult
     requires own { IsTrue (is_own_runner state.now.view.own (Runner.Task task)) }
-    ensures { Reads (answers_with (reading task)) state.now result }
+    ensures { result ≡ answer_of (reading task (seen_in state.now)) }
 {
     let status = status_of_events(state, task);
     if !is_ok(status) {
@@ -117,7 +117,7 @@ pub fn get_event<const P: usize, const J: usize, const OUT: usize>(
     marks: &mut Vec<Mark>,
 )
     requires { MayAct service_entries service_marks state.old runner marks.old }
-    ensures { Effects service_entries service_marks (does (gets_event runner target)) state.old state.new marks.old marks.new }
+    ensures { Steps service_entries service_marks (gets_event runner target) state.old state.new marks.old marks.new }
 {
     let answer = match own_of(state, target) {
         Some(task) => read_events(state, task),
@@ -131,7 +131,7 @@ fn status_of_caller<const P: usize, const J: usize, const OUT: usize>(
     state: &CoreState<'_, P, J, OUT>,
     runner: Runner,
 ) -> Status
-    ensures reads { Reads (λ v h. first_failing (clearing_checks (seen_of v h) runner)) state.now result }
+    ensures value { result ≡ first_failing (clearing_checks (seen_in state.now) runner) }
     ensures extended { IsTrue (is_ok_status result) → is_extended state.now.view.own runner ≡ true }
 {
     match runner {
@@ -155,7 +155,7 @@ pub fn clear_event<const P: usize, const J: usize, const OUT: usize>(
     marks: &mut Vec<Mark>,
 )
     requires { MayAct service_entries service_marks state.old runner marks.old }
-    ensures { Effects service_entries service_marks (does (clears_event runner mask)) state.old state.new marks.old marks.new }
+    ensures { Steps service_entries service_marks (clears_event runner mask) state.old state.new marks.old marks.new }
 {
     let status = status_of_caller(state, runner);
     if is_ok(status) {
@@ -173,7 +173,7 @@ fn clear<const P: usize, const J: usize, const OUT: usize>(
     marks: &mut Vec<Mark>,
 )
     requires { MayAct service_entries service_marks state.old runner marks.old }
-    ensures { Effects service_entries service_marks (does (clears_and_returns runner mask)) state.old state.new marks.old marks.new }
+    ensures { Steps service_entries service_marks (clears_and_returns runner mask) state.old state.new marks.old marks.new }
 {
     match runner {
         Runner::Task(task) => {
@@ -190,7 +190,7 @@ fn status_of_waiting<const P: usize, const J: usize, const OUT: usize>(
     runner: Runner,
 ) -> Status
     requires own { IsTrue (is_own_runner state.now.view.own runner) }
-    ensures reads { Reads (λ v h. first_failing (waiting_checks (seen_of v h) runner)) state.now result }
+    ensures value { result ≡ first_failing (waiting_checks (seen_in state.now) runner) }
     ensures extended { IsTrue (is_ok_status result) → is_extended state.now.view.own runner ≡ true }
 {
     let status = status_of_caller(state, runner);
@@ -210,7 +210,7 @@ pub fn wait_event<const P: usize, const J: usize, const OUT: usize>(
     marks: &mut Vec<Mark>,
 )
     requires { MayAct service_entries service_marks state.old runner marks.old }
-    ensures { Effects service_entries service_marks (does (waits_event runner mask)) state.old state.new marks.old marks.new }
+    ensures { Steps service_entries service_marks (waits_event runner mask) state.old state.new marks.old marks.new }
 {
     let status = status_of_waiting(state, runner);
     if is_ok(status) {
@@ -229,7 +229,7 @@ fn go_on_or_wait<const P: usize, const J: usize, const OUT: usize>(
 )
     requires act { MayAct service_entries service_marks state.old runner marks.old }
     requires extended { is_extended state.old.view.own runner ≡ true }
-    ensures { Effects service_entries service_marks (does (goes_on_or_waits runner mask)) state.old state.new marks.old marks.new }
+    ensures { Steps service_entries service_marks (goes_on_or_waits runner mask) state.old state.new marks.old marks.new }
 {
     let events = state.events(runner);
     if osevent::have_common(mask, events.set) {
@@ -249,7 +249,7 @@ fn begin_to_wait<const P: usize, const J: usize, const OUT: usize>(
 )
     requires act { MayAct service_entries service_marks state.old runner marks.old }
     requires extended { is_extended state.old.view.own runner ≡ true }
-    ensures { Effects service_entries service_marks (does (begins_to_wait runner mask)) state.old state.new marks.old marks.new }
+    ensures { Steps service_entries service_marks (begins_to_wait runner mask) state.old state.new marks.old marks.new }
 {
     match runner {
         Runner::Task(task) => {

@@ -1,10 +1,10 @@
 //! Suspended interrupts.
 
-ghost use Rattle.std.specs.Prelude.{◌≡◌, ◌≤◌, ◌+◌, ◌^◌, IsTrue};
+ghost use Rattle.std.specs.Prelude.{◌≤◌, ◌+◌, ◌^◌, IsTrue};
 ghost use Rattle.osjobs.specs.Priorities.{is_own_runner};
-ghost use Rattle.osstate.specs.Does.{Effects, HasRoom, Remarks};
-ghost use Rattle.osservice.specs.Acts.{does};
+ghost use Rattle.osstate.specs.Does.{HasRoom};
 ghost use Rattle.osservice_tasks.specs.Interrupts.{reports_suspended, resumes_interrupts, suspends_interrupts};
+ghost use Rattle.osacts.specs.Steps.{QuietSteps, Steps};
 
 use osbase::{Mark, Runner, Status};
 use osstate::CoreState;
@@ -16,7 +16,7 @@ pub(crate) fn suspend_interrupts<const P: usize, const J: usize, const OUT: usiz
 )
     requires own { IsTrue (is_own_runner state.old.view.own runner) }
     requires count { state.old.progress.entries + 2 ≤ 2 ^ 63 }
-    ensures { Remarks 2 (does (suspends_interrupts runner)) state.old state.new }
+    ensures { QuietSteps 2 (suspends_interrupts runner) state.old state.new }
 {
     state.lock_interrupts(runner);
     state.complete(runner, Status::EOk, None);
@@ -29,7 +29,7 @@ pub(crate) fn resume_interrupts<const P: usize, const J: usize, const OUT: usize
 )
     requires own { IsTrue (is_own_runner state.old.view.own runner) }
     requires count { state.old.progress.entries + 2 ≤ 2 ^ 63 }
-    ensures { Remarks 2 (does (resumes_interrupts runner)) state.old state.new }
+    ensures { QuietSteps 2 (resumes_interrupts runner) state.old state.new }
 {
     state.unlock_interrupts(runner);
     state.complete(runner, Status::EOk, None);
@@ -43,7 +43,7 @@ pub(crate) fn report_suspended<const P: usize, const J: usize, const OUT: usize>
     marks: &mut Vec<Mark>,
 )
     requires { HasRoom 1 1 state.old marks.old }
-    ensures { Effects 1 1 (does (reports_suspended runner)) state.old state.new marks.old marks.new }
+    ensures { Steps 1 1 (reports_suspended runner) state.old state.new marks.old marks.new }
 {
     if state.is_locked(runner) {
         state.print(Mark::ErrorHook(Status::EOsDisabledint), marks);

@@ -1,12 +1,12 @@
 //! The services of resources.
 
-ghost use Rattle.std.specs.Prelude.{IsTrue};
+ghost use Rattle.std.specs.Prelude.{IsTrue, ◌≡◌};
 ghost use Rattle.osjobs.specs.Priorities.{is_own_runner};
-ghost use Rattle.osstate.specs.Does.{Effects, Reads, service_entries, service_marks};
+ghost use Rattle.osstate.specs.Does.{service_entries, service_marks};
 ghost use Rattle.osservice.specs.Terms.{MayAct};
-ghost use Rattle.osservice.specs.Acts.{does};
-ghost use Rattle.osservice.specs.Seen.{seen_of};
 ghost use Rattle.osservice_tasks.specs.Resources.{gets_resource, is_below, releases_resource};
+ghost use Rattle.osacts.specs.Runs.{seen_in};
+ghost use Rattle.osacts.specs.Steps.{Steps};
 
 use osbase::{HeldResource, Mark, ResourceRef, Runner, ServiceId, Status};
 use osservice::{accept, refuse};
@@ -19,7 +19,7 @@ fn is_below<const P: usize, const J: usize, const OUT: usize>(
     resource: HeldResource,
 ) -> bool
     requires { IsTrue (is_own_runner state.now.view.own runner) }
-    ensures { Reads (λ v h. is_below (seen_of v h) runner resource) state.now result }
+    ensures { result ≡ is_below (seen_in state.now) runner resource }
 {
     resource.ceiling < state.static_priority(runner)
 }
@@ -34,7 +34,7 @@ pub fn get_resource<const P: usize, const J: usize, const OUT: usize>(
     marks: &mut Vec<Mark>,
 )
     requires { MayAct service_entries service_marks state.old runner marks.old }
-    ensures { Effects service_entries service_marks (does (gets_resource runner target)) state.old state.new marks.old marks.new }
+    ensures { Steps service_entries service_marks (gets_resource runner target) state.old state.new marks.old marks.new }
 {
     let service = ServiceId::GetResource;
     let Some(resource) = state.resource(target) else {
@@ -58,7 +58,7 @@ pub fn release_resource<const P: usize, const J: usize, const OUT: usize>(
     marks: &mut Vec<Mark>,
 )
     requires { MayAct service_entries service_marks state.old runner marks.old }
-    ensures { Effects service_entries service_marks (does (releases_resource runner target)) state.old state.new marks.old marks.new }
+    ensures { Steps service_entries service_marks (releases_resource runner target) state.old state.new marks.old marks.new }
 {
     let service = ServiceId::ReleaseResource;
     let Some(resource) = state.resource(target) else {

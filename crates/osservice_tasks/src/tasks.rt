@@ -4,15 +4,15 @@ ghost use Rattle.std.specs.Prelude.{◌≡◌, ◌<◌, IsTrue, false};
 ghost use Rattle.osbase.specs.History.{job_count, without_oldest};
 ghost use Rattle.osbase.specs.Phases.{is_before_live};
 ghost use Rattle.osjobs.specs.Priorities.{is_own_runner};
-ghost use Rattle.osstate.specs.Does.{Effects, Reads, service_entries, service_marks};
+ghost use Rattle.osstate.specs.Does.{service_entries, service_marks};
 ghost use Rattle.osstate.specs.Sound.{activation_limit};
 ghost use Rattle.osservice.specs.Terms.{MayAct, Offered};
-ghost use Rattle.osservice.specs.Acts.{does};
 ghost use Rattle.osservice.specs.Callers.{holding_checks};
 ghost use Rattle.osservice.specs.Checks.{first_failing, is_ok_status};
-ghost use Rattle.osservice.specs.Seen.{seen_of};
-ghost use Rattle.osservice.specs.Service.{answers_with, carries_out};
+ghost use Rattle.osservice.specs.Service.{carries_out, answer_of};
 ghost use Rattle.osservice_tasks.specs.Tasks.{activation, ends, ends_without_terminate, schedules, task_acts, task_checks, terminates};
+ghost use Rattle.osacts.specs.Runs.{seen_in};
+ghost use Rattle.osacts.specs.Steps.{Steps};
 
 use crate::events::{clear_event, get_event, wait_event};
 use crate::interrupts::{report_suspended, resume_interrupts, suspend_interrupts};
@@ -32,9 +32,9 @@ pub fn activate<const P: usize, const J: usize, const OUT: usize>(
 ) -> ServiceResult
     requires live { is_before_live state.old.progress.phase ≡ false }
     requires acts { MayAct 1 1 state.old (Runner.Task task) marks.old }
-    ensures answer { Reads (answers_with (activation task)) state.old result }
-    ensures effects { Effects 1 1 (does (carries_out (activation task))) state.old state.new marks.old marks.new }
-    ensures refused { is_ok_status result.status ≡ false → Effects 0 0 (does (carries_out (activation task))) state.old state.new marks.old marks.new }
+    ensures answer { result ≡ answer_of (activation task (seen_in state.old)) }
+    ensures steps { Steps 1 1 (carries_out (activation task)) state.old state.new marks.old marks.new }
+    ensures refused { is_ok_status result.status ≡ false → Steps 0 0 (carries_out (activation task)) state.old state.new marks.old marks.new }
     ensures border { state.new.border ≡ state.old.border }
 {
     if state.is_at_limit(task) {
@@ -52,7 +52,7 @@ pub fn end_task<const P: usize, const J: usize, const OUT: usize>(
     marks: &mut Vec<Mark>,
 )
     requires { MayAct 2 2 state.old (Runner.Task task) marks.old }
-    ensures effects { Effects 2 2 (does (ends (Runner.Task task))) state.old state.new marks.old marks.new }
+    ensures steps { Steps 2 2 (ends (Runner.Task task)) state.old state.new marks.old marks.new }
     ensures jobs { state.new.tasks.jobs ≡ without_oldest (Runner.Task task) state.old.tasks.jobs }
     ensures below { job_count (Runner.Task task) state.new.tasks.jobs < activation_limit state.new.view.own (Runner.Task task) }
 {
@@ -67,7 +67,7 @@ pub fn end<const P: usize, const J: usize, const OUT: usize>(
     marks: &mut Vec<Mark>,
 )
     requires { MayAct 2 2 state.old runner marks.old }
-    ensures { Effects 2 2 (does (ends runner)) state.old state.new marks.old marks.new }
+    ensures { Steps 2 2 (ends runner) state.old state.new marks.old marks.new }
 {
     match runner {
         Runner::Task(task) => end_task(state, task, marks),
@@ -84,7 +84,7 @@ pub fn end_without_terminate<const P: usize, const J: usize, const OUT: usize>(
     marks: &mut Vec<Mark>,
 )
     requires { MayAct service_entries service_marks state.old runner marks.old }
-    ensures { Effects service_entries service_marks (does (ends_without_terminate runner)) state.old state.new marks.old marks.new }
+    ensures { Steps service_entries service_marks (ends_without_terminate runner) state.old state.new marks.old marks.new }
 {
     match runner {
         Runner::Task(task) => {
@@ -105,7 +105,7 @@ pub fn status_of_holding<const P: usize, const J: usize, const OUT: usize>(
     runner: Runner,
 ) -> Status
     requires own { IsTrue (is_own_runner state.now.view.own runner) }
-    ensures { Reads (λ v h. first_failing (holding_checks (seen_of v h) runner)) state.now result }
+    ensures { result ≡ first_failing (holding_checks (seen_in state.now) runner) }
 {
     if state.holds_resource(runner) {
         Status::EOsResource
@@ -122,7 +122,7 @@ fn status_of_task<const P: usize, const J: usize, const OUT: usize>(
     runner: Runner,
 ) -> Status
     requires own { IsTrue (is_own_runner state.now.view.own runner) }
-    ensures { Reads (λ v h. first_failing (task_checks (seen_of v h) runner)) state.now result }
+    ensures { result ≡ first_failing (task_checks (seen_in state.now) runner) }
 {
     match runner {
         Runner::Task(_) => status_of_holding(state, runner),
@@ -138,7 +138,7 @@ fn terminate<const P: usize, const J: usize, const OUT: usize>(
     marks: &mut Vec<Mark>,
 )
     requires { MayAct service_entries service_marks state.old runner marks.old }
-    ensures { Effects service_entries service_marks (does (terminates runner)) state.old state.new marks.old marks.new }
+    ensures { Steps service_entries service_marks (terminates runner) state.old state.new marks.old marks.new }
 {
     let status = status_of_task(state, runner);
     if is_ok(status) {
@@ -157,7 +157,7 @@ fn schedule<const P: usize, const J: usize, const OUT: usize>(
     marks: &mut Vec<Mark>,
 )
     requires { MayAct service_entries service_marks state.old runner marks.old }
-    ensures { Effects service_entries service_marks (does (schedules runner)) state.old state.new marks.old marks.new }
+    ensures { Steps service_entries service_marks (schedules runner) state.old state.new marks.old marks.new }
 {
     let answer = ServiceResult {
         status: status_of_task(state, runner),

@@ -1,18 +1,17 @@
 -- What an entry does to the state is what it does to each reading of the history.
-use Rattle.std.proofs.Common.{◌≡◌, ◌&&◌, ℕ, zero, suc, ◌+◌, ◌-◌, ◌≤◌, ◌<◌, nat_eq, nat_lt, Bool, true, false, cond, Option, Some, None, is_some, List, [], ◌∷◌, length, map, refl, ap, sym, subst, ◌∙◌, arith, add-one, slice_index}
+use Rattle.std.proofs.Common.{◌≡◌, ◌&&◌, ℕ, zero, suc, ◌+◌, ◌-◌, ◌≤◌, ◌<◌, nat_eq, nat_lt, Bool, true, false, cond, Option, Some, None, is_some, List, ◌∷◌, length, map, refl, ap, sym, subst, ◌∙◌, arith, add-one, slice_index, []}
 use Rattle.std.specs.List.{slice_get, slice_set}
 use Rattle.std.specs.Option.{option_map_or}
-use Rattle.std.proofs.lemmas.Bool.{and_from, and_parts, false≢true, eqb-true, lt-ltb, ltb-true, ltb-false, false_from_ne_true, cond-true, cond-false}
+use Rattle.std.proofs.lemmas.Bool.{and_from, and_parts, eqb-true, lt-ltb, ltb-true, ltb-false, false_from_ne_true, cond-true, cond-false, false≢true}
 use Rattle.std.proofs.lemmas.Bool.Decides.{nat_tests}
 use Rattle.std.proofs.lemmas.List.{set_past}
 use Rattle.osbase.specs.declared.references.CoreId.{CoreId}
 use Rattle.osbase.specs.declared.references.IsrRef.{IsrRef}
 use Rattle.osbase.specs.declared.references.TaskRef.{TaskRef}
 use Rattle.osbase.specs.declared.references.Runner.{Runner}
-use Rattle.osbase.specs.declared.messages.Message.{Message}
 use Rattle.osbase.specs.declared.items.Item.{Item}
 use Rattle.osbase.specs.declared.limits.TheConstants.{CORES, ISRS, RUNNERS, TASKS}
-use Rattle.osbase.specs.History.{History, Entry, Took, Noted, Queued, same_core, same_runner, queued_count, received_count, letter_with}
+use Rattle.osbase.specs.History.{History, Entry, Took, Noted, Queued, same_core, same_runner, queued_count, received_count}
 use Rattle.osbase.specs.Interrupts.{running_job, runner_of_job}
 use Rattle.osbase.specs.Sets.{core_ids, numbers_from, slot_of}
 use Rattle.osbase.proofs.Same.{same_core-true, same_core-refl, same_runner-true, same_runner-refl}
@@ -28,10 +27,9 @@ use Rattle.ostable.proofs.Law.{after as tables-after}
 use Rattle.osjobs.specs.Jobs.{jobs_by}
 use Rattle.osjobs.specs.Priorities.{is_own_runner}
 use Rattle.osstate.specs.Readings.{isr_ref, rows_of, runner_at, script_of, task_ref}
-use Rattle.osstate.specs.State.{KernelState, border_of, progress_of, state_of, tasks_of}
-use Rattle.osstate.specs.Steps.{has_place, is_placed, next_letter, one_more, queued_after, received_after, rows_after, runner_by, script_for, state_after, tasks_after}
+use Rattle.osstate.specs.State.{KernelState, Stands, border_of, progress_of, state_of, tasks_of}
+use Rattle.osstate.specs.Steps.{has_place, is_placed, one_more, queued_after, received_after, rows_after, runner_by, script_for, state_after, tasks_after}
 use Rattle.osstate.specs.Sound.{IsSound}
-use Rattle.osstate.specs.Does.{Notes}
 
 -- ---- counts by core number
 
@@ -228,20 +226,9 @@ own-step {old = old} e sound own is = is ∙ ap (λ (b : Bool). rows-if b) (sym 
 
 -- ---- the state after an entry stands for the history with it
 
-pub notes : {e : Entry} {old new : KernelState} → new ≡ state_after e old → are_clocks_within old.view.own ≡ true → is_setting_granted old.view.own e ≡ true → Notes (λ v h. e ∷ h) old new
-notes {e} is within granted v h stands =
+pub stands-next : {e : Entry} {old new : KernelState} → new ≡ state_after e old → are_clocks_within old.view.own ≡ true → is_setting_granted old.view.own e ≡ true → (v : View) (h : History) → Stands v h old → Stands v (e ∷ h) new
+stands-next {e} is within granted v h stands =
     record {
       is = is ∙ ap (state_after e) stands.is ∙ state-stands v e h (subst (λ (s : KernelState). are_clocks_within s.view.own ≡ true) stands.is within);
       granted = and_from (is_setting_granted v.own e) _ (subst (λ (s : KernelState). is_setting_granted s.view.own e ≡ true) stands.is granted) stands.granted;
-    }
-
--- and so one that queued the next letter
-pub notes_queued : {to : CoreId} {message : Message} {old new : KernelState} → are_clocks_within old.view.own ≡ true → to.number < CORES → new ≡ state_after (Noted (Queued to (next_letter old to message))) old
-    → Notes (λ v h. Noted (Queued to (letter_with (queued_count to h) message)) ∷ h) old new
-notes_queued {to} {message} within known is v h stands =
-    record {
-      is = is ∙ ap (λ (q : KernelState). state_after (Noted (Queued to (next_letter q to message))) q) stands.is
-          ∙ ap (λ (n : ℕ). state_after (Noted (Queued to (letter_with n message))) (state_of v h)) (count_at (λ (d : CoreId). queued_count d h) to known)
-          ∙ state-stands v (Noted (Queued to (letter_with (queued_count to h) message))) h (subst (λ (s : KernelState). are_clocks_within s.view.own ≡ true) stands.is within);
-      granted = stands.granted;
     }

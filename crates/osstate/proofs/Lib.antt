@@ -1,4 +1,3 @@
-pub mod Effecting
 pub mod JobLists
 pub mod Room
 pub mod Begun

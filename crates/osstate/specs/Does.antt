@@ -1,5 +1,5 @@
 -- What a function does to every history: the form of the contracts of the kernel.
-use Rattle.std.specs.Prelude.{◌≡◌, ℕ, ◌+◌, ◌≤◌, ◌^◌, List, [], ◌∷◌, ◌++◌, length, Vec, vec_len, vec_capacity}
+use Rattle.std.specs.Prelude.{◌≡◌, ℕ, ◌+◌, ◌≤◌, ◌^◌, List, ◌∷◌, ◌++◌, length, Vec, vec_len, vec_capacity, []}
 use Rattle.std.specs.declared.alloc.Global.{Global}
 use Rattle.osbase.specs.declared.marks.Mark.{Mark}
 use Rattle.osbase.specs.History.{History, marks_of}
@@ -21,10 +21,6 @@ abbrev pub Does : (View → History → History) → KernelState → KernelState
 Does effect old new old_marks new_marks =
     (v : View) (h : History) (earlier base : List Mark) → Tracks v h earlier base old old_marks → Tracks v (effect v h) earlier base new new_marks
 
--- The same of what prints nothing. [own]
-abbrev pub Notes : (View → History → History) → KernelState → KernelState → Type 0
-Notes effect old new = (v : View) (h : History) → Stands v h old → Stands v (effect v h) new
-
 -- This is the value of f for every history that the kernel stands for. [own]
 abbrev pub Reads : {A : Type 0} → (View → History → A) → KernelState → A → Type 0
 Reads f s x = (v : View) (h : History) → Stands v h s → x ≡ f v h
@@ -40,14 +36,6 @@ pub record Joins (m : Mark) (old new : Vec Mark Global) : Type 0 where
   pub items : new.items ≡ old.items ++ m ∷ []
   pub len : vec_len new ≤ vec_len old + 1
   pub capacity : vec_capacity new ≡ vec_capacity old
-
--- A function within an item: it changes neither what the core sees nor its phase, takes no item, and the
--- history grows by at most so many entries. [own]
-pub record StaysInItem (most : ℕ) (old new : KernelState) : Type 0 where
-  pub view : new.view ≡ old.view
-  pub phase : new.progress.phase ≡ old.progress.phase
-  pub items : new.progress.items ≡ old.progress.items
-  pub entries : new.progress.entries ≤ old.progress.entries + most
 
 -- What one item adds at most, and what one service or a tick does: the worst are a tick and IncrementCounter, with all alarms and
 -- schedule tables of a core. A function that does any service of a family asks for this room and promises no more, so that a later
@@ -68,17 +56,3 @@ service_marks = 480
 pub record HasRoom (entries marks : ℕ) (s : KernelState) (vec : Vec Mark Global) : Type 0 where
   pub count : s.progress.entries + entries ≤ 2 ^ 63
   pub place : vec_len vec + marks ≤ vec_capacity vec
-
--- What a function within an item does, with at most so many entries and marks. [own]
-pub record Effects (entries marks : ℕ) (effect : View → History → History) (old new : KernelState) (old_vec new_vec : Vec Mark Global) : Type 0 where
-  pub does : Does effect old new old_vec.items new_vec.items
-  pub stays : StaysInItem entries old new
-  pub adds : Adds marks old_vec.items new_vec.items
-  pub len : vec_len new_vec ≤ vec_len old_vec + marks
-  pub capacity : vec_capacity new_vec ≡ vec_capacity old_vec
-
--- The same of what prints nothing. [own]
-pub record Remarks (entries : ℕ) (effect : View → History → History) (old new : KernelState) : Type 0 where
-  pub notes : Notes effect old new
-  pub silent : (v : View) (h : History) → marks_of (effect v h) ≡ marks_of h
-  pub stays : StaysInItem entries old new

@@ -1,14 +1,15 @@
 //! The state of a core.
 
-ghost use Rattle.std.specs.Prelude.{◌≡◌, ◌==◌, ◌||◌, ◌∷◌, ◌<◌, ◌≤◌, ◌^◌, [], nat_lt, IsTrue, IsSome, IfSome, false, true, length, nat_le, Some, slice_get, slice_index, sum_by};
+ghost use Rattle.std.specs.Prelude.{◌≡◌, ◌==◌, ◌||◌, ◌<◌, ◌≤◌, ◌^◌, nat_lt, IsTrue, IsSome, IfSome, false, true, length, nat_le, Some, slice_get, slice_index, sum_by, []};
 ghost use Rattle.std.specs.List.{list_all};
 ghost use Rattle.osbase.specs.declared.limits.TheConstants.{CORES};
-ghost use Rattle.osbase.specs.History.{Took, Printed, Noted, Opened, Queued, ResourceOccupied, ResourceReleased, InterruptsSuspended, InterruptsResumed, WentDown, Done, job_count, phase_after, queued_count, same_core, letter_with};
+ghost use Rattle.osbase.specs.History.{Took, Printed, Noted, Opened, Queued, ResourceOccupied, ResourceReleased, InterruptsSuspended, InterruptsResumed, WentDown, Done, job_count, phase_after, same_core};
 ghost use Rattle.osbase.specs.Interrupts.{is_pending_among};
 ghost use Rattle.osbase.specs.Phases.{is_before_live, is_past_first_gate};
 ghost use Rattle.osbase.specs.Sets.{has_core};
 ghost use Rattle.osplan.specs.declared.plans.Resource.{Resource as ResourceValue};
 ghost use Rattle.osplan.specs.declared.plans.Task.{Task as TaskValue};
+ghost use Rattle.osplan.specs.Clocked.{are_clocks_within};
 ghost use Rattle.osplan.specs.Objects.{is_own_object};
 ghost use Rattle.osplan.specs.Stimuli.{knows_stimulus};
 ghost use Rattle.osplan.specs.View.{core_of, is_configured, view_of};
@@ -17,10 +18,9 @@ ghost use Rattle.osrunner.specs.Rows.{depth_in, events_in, frame_in, held_in, is
 ghost use Rattle.osbudget.specs.Budget.{is_reached};
 ghost use Rattle.osjobs.specs.Locks.{is_overheld};
 ghost use Rattle.osjobs.specs.Priorities.{holds_any, is_extended, is_newest, is_own_runner, static_priority};
-ghost use Rattle.osstate.specs.Does.{Effects, HasRoom, Joins, Notes, Reads, Remarks};
+ghost use Rattle.osstate.specs.Does.{HasRoom, Joins};
 ghost use Rattle.osstate.specs.Queries.{best_in, is_at_limit_in, is_suspended, is_suspended_in, next_action_in, running_in};
-ghost use Rattle.osstate.specs.Readings.{best_job, budget_of, events_at, frame_at, is_locked, is_this_core, is_pending, next_start, resource_of, resources_of, row_at, rows_of, script_of, used_at};
-ghost use Rattle.oscript.specs.Frames.{action_at};
+ghost use Rattle.osstate.specs.Readings.{best_job, budget_of, is_locked, is_this_core, is_pending, next_start, resource_of, script_of};
 ghost use Rattle.osstate.specs.Sound.{activation_limit, interrupt_limit, is_action_known, is_agreed, is_awaited_known, is_first_gate, is_grant_known, is_posted, is_sender_known};
 ghost use Rattle.osstate.specs.State.{state_of};
 ghost use Rattle.osstate.specs.Steps.{next_letter, state_after};
@@ -108,14 +108,14 @@ impl<'a, const P: usize, const J: usize, const OUT: usize> CoreState<'a, P, J, O
     /// The entry of an item that the core takes.
     pub fn take_item(&mut self, item: &Item)
         requires sender { IsTrue (is_sender_known item.now) }
-        requires lock { IsTrue (is_grant_known item.now) }
+        requires lock { IfSome self.old.border.open_call (λ call. IsTrue (is_awaited_known call.awaits)) → IsTrue (is_grant_known item.now) }
         requires forward { IsTrue (is_before_live (phase_after (Took item.now) self.old.progress.phase)) → IsTrue (is_before_live self.old.progress.phase) }
         requires onward { IsTrue (is_past_first_gate (phase_after (Took item.now) self.old.progress.phase)) → IsTrue (is_first_gate item.now || is_past_first_gate self.old.progress.phase) }
         requires front { IsTrue (is_posted item.now) → 0 < length self.old.border.outbox }
         requires count { self.old.progress.entries < 2 ^ 63 }
         ensures state { self.new ≡ state_after (Took item.now) self.old }
-        ensures notes { Notes (λ v h. Took item.now ∷ h) self.old self.new }
         ensures idle { IsTrue (is_before_live self.old.progress.phase) → self.old.tasks.jobs ≡ [] }
+        ensures within { IsTrue (are_clocks_within self.old.view.own) }
     {
         self.progress.take_item(item);
         self.jobs.take_item(item);
@@ -130,7 +130,6 @@ impl<'a, const P: usize, const J: usize, const OUT: usize> CoreState<'a, P, J, O
         requires live { is_before_live self.old.progress.phase ≡ false }
         requires room { HasRoom 1 1 self.old marks.old }
         ensures state { self.new ≡ state_after (Printed (Mark.Activated task)) self.old }
-        ensures effects { Effects 1 1 (λ v h. Printed (Mark.Activated task) ∷ h) self.old self.new marks.old marks.new }
         ensures marks { Joins (Mark.Activated task) marks.old marks.new }
     {
         self.jobs.activate(task, self.progress.entries);
@@ -143,7 +142,6 @@ impl<'a, const P: usize, const J: usize, const OUT: usize> CoreState<'a, P, J, O
         requires own { IsTrue (is_own_runner self.old.view.own (Runner.Task task)) }
         requires room { HasRoom 1 1 self.old marks.old }
         ensures state { self.new ≡ state_after (Printed (Mark.Terminated task)) self.old }
-        ensures effects { Effects 1 1 (λ v h. Printed (Mark.Terminated task) ∷ h) self.old self.new marks.old marks.new }
         ensures marks { Joins (Mark.Terminated task) marks.old marks.new }
         ensures below { job_count (Runner.Task task) self.new.tasks.jobs < activation_limit self.new.view.own (Runner.Task task) }
     {
@@ -159,7 +157,6 @@ impl<'a, const P: usize, const J: usize, const OUT: usize> CoreState<'a, P, J, O
         requires limit { job_count (Runner.Isr isr) self.old.tasks.isrs.live < interrupt_limit self.old.view.own (Runner.Isr isr) }
         requires room { HasRoom 1 1 self.old marks.old }
         ensures state { self.new ≡ state_after (Printed (Mark.InterruptAccepted isr)) self.old }
-        ensures effects { Effects 1 1 (λ v h. Printed (Mark.InterruptAccepted isr) ∷ h) self.old self.new marks.old marks.new }
         ensures marks { Joins (Mark.InterruptAccepted isr) marks.old marks.new }
     {
         self.jobs.accept(isr, self.progress.entries);
@@ -172,7 +169,6 @@ impl<'a, const P: usize, const J: usize, const OUT: usize> CoreState<'a, P, J, O
         requires own { IsTrue (is_own_runner self.old.view.own (Runner.Isr isr)) }
         requires room { HasRoom 1 1 self.old marks.old }
         ensures state { self.new ≡ state_after (Printed (Mark.IsrEntered isr)) self.old }
-        ensures effects { Effects 1 1 (λ v h. Printed (Mark.IsrEntered isr) ∷ h) self.old self.new marks.old marks.new }
         ensures marks { Joins (Mark.IsrEntered isr) marks.old marks.new }
     {
         self.jobs.enter_isr(isr);
@@ -185,7 +181,6 @@ impl<'a, const P: usize, const J: usize, const OUT: usize> CoreState<'a, P, J, O
         requires own { IsTrue (is_own_runner self.old.view.own (Runner.Isr isr)) }
         requires room { HasRoom 1 1 self.old marks.old }
         ensures state { self.new ≡ state_after (Printed (Mark.IsrLeft isr)) self.old }
-        ensures effects { Effects 1 1 (λ v h. Printed (Mark.IsrLeft isr) ∷ h) self.old self.new marks.old marks.new }
         ensures marks { Joins (Mark.IsrLeft isr) marks.old marks.new }
     {
         self.jobs.end_isr(isr);
@@ -199,7 +194,6 @@ impl<'a, const P: usize, const J: usize, const OUT: usize> CoreState<'a, P, J, O
     pub fn tick(&mut self, marks: &mut Vec<Mark>)
         requires { HasRoom 1 1 self.old marks.old }
         ensures state { self.new ≡ state_after (Printed Mark.Tick) self.old }
-        ensures effects { Effects 1 1 (λ v h. Printed Mark.Tick ∷ h) self.old self.new marks.old marks.new }
         ensures marks { Joins Mark.Tick marks.old marks.new }
     {
         self.jobs.tick();
@@ -211,8 +205,7 @@ impl<'a, const P: usize, const J: usize, const OUT: usize> CoreState<'a, P, J, O
     pub fn lock_interrupts(&mut self, runner: Runner)
         requires own { IsTrue (is_own_runner self.old.view.own runner) }
         requires count { self.old.progress.entries < 2 ^ 63 }
-        ensures state { self.new ≡ state_after (Noted (InterruptsSuspended runner)) self.old }
-        ensures remarks { Remarks 1 (λ v h. Noted (InterruptsSuspended runner) ∷ h) self.old self.new }
+        ensures { self.new ≡ state_after (Noted (InterruptsSuspended runner)) self.old }
     {
         self.jobs.lock_interrupts(runner);
         self.progress.entries += 1;
@@ -222,8 +215,7 @@ impl<'a, const P: usize, const J: usize, const OUT: usize> CoreState<'a, P, J, O
     pub fn unlock_interrupts(&mut self, runner: Runner)
         requires own { IsTrue (is_own_runner self.old.view.own runner) }
         requires count { self.old.progress.entries < 2 ^ 63 }
-        ensures state { self.new ≡ state_after (Noted (InterruptsResumed runner)) self.old }
-        ensures remarks { Remarks 1 (λ v h. Noted (InterruptsResumed runner) ∷ h) self.old self.new }
+        ensures { self.new ≡ state_after (Noted (InterruptsResumed runner)) self.old }
     {
         self.jobs.unlock_interrupts(runner);
         self.progress.entries += 1;
@@ -232,8 +224,7 @@ impl<'a, const P: usize, const J: usize, const OUT: usize> CoreState<'a, P, J, O
     /// The core goes down: it schedules and serves no longer, and owes its spinlocks (AUTOSAR SWS OS 4.x, ShutdownOS).
     pub fn go_down(&mut self)
         requires count { self.old.progress.entries < 2 ^ 63 }
-        ensures state { self.new ≡ state_after (Noted WentDown) self.old }
-        ensures remarks { Remarks 1 (λ v h. Noted WentDown ∷ h) self.old self.new }
+        ensures { self.new ≡ state_after (Noted WentDown) self.old }
     {
         self.border.spins.owe_all();
         self.progress.go_down();
@@ -243,7 +234,6 @@ impl<'a, const P: usize, const J: usize, const OUT: usize> CoreState<'a, P, J, O
     pub fn enter(&mut self, task: TaskRef, marks: &mut Vec<Mark>)
         requires { HasRoom 1 1 self.old marks.old }
         ensures state { self.new ≡ state_after (Printed (Mark.PreTaskHook task)) self.old }
-        ensures effects { Effects 1 1 (λ v h. Printed (Mark.PreTaskHook task) ∷ h) self.old self.new marks.old marks.new }
         ensures marks { Joins (Mark.PreTaskHook task) marks.old marks.new }
     {
         self.jobs.enter(task);
@@ -254,7 +244,6 @@ impl<'a, const P: usize, const J: usize, const OUT: usize> CoreState<'a, P, J, O
     pub fn leave(&mut self, task: TaskRef, marks: &mut Vec<Mark>)
         requires { HasRoom 1 1 self.old marks.old }
         ensures state { self.new ≡ state_after (Printed (Mark.PostTaskHook task)) self.old }
-        ensures effects { Effects 1 1 (λ v h. Printed (Mark.PostTaskHook task) ∷ h) self.old self.new marks.old marks.new }
         ensures marks { Joins (Mark.PostTaskHook task) marks.old marks.new }
     {
         self.jobs.leave(task);
@@ -266,7 +255,6 @@ impl<'a, const P: usize, const J: usize, const OUT: usize> CoreState<'a, P, J, O
         requires own { IsTrue (is_own_runner self.old.view.own (Runner.Task task)) }
         requires room { HasRoom 1 1 self.old marks.old }
         ensures state { self.new ≡ state_after (Printed (Mark.EventSet task mask)) self.old }
-        ensures effects { Effects 1 1 (λ v h. Printed (Mark.EventSet task mask) ∷ h) self.old self.new marks.old marks.new }
         ensures marks { Joins (Mark.EventSet task mask) marks.old marks.new }
     {
         self.jobs.set_events(task, mask);
@@ -278,7 +266,6 @@ impl<'a, const P: usize, const J: usize, const OUT: usize> CoreState<'a, P, J, O
         requires own { IsTrue (is_own_runner self.old.view.own (Runner.Task task)) }
         requires room { HasRoom 1 1 self.old marks.old }
         ensures state { self.new ≡ state_after (Printed (Mark.EventCleared task mask)) self.old }
-        ensures effects { Effects 1 1 (λ v h. Printed (Mark.EventCleared task mask) ∷ h) self.old self.new marks.old marks.new }
         ensures marks { Joins (Mark.EventCleared task mask) marks.old marks.new }
     {
         self.jobs.clear_events(task, mask);
@@ -293,7 +280,6 @@ impl<'a, const P: usize, const J: usize, const OUT: usize> CoreState<'a, P, J, O
         requires extended { is_extended self.old.view.own (Runner.Task task) ≡ true }
         requires room { HasRoom 1 1 self.old marks.old }
         ensures state { self.new ≡ state_after (Printed (Mark.EventAwaited task mask)) self.old }
-        ensures effects { Effects 1 1 (λ v h. Printed (Mark.EventAwaited task mask) ∷ h) self.old self.new marks.old marks.new }
         ensures marks { Joins (Mark.EventAwaited task mask) marks.old marks.new }
     {
         self.jobs.wait(task, mask);
@@ -308,7 +294,6 @@ impl<'a, const P: usize, const J: usize, const OUT: usize> CoreState<'a, P, J, O
         requires extended { is_extended self.old.view.own (Runner.Task task) ≡ true }
         requires room { HasRoom 1 1 self.old marks.old }
         ensures state { self.new ≡ state_after (Printed (Mark.Released task)) self.old }
-        ensures effects { Effects 1 1 (λ v h. Printed (Mark.Released task) ∷ h) self.old self.new marks.old marks.new }
         ensures marks { Joins (Mark.Released task) marks.old marks.new }
     {
         self.jobs.release(task, self.progress.entries);
@@ -321,7 +306,6 @@ impl<'a, const P: usize, const J: usize, const OUT: usize> CoreState<'a, P, J, O
         requires plain { IsTrue (is_plain mark) }
         requires room { HasRoom 1 1 self.old marks.old }
         ensures state { self.new ≡ state_after (Printed mark) self.old }
-        ensures effects { Effects 1 1 (λ v h. Printed mark ∷ h) self.old self.new marks.old marks.new }
         ensures marks { Joins mark marks.old marks.new }
     {
         self.jobs.print(&mark);
@@ -333,8 +317,7 @@ impl<'a, const P: usize, const J: usize, const OUT: usize> CoreState<'a, P, J, O
         requires receiver { to.number < CORES }
         requires room { length self.old.border.outbox < OUT }
         requires count { self.old.progress.entries < 2 ^ 63 }
-        ensures state { self.new ≡ state_after (Noted (Queued to (next_letter self.old to message))) self.old }
-        ensures remarks { Remarks 1 (λ v h. Noted (Queued to (letter_with (queued_count to h) message)) ∷ h) self.old self.new }
+        ensures { self.new ≡ state_after (Noted (Queued to (next_letter self.old to message))) self.old }
     {
         let number = self.border.queued[usize::from(to.number)];
         let letter = Letter { number, message };
@@ -350,8 +333,7 @@ impl<'a, const P: usize, const J: usize, const OUT: usize> CoreState<'a, P, J, O
         requires own { IsTrue (is_own_runner self.old.view.own call.runner) }
         requires lock { IsTrue (is_awaited_known call.awaits) }
         requires count { self.old.progress.entries < 2 ^ 63 }
-        ensures state { self.new ≡ state_after (Noted (Opened call)) self.old }
-        ensures remarks { Remarks 1 (λ v h. Noted (Opened call) ∷ h) self.old self.new }
+        ensures { self.new ≡ state_after (Noted (Opened call)) self.old }
     {
         self.border.open_call = Some(call);
         self.progress.entries += 1;
@@ -364,8 +346,7 @@ impl<'a, const P: usize, const J: usize, const OUT: usize> CoreState<'a, P, J, O
         requires place { resource.index < RESOURCES }
         requires free { is_occupied resource.index self.old.tasks.rows ≡ false }
         requires count { self.old.progress.entries < 2 ^ 63 }
-        ensures state { self.new ≡ state_after (Noted (ResourceOccupied runner resource)) self.old }
-        ensures remarks { Remarks 1 (λ v h. Noted (ResourceOccupied runner resource) ∷ h) self.old self.new }
+        ensures { self.new ≡ state_after (Noted (ResourceOccupied runner resource)) self.old }
     {
         self.jobs.raise(runner, resource);
         self.progress.entries += 1;
@@ -377,8 +358,7 @@ impl<'a, const P: usize, const J: usize, const OUT: usize> CoreState<'a, P, J, O
         requires own { IsTrue (is_own_runner self.old.view.own runner) }
         requires newest { is_newest index (held_in runner self.old.tasks.rows) ≡ true }
         requires count { self.old.progress.entries < 2 ^ 63 }
-        ensures state { self.new ≡ state_after (Noted (ResourceReleased runner index)) self.old }
-        ensures remarks { Remarks 1 (λ v h. Noted (ResourceReleased runner index) ∷ h) self.old self.new }
+        ensures { self.new ≡ state_after (Noted (ResourceReleased runner index)) self.old }
     {
         self.jobs.lower(runner, index);
         self.progress.entries += 1;
@@ -388,8 +368,7 @@ impl<'a, const P: usize, const J: usize, const OUT: usize> CoreState<'a, P, J, O
     pub fn complete(&mut self, runner: Runner, status: Status, value: Option<i64>)
         requires own { IsTrue (is_own_runner self.old.view.own runner) }
         requires count { self.old.progress.entries < 2 ^ 63 }
-        ensures state { self.new ≡ state_after (Noted (Done runner status value)) self.old }
-        ensures remarks { Remarks 1 (λ v h. Noted (Done runner status value) ∷ h) self.old self.new }
+        ensures { self.new ≡ state_after (Noted (Done runner status value)) self.old }
     {
         let script = script_of(self.core, runner);
         self.jobs.complete(script, runner, status, value);
@@ -572,7 +551,6 @@ impl<'a, const P: usize, const J: usize, const OUT: usize> CoreState<'a, P, J, O
     pub fn best_job(&mut self, running: Option<Job>) -> Option<Job>
         requires { running ≡ running_in self.old }
         ensures value { result ≡ best_in self.old }
-        ensures reads { Reads (λ v h. best_job v h) self.old result }
         ensures own { IfSome result (λ job. IsTrue (is_own_runner self.old.view.own job.runner)) }
         ensures keeps { self.new ≡ self.old }
     {
@@ -583,7 +561,6 @@ impl<'a, const P: usize, const J: usize, const OUT: usize> CoreState<'a, P, J, O
     /// one of another core.
     pub fn resource(&self, target: Option<ResourceRef>) -> Option<HeldResource>
         ensures value { result ≡ resource_of self.now.view.own target }
-        ensures reads { Reads (λ v h. resource_of v.own target) self.now result }
         ensures place { IfSome result (λ x. x.index < RESOURCES) }
     {
         let target = target?;
@@ -597,24 +574,21 @@ impl<'a, const P: usize, const J: usize, const OUT: usize> CoreState<'a, P, J, O
     /// The priority of one of the core's tasks as it is configured (OSEK/VDX OS 2.2.3, section 4.5).
     pub fn static_priority(&self, runner: Runner) -> u8
         requires { IsTrue (is_own_runner self.now.view.own runner) }
-        ensures value { result ≡ static_priority self.now.view.own runner }
-        ensures reads { Reads (λ v h. static_priority v.own runner) self.now result }
+        ensures { result ≡ static_priority self.now.view.own runner }
     {
         osjobs::static_priority(self.core, runner)
     }
 
     /// Whether the runner is one of the core's extended tasks (OSEK/VDX OS 2.2.3, section 4.2.1).
     pub fn is_extended(&self, runner: Runner) -> bool
-        ensures value { result ≡ is_extended self.now.view.own runner }
-        ensures reads { Reads (λ v h. is_extended v.own runner) self.now result }
+        ensures { result ≡ is_extended self.now.view.own runner }
     {
         osjobs::is_extended(self.core, runner)
     }
 
     /// The events of one of the core's tasks (OSEK/VDX OS 2.2.3, section 7).
     pub fn events(&self, runner: Runner) -> TaskEvents
-        ensures value { result ≡ events_in runner self.now.tasks.rows }
-        ensures reads { Reads (λ v h. events_at v runner h) self.now result }
+        ensures { result ≡ events_in runner self.now.tasks.rows }
     {
         self.jobs.events(runner)
     }
@@ -622,8 +596,7 @@ impl<'a, const P: usize, const J: usize, const OUT: usize> CoreState<'a, P, J, O
     /// Whether the oldest job of one of the core's tasks or ISRs has suspended interrupts (OSEK/VDX OS 2.2.3, section
     /// 13.3.2.4).
     pub fn is_locked(&self, runner: Runner) -> bool
-        ensures value { result ≡ nat_lt 0 (depth_in runner self.now.tasks.rows) }
-        ensures reads { Reads (λ v h. is_locked v runner h) self.now result }
+        ensures { result ≡ nat_lt 0 (depth_in runner self.now.tasks.rows) }
     {
         self.jobs.is_locked(runner)
     }
@@ -631,8 +604,7 @@ impl<'a, const P: usize, const J: usize, const OUT: usize> CoreState<'a, P, J, O
     /// Whether the oldest job of one of the core's tasks or ISRs has reached its budget (AUTOSAR SWS OS 4.x, SWS_Os_00064 and
     /// SWS_Os_00210).
     pub fn is_spent(&self, runner: Runner) -> bool
-        ensures value { result ≡ is_reached (budget_of self.now.view.own runner) (used_in runner self.now.tasks.rows) }
-        ensures reads { Reads (λ v h. is_reached (budget_of v.own runner) (used_at v runner h)) self.now result }
+        ensures { result ≡ is_reached (budget_of self.now.view.own runner) (used_in runner self.now.tasks.rows) }
     {
         self.jobs.is_spent(runner, budget_of(self.core, runner))
     }
@@ -640,16 +612,14 @@ impl<'a, const P: usize, const J: usize, const OUT: usize> CoreState<'a, P, J, O
     /// Whether the oldest job of one of the core's tasks or ISRs has reached the lock budget of a resource that it holds, of
     /// ticks since it took that (the project's own).
     pub fn is_overheld(&self, runner: Runner) -> bool
-        ensures value { result ≡ is_overheld self.now.view.own (row_in runner self.now.tasks.rows) }
-        ensures reads { Reads (λ v h. is_overheld v.own (row_at v runner h)) self.now result }
+        ensures { result ≡ is_overheld self.now.view.own (row_in runner self.now.tasks.rows) }
     {
         self.jobs.is_overheld(self.core, runner)
     }
 
     /// What the core does when a job has reached its budget (AUTOSAR SWS OS 4.x, ProtectionReturnType).
     pub fn protection(&self) -> Protection
-        ensures value { result ≡ self.now.view.own.protection }
-        ensures reads { Reads (λ v h. v.own.protection) self.now result }
+        ensures { result ≡ self.now.view.own.protection }
     {
         self.core.protection
     }
@@ -657,7 +627,6 @@ impl<'a, const P: usize, const J: usize, const OUT: usize> CoreState<'a, P, J, O
     /// Whether a job of the ISR is pending (AUTOSAR SWS OS 4.x, section 7.6).
     pub fn is_pending(&self, isr: IsrRef) -> bool
         ensures value { result ≡ is_pending_among isr self.now.tasks.isrs.entered self.now.tasks.isrs.live }
-        ensures reads { Reads (λ v h. is_pending isr h) self.now result }
         ensures limit { IsTrue (is_own_runner self.now.view.own (Runner.Isr isr)) → result ≡ false → job_count (Runner.Isr isr) self.now.tasks.isrs.live < interrupt_limit self.now.view.own (Runner.Isr isr) }
     {
         self.jobs.is_pending(isr)
@@ -665,8 +634,7 @@ impl<'a, const P: usize, const J: usize, const OUT: usize> CoreState<'a, P, J, O
 
     /// Whether no job of the task is live (OSEK/VDX OS 2.2.3, section 4.2.1).
     pub fn is_suspended(&self, task: TaskRef) -> bool
-        ensures value { result ≡ is_suspended_in task self.now }
-        ensures reads { Reads (λ v h. is_suspended v task h) self.now result }
+        ensures { result ≡ is_suspended_in task self.now }
     {
         self.jobs.count(Runner::Task(task)) == 0
     }
@@ -674,24 +642,21 @@ impl<'a, const P: usize, const J: usize, const OUT: usize> CoreState<'a, P, J, O
     /// Whether a job of the core holds the resource of this index.
     pub fn is_occupied(&self, index: u8) -> bool
         requires { index < RESOURCES }
-        ensures value { result ≡ is_occupied index self.now.tasks.rows }
-        ensures reads { Reads (λ v h. is_occupied index (rows_of v.own h)) self.now result }
+        ensures { result ≡ is_occupied index self.now.tasks.rows }
     {
         self.jobs.is_occupied(index)
     }
 
     /// Whether the resource of this index is the newest that the job of one of the core's tasks or ISRs holds.
     pub fn is_newest(&self, runner: Runner, index: u8) -> bool
-        ensures value { result ≡ is_newest index (held_in runner self.now.tasks.rows) }
-        ensures reads { Reads (λ v h. is_newest index (resources_of v runner h)) self.now result }
+        ensures { result ≡ is_newest index (held_in runner self.now.tasks.rows) }
     {
         self.jobs.is_newest(runner, index)
     }
 
     /// Whether the job of one of the core's tasks or ISRs holds a resource.
     pub fn holds_resource(&self, runner: Runner) -> bool
-        ensures value { result ≡ holds_any (held_in runner self.now.tasks.rows) }
-        ensures reads { Reads (λ v h. holds_any (resources_of v runner h)) self.now result }
+        ensures { result ≡ holds_any (held_in runner self.now.tasks.rows) }
     {
         self.jobs.holds_any(runner)
     }
@@ -709,8 +674,7 @@ impl<'a, const P: usize, const J: usize, const OUT: usize> CoreState<'a, P, J, O
 
     /// Where the oldest live job of one of the core's tasks or ISRs stands in its script, with its variables.
     pub fn frame(&self, runner: Runner) -> Frame
-        ensures value { result ≡ frame_in runner self.now.tasks.rows }
-        ensures reads { Reads (λ v h. frame_at v runner h) self.now result }
+        ensures { result ≡ frame_in runner self.now.tasks.rows }
     {
         self.jobs.frame(runner)
     }
@@ -718,7 +682,6 @@ impl<'a, const P: usize, const J: usize, const OUT: usize> CoreState<'a, P, J, O
     /// What the oldest live job of one of the core's tasks or ISRs does next.
     pub fn next_action(&self, runner: Runner) -> Action
         ensures value { result ≡ next_action_in runner self.now }
-        ensures reads { Reads (λ v h. action_at (script_of v.own runner) (frame_at v runner h)) self.now result }
         ensures known { IsTrue (is_action_known self.now.view.own result) }
     {
         self.jobs.next_action(script_of(self.core, runner), runner)

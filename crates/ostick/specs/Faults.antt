@@ -8,8 +8,8 @@ use Rattle.osplan.specs.declared.protection.Protection.{Protection}
 use Rattle.osjobs.specs.Locks.{is_overheld}
 use Rattle.osstate.specs.Readings.{budget_of}
 use Rattle.osbudget.specs.Budget.{is_reached}
-use Rattle.osservice.specs.Acts.{Acts, Prints, nothing, one_then, prints}
-use Rattle.osservice.specs.Seen.{Seen}
+use Rattle.osacts.specs.Acts.{Acts, Prints, nothing, one_then, prints}
+use Rattle.osacts.specs.Seen.{Seen}
 use Rattle.oscall.specs.Shutdown.{goes_down}
 
 -- The status of the budget that the runner's oldest job has reached: its execution budget, or else the lock budget of a resource that it

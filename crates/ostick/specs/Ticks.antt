@@ -5,7 +5,7 @@ use Rattle.osbase.specs.Phases.{is_going}
 use Rattle.osplan.specs.declared.plans.Core.{Core}
 use Rattle.osplan.specs.declared.plans.Counter.{Counter}
 use Rattle.osclock.specs.Clocks.{counter_ref}
-use Rattle.osservice.specs.Acts.{Acts, both, in_turn, look, nothing, prints, when}
+use Rattle.osacts.specs.Acts.{Acts, both, in_turn, look, nothing, prints, when}
 use Rattle.osexpiry.specs.Advancing.{counts}
 use Rattle.ostick.specs.Faults.{protects}
 

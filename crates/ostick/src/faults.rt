@@ -2,10 +2,11 @@
 
 ghost use Rattle.std.specs.Prelude.{◌≡◌, IsTrue};
 ghost use Rattle.osjobs.specs.Priorities.{is_own_runner};
-ghost use Rattle.osstate.specs.Does.{Effects, HasRoom, Reads};
-ghost use Rattle.osservice.specs.Acts.{does, look};
-ghost use Rattle.osservice.specs.Seen.{seen_of};
+ghost use Rattle.osstate.specs.Does.{HasRoom};
+ghost use Rattle.osacts.specs.Acts.{look};
 ghost use Rattle.ostick.specs.Faults.{answers_fault, ends_by_force, faults_with, fault_of, protects};
+ghost use Rattle.osacts.specs.Runs.{seen_in};
+ghost use Rattle.osacts.specs.Steps.{Steps};
 
 use osbase::{Mark, Runner, Status};
 use oscall::shutdown::go_down;
@@ -19,7 +20,7 @@ pub(crate) fn protect<const P: usize, const J: usize, const OUT: usize>(
     marks: &mut Vec<Mark>,
 )
     requires { HasRoom 3 2 state.old marks.old }
-    ensures effects { Effects 3 2 (does (look (λ s. protects s s.running))) state.old state.new marks.old marks.new }
+    ensures steps { Steps 3 2 (look (λ s. protects s s.running)) state.old state.new marks.old marks.new }
     ensures outbox { state.new.border.outbox ≡ state.old.border.outbox }
 {
     if let Some(job) = state.running_job() {
@@ -34,7 +35,7 @@ fn protect_from<const P: usize, const J: usize, const OUT: usize>(
 )
     requires own { IsTrue (is_own_runner state.old.view.own runner) }
     requires room { HasRoom 3 2 state.old marks.old }
-    ensures effects { Effects 3 2 (does (look (λ s. faults_with s.core.protection runner (fault_of s runner)))) state.old state.new marks.old marks.new }
+    ensures steps { Steps 3 2 (look (λ s. faults_with s.core.protection runner (fault_of s runner))) state.old state.new marks.old marks.new }
     ensures outbox { state.new.border.outbox ≡ state.old.border.outbox }
 {
     if let Some(status) = fault_of(state, runner) {
@@ -49,7 +50,7 @@ fn fault_of<const P: usize, const J: usize, const OUT: usize>(
     runner: Runner,
 ) -> Option<Status>
     requires own { IsTrue (is_own_runner state.now.view.own runner) }
-    ensures { Reads (λ v h. fault_of (seen_of v h) runner) state.now result }
+    ensures { result ≡ fault_of (seen_in state.now) runner }
 {
     if state.is_spent(runner) {
         Some(Status::EOsProtectionTime)
@@ -69,7 +70,7 @@ fn answer<const P: usize, const J: usize, const OUT: usize>(
 )
     requires own { IsTrue (is_own_runner state.old.view.own runner) }
     requires room { HasRoom 2 1 state.old marks.old }
-    ensures effects { Effects 2 1 (does (look (λ s. answers_fault s.core.protection runner status))) state.old state.new marks.old marks.new }
+    ensures steps { Steps 2 1 (look (λ s. answers_fault s.core.protection runner status)) state.old state.new marks.old marks.new }
     ensures outbox { state.new.border.outbox ≡ state.old.border.outbox }
 {
     match state.protection() {
@@ -86,7 +87,7 @@ fn end_by_force<const P: usize, const J: usize, const OUT: usize>(
 )
     requires own { IsTrue (is_own_runner state.old.view.own runner) }
     requires room { HasRoom 1 1 state.old marks.old }
-    ensures effects { Effects 1 1 (does (ends_by_force runner)) state.old state.new marks.old marks.new }
+    ensures steps { Steps 1 1 (ends_by_force runner) state.old state.new marks.old marks.new }
     ensures outbox { state.new.border.outbox ≡ state.old.border.outbox }
 {
     match runner {

@@ -3,11 +3,12 @@
 ghost use Rattle.std.specs.Prelude.{◌+◌, ◌≤◌, IsTrue, length};
 ghost use Rattle.osbase.specs.Objects.{counter_object};
 ghost use Rattle.osplan.specs.Objects.{is_own_object, most_posts_per_tick};
-ghost use Rattle.osstate.specs.Does.{Effects, service_entries, service_marks};
+ghost use Rattle.osstate.specs.Does.{service_entries, service_marks};
 ghost use Rattle.osservice.specs.Terms.{MayPost};
-ghost use Rattle.osservice.specs.Acts.{does, nothing, when};
+ghost use Rattle.osacts.specs.Acts.{nothing, when};
 ghost use Rattle.osexpiry.specs.Advancing.{count_entries, count_marks, counts, posted_by};
 ghost use Rattle.ostick.specs.Ticks.{counted_entries, counted_marks, counts_each, ticks};
+ghost use Rattle.osacts.specs.Steps.{Steps};
 
 use crate::faults::protect;
 use osbase::{CounterRef, Mark};
@@ -22,7 +23,7 @@ pub fn tick<const P: usize, const J: usize, const OUT: usize>(
     marks: &mut Vec<Mark>,
 )
     requires { MayPost (most_posts_per_tick state.old.view.own) OUT service_entries service_marks state.old marks.old }
-    ensures { Effects service_entries service_marks (does ticks) state.old state.new marks.old marks.new }
+    ensures { Steps service_entries service_marks ticks state.old state.new marks.old marks.new }
 {
     state.tick(marks);
     protect(state, marks);
@@ -37,7 +38,7 @@ fn count_each<const P: usize, const J: usize, const OUT: usize>(
     marks: &mut Vec<Mark>,
 )
     requires { MayPost (most_posts_per_tick state.old.view.own) OUT counted_entries counted_marks state.old marks.old }
-    ensures { Effects counted_entries counted_marks (does counts_each) state.old state.new marks.old marks.new }
+    ensures { Steps counted_entries counted_marks counts_each state.old state.new marks.old marks.new }
 {
     let core = state.id();
     let counters = state.counters();
@@ -58,7 +59,7 @@ fn count_by_tick<const P: usize, const J: usize, const OUT: usize>(
 )
     requires own { IsTrue (is_own_object state.old.view.own (counter_object reference)) }
     requires posts { MayPost (posted_by state.old.view.own reference) OUT (count_entries state.old.view.own reference) (count_marks state.old.view.own reference) state.old marks.old }
-    ensures effects { Effects (count_entries state.old.view.own reference) (count_marks state.old.view.own reference) (does (when counter.now.software nothing (counts reference))) state.old state.new marks.old marks.new }
+    ensures steps { Steps (count_entries state.old.view.own reference) (count_marks state.old.view.own reference) (when counter.now.software nothing (counts reference)) state.old state.new marks.old marks.new }
     ensures outbox { length state.new.border.outbox ≤ length state.old.border.outbox + posted_by state.old.view.own reference }
 {
     if !counter.software {

@@ -1,6 +1,6 @@
 //! The counters and the alarms of a core, as its state has them.
 
-ghost use Rattle.std.specs.Prelude.{◌≡◌, ◌∷◌, ◌<◌, ◌≤◌, ◌^◌, IsTrue, length, option_copied, option_map, Some, suc};
+ghost use Rattle.std.specs.Prelude.{◌≡◌, ◌<◌, ◌≤◌, ◌^◌, IsTrue, length, option_copied, option_map, Some, suc};
 ghost use Rattle.std.specs.List.{list_all};
 ghost use Rattle.osbase.specs.declared.references.AlarmRef.{AlarmRef as AlarmRefValue};
 ghost use Rattle.osbase.specs.History.{Noted, AlarmCancelled, AlarmSet, CounterIncremented};
@@ -9,8 +9,7 @@ ghost use Rattle.osplan.specs.Clocked.{are_clocks_within};
 ghost use Rattle.osplan.specs.Objects.{is_own_object, may_act};
 ghost use Rattle.osplan.specs.declared.plans.Alarm.{Alarm as AlarmValue};
 ghost use Rattle.osplan.specs.View.{own_alarm};
-ghost use Rattle.osclock.specs.Clocks.{alarm_in, attached_to, counter_in, counts_to_by, counts_to_in, due_by, due_in, is_in_use_by, is_used, left_by, left_in, max_for, value_by};
-ghost use Rattle.osstate.specs.Does.{Reads, Remarks};
+ghost use Rattle.osclock.specs.Clocks.{alarm_in, attached_to, counter_in, counts_to_in, due_in, is_used, left_in, max_for};
 ghost use Rattle.osstate.specs.Readings.{alarm_named, counter_named};
 ghost use Rattle.osstate.specs.Steps.{state_after};
 
@@ -25,8 +24,7 @@ impl<'a, const P: usize, const J: usize, const OUT: usize> CoreState<'a, P, J, O
     pub fn count(&mut self, counter: CounterRef)
         requires own { IsTrue (is_own_object self.old.view.own (counter_object counter)) }
         requires count { self.old.progress.entries < 2 ^ 63 }
-        ensures state { self.new ≡ state_after (Noted (CounterIncremented counter)) self.old }
-        ensures remarks { Remarks 1 (λ v h. Noted (CounterIncremented counter) ∷ h) self.old self.new }
+        ensures { self.new ≡ state_after (Noted (CounterIncremented counter)) self.old }
     {
         self.clocks.count(self.core, counter);
         self.tables.count(self.core, counter);
@@ -41,8 +39,7 @@ impl<'a, const P: usize, const J: usize, const OUT: usize> CoreState<'a, P, J, O
         requires turn { first ≤ suc (max_for self.old.view.own alarm) }
         requires cycle { cycle ≤ max_for self.old.view.own alarm }
         requires count { self.old.progress.entries < 2 ^ 63 }
-        ensures state { self.new ≡ state_after (Noted (AlarmSet alarm first cycle)) self.old }
-        ensures remarks { Remarks 1 (λ v h. Noted (AlarmSet alarm first cycle) ∷ h) self.old self.new }
+        ensures { self.new ≡ state_after (Noted (AlarmSet alarm first cycle)) self.old }
     {
         self.clocks.set_alarm(self.core, alarm, first, cycle);
         self.progress.entries += 1;
@@ -52,8 +49,7 @@ impl<'a, const P: usize, const J: usize, const OUT: usize> CoreState<'a, P, J, O
     pub fn cancel_alarm(&mut self, alarm: AlarmRef)
         requires own { IsTrue (is_own_object self.old.view.own (alarm_object alarm)) }
         requires count { self.old.progress.entries < 2 ^ 63 }
-        ensures state { self.new ≡ state_after (Noted (AlarmCancelled alarm)) self.old }
-        ensures remarks { Remarks 1 (λ v h. Noted (AlarmCancelled alarm) ∷ h) self.old self.new }
+        ensures { self.new ≡ state_after (Noted (AlarmCancelled alarm)) self.old }
     {
         self.clocks.cancel_alarm(self.core, alarm);
         self.progress.entries += 1;
@@ -62,7 +58,6 @@ impl<'a, const P: usize, const J: usize, const OUT: usize> CoreState<'a, P, J, O
     /// A counter of the core that a script names; none for the invalid identifier, and for one of another core.
     pub fn counter(&self, target: Option<CounterRef>) -> Option<&'a Counter>
         ensures value { option_copied result ≡ counter_named self.now.view.own target }
-        ensures reads { Reads (λ v h. counter_named v.own target) self.now (option_copied result) }
         ensures within { IsTrue (are_clocks_within self.now.view.own) }
     {
         let core = self.core;
@@ -71,8 +66,7 @@ impl<'a, const P: usize, const J: usize, const OUT: usize> CoreState<'a, P, J, O
 
     /// An alarm of the core that a script names; none for the invalid identifier, and for one of another core.
     pub fn alarm(&self, target: Option<AlarmRef>) -> Option<&'a Alarm>
-        ensures value { option_copied result ≡ alarm_named self.now.view.own target }
-        ensures reads { Reads (λ v h. alarm_named v.own target) self.now (option_copied result) }
+        ensures { option_copied result ≡ alarm_named self.now.view.own target }
     {
         let core = self.core;
         own::alarm_of(core, target?)
@@ -101,8 +95,7 @@ impl<'a, const P: usize, const J: usize, const OUT: usize> CoreState<'a, P, J, O
     /// The value of one of the core's counters (OSEK/VDX OS 2.2.3, section 9.1).
     pub fn counter_value(&self, counter: CounterRef) -> u32
         requires own { IsTrue (is_own_object self.now.view.own (counter_object counter)) }
-        ensures value { result ≡ (counter_in counter self.now.clocks).value }
-        ensures reads { Reads (λ v h. value_by v.own counter h) self.now result }
+        ensures { result ≡ (counter_in counter self.now.clocks).value }
     {
         self.clocks.value(counter)
     }
@@ -110,8 +103,7 @@ impl<'a, const P: usize, const J: usize, const OUT: usize> CoreState<'a, P, J, O
     /// Whether one of the core's alarms is in use (OSEK/VDX OS 2.2.3, section 9.2).
     pub fn is_alarm_in_use(&self, alarm: AlarmRef) -> bool
         requires own { IsTrue (is_own_object self.now.view.own (alarm_object alarm)) }
-        ensures value { result ≡ is_used (alarm_in alarm self.now.clocks) }
-        ensures reads { Reads (λ v h. is_in_use_by v.own alarm h) self.now result }
+        ensures { result ≡ is_used (alarm_in alarm self.now.clocks) }
     {
         self.clocks.is_in_use(alarm)
     }
@@ -120,8 +112,7 @@ impl<'a, const P: usize, const J: usize, const OUT: usize> CoreState<'a, P, J, O
     /// (OSEK/VDX OS 2.2.3, section 13.6.3.2).
     pub fn counts_left(&self, alarm: AlarmRef) -> Option<u32>
         requires own { IsTrue (is_own_object self.now.view.own (alarm_object alarm)) }
-        ensures value { result ≡ left_in self.now.view.own alarm self.now.clocks }
-        ensures reads { Reads (λ v h. left_by v.own alarm h) self.now result }
+        ensures { result ≡ left_in self.now.view.own alarm self.now.clocks }
     {
         self.clocks.left(self.core, alarm)
     }
@@ -132,7 +123,6 @@ impl<'a, const P: usize, const J: usize, const OUT: usize> CoreState<'a, P, J, O
         requires own { IsTrue (is_own_object self.now.view.own (alarm_object alarm)) }
         requires turn { start ≤ max_for self.now.view.own alarm }
         ensures value { result ≡ counts_to_in self.now.view.own alarm start self.now.clocks }
-        ensures reads { Reads (λ v h. counts_to_by v.own alarm start h) self.now result }
         ensures later { 0 < result }
         ensures within { result ≤ suc (max_for self.now.view.own alarm) }
     {
@@ -156,7 +146,6 @@ impl<'a, const P: usize, const J: usize, const OUT: usize> CoreState<'a, P, J, O
     pub fn due_next(&self, counter: CounterRef) -> AlarmList
         requires own { IsTrue (is_own_object self.now.view.own (counter_object counter)) }
         ensures value { result.items ≡ due_in self.now.view.own counter self.now.clocks }
-        ensures reads { Reads (λ v h. due_by v.own counter h) self.now result.items }
         ensures own { IsTrue (list_all (λ (a : AlarmRefValue). is_own_object self.now.view.own (alarm_object a)) result.items) }
         ensures few { length result.items ≤ length (attached_to self.now.view.own counter) }
     {

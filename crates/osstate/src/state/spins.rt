@@ -1,10 +1,9 @@
 //! The spinlocks that a core got, as its state has them.
 
 ghost use Rattle.std.specs.Prelude.{◌≡◌, IfSome, IsTrue, length, nat_lt};
-ghost use Rattle.osbase.specs.Spins.{got_spinlocks, has_spinlock, is_owing, newest_of, newest_owed};
+ghost use Rattle.osbase.specs.Spins.{has_spinlock, is_owing, newest_of, newest_owed};
 ghost use Rattle.osplan.specs.Spinlocks.{comes_after};
 ghost use Rattle.osgot.specs.Grants.{is_held_by};
-ghost use Rattle.osstate.specs.Does.{Reads};
 ghost use Rattle.osstate.specs.Sound.{is_lock_known};
 
 use super::CoreState;
@@ -30,24 +29,21 @@ impl<'a, const P: usize, const J: usize, const OUT: usize> CoreState<'a, P, J, O
 
     /// Whether the core got the spinlock and did not give it back (AUTOSAR SWS OS 4.x, GetSpinlock).
     pub fn has_spinlock(&self, lock: SpinlockId) -> bool
-        ensures value { result ≡ has_spinlock lock self.now.border.spins }
-        ensures reads { Reads (λ v h. has_spinlock lock (got_spinlocks h)) self.now result }
+        ensures { result ≡ has_spinlock lock self.now.border.spins }
     {
         self.border.spins.has(lock)
     }
 
     /// Whether the job of one of the core's tasks or ISRs has the spinlock (AUTOSAR SWS OS 4.x, ReleaseSpinlock).
     pub fn holds_spinlock(&self, runner: Runner, lock: SpinlockId) -> bool
-        ensures value { result ≡ is_held_by runner lock self.now.border.spins }
-        ensures reads { Reads (λ v h. is_held_by runner lock (got_spinlocks h)) self.now result }
+        ensures { result ≡ is_held_by runner lock self.now.border.spins }
     {
         self.border.spins.is_held(runner, lock)
     }
 
     /// The newest spinlock that the job of one of the core's tasks or ISRs has (AUTOSAR SWS OS 4.x, ReleaseSpinlock).
     pub fn newest_spinlock(&self, runner: Runner) -> Option<SpinlockId>
-        ensures value { result ≡ newest_of runner self.now.border.spins }
-        ensures reads { Reads (λ v h. newest_of runner (got_spinlocks h)) self.now result }
+        ensures { result ≡ newest_of runner self.now.border.spins }
     {
         self.border.spins.newest_of(runner)
     }
@@ -55,7 +51,6 @@ impl<'a, const P: usize, const J: usize, const OUT: usize> CoreState<'a, P, J, O
     /// The spinlock whose release is owed first.
     pub fn owed_spinlock(&self) -> Option<SpinlockId>
         ensures value { result ≡ newest_owed self.now.border.spins }
-        ensures reads { Reads (λ v h. newest_owed (got_spinlocks h)) self.now result }
         ensures lock { IfSome result (λ lock. IsTrue (is_lock_known lock)) }
     {
         self.border.spins.newest_owed()
@@ -63,8 +58,7 @@ impl<'a, const P: usize, const J: usize, const OUT: usize> CoreState<'a, P, J, O
 
     /// Whether the release of any spinlock is owed.
     pub fn is_owing(&self) -> bool
-        ensures value { result ≡ is_owing self.now.border.spins }
-        ensures reads { Reads (λ v h. is_owing (got_spinlocks h)) self.now result }
+        ensures { result ≡ is_owing self.now.border.spins }
     {
         self.border.spins.is_owing()
     }

@@ -1,17 +1,15 @@
 //! The schedule tables of a core, as its state has them.
 
-ghost use Rattle.std.specs.Prelude.{◌≡◌, ◌<◌, ◌≤◌, ◌^◌, ◌∷◌, ℕ, IsTrue, IfSome, length, option_copied, suc, sum_by};
+ghost use Rattle.std.specs.Prelude.{◌≡◌, ◌<◌, ◌≤◌, ◌^◌, ℕ, IsTrue, IfSome, length, option_copied, suc, sum_by};
 ghost use Rattle.std.specs.List.{list_all};
 ghost use Rattle.osbase.specs.declared.references.TableRef.{TableRef as TableRefValue};
 ghost use Rattle.osbase.specs.History.{Noted, TableNext, TableStopped, TableStarted};
 ghost use Rattle.osbase.specs.Objects.{counter_object, table_object};
 ghost use Rattle.osplan.specs.Clocked.{are_clocks_within};
 ghost use Rattle.osplan.specs.Objects.{is_own_object, may_act, table_actions};
-ghost use Rattle.osclock.specs.Clocks.{counts_to_value_by, counts_to_value_in, max_of};
-ghost use Rattle.ostable.specs.Ahead.{status_of};
-ghost use Rattle.ostable.specs.Tables.{due_tables_by, due_tables_in, next_by, next_in, state_by, status_in, table_in, timed_by};
+ghost use Rattle.osclock.specs.Clocks.{counts_to_value_in, max_of};
+ghost use Rattle.ostable.specs.Tables.{due_tables_in, next_in, status_in, table_in, timed_by};
 ghost use Rattle.ostable.specs.Waiting.{are_of_one_counter, are_own, ends_alone, with_next};
-ghost use Rattle.osstate.specs.Does.{Reads, Remarks};
 ghost use Rattle.osstate.specs.Readings.{table_named};
 ghost use Rattle.osstate.specs.Steps.{state_after};
 
@@ -27,8 +25,7 @@ impl<'a, const P: usize, const J: usize, const OUT: usize> CoreState<'a, P, J, O
         requires own { IsTrue (is_own_object self.old.view.own (table_object table)) }
         requires turn { wait ≤ 1000000001 }
         requires count { self.old.progress.entries < 2 ^ 63 }
-        ensures state { self.new ≡ state_after (Noted (TableStarted table wait)) self.old }
-        ensures remarks { Remarks 1 (λ v h. Noted (TableStarted table wait) ∷ h) self.old self.new }
+        ensures { self.new ≡ state_after (Noted (TableStarted table wait)) self.old }
     {
         self.tables.start(self.core, table, wait);
         self.progress.entries += 1;
@@ -38,8 +35,7 @@ impl<'a, const P: usize, const J: usize, const OUT: usize> CoreState<'a, P, J, O
     pub fn stop_table(&mut self, table: TableRef)
         requires own { IsTrue (is_own_object self.old.view.own (table_object table)) }
         requires count { self.old.progress.entries < 2 ^ 63 }
-        ensures state { self.new ≡ state_after (Noted (TableStopped table)) self.old }
-        ensures remarks { Remarks 1 (λ v h. Noted (TableStopped table) ∷ h) self.old self.new }
+        ensures { self.new ≡ state_after (Noted (TableStopped table)) self.old }
     {
         self.tables.stop(self.core, table);
         self.progress.entries += 1;
@@ -51,8 +47,7 @@ impl<'a, const P: usize, const J: usize, const OUT: usize> CoreState<'a, P, J, O
         requires own { IsTrue (is_own_object self.old.view.own (table_object next)) }
         requires counter { IsTrue (are_of_one_counter self.old.view.own table next) }
         requires count { self.old.progress.entries < 2 ^ 63 }
-        ensures state { self.new ≡ state_after (Noted (TableNext table next)) self.old }
-        ensures remarks { Remarks 1 (λ v h. Noted (TableNext table next) ∷ h) self.old self.new }
+        ensures { self.new ≡ state_after (Noted (TableNext table next)) self.old }
     {
         self.tables.wait_for(self.core, table, next);
         self.progress.entries += 1;
@@ -61,7 +56,6 @@ impl<'a, const P: usize, const J: usize, const OUT: usize> CoreState<'a, P, J, O
     /// A schedule table of the core that a script names; none for the invalid identifier, and for one of another core.
     pub fn table(&self, target: Option<TableRef>) -> Option<&'a Table>
         ensures value { option_copied result ≡ table_named self.now.view.own target }
-        ensures reads { Reads (λ v h. table_named v.own target) self.now (option_copied result) }
         ensures within { IsTrue (are_clocks_within self.now.view.own) }
         ensures known { IfSome (option_copied result) (λ table. IsTrue (list_all (may_act self.now.view.own) (table_actions table))) }
     {
@@ -82,8 +76,7 @@ impl<'a, const P: usize, const J: usize, const OUT: usize> CoreState<'a, P, J, O
     /// Whether one of the core's tables is stopped, waits or runs (AUTOSAR SWS OS 4.x, SWS_Os_00289 to SWS_Os_00291).
     pub fn table_status(&self, table: TableRef) -> TableStatus
         requires own { IsTrue (is_own_object self.now.view.own (table_object table)) }
-        ensures value { result ≡ status_in (table_in table self.now.tables) }
-        ensures reads { Reads (λ v h. status_of (state_by v.own table h)) self.now result }
+        ensures { result ≡ status_in (table_in table self.now.tables) }
     {
         self.tables.status(table)
     }
@@ -91,7 +84,6 @@ impl<'a, const P: usize, const J: usize, const OUT: usize> CoreState<'a, P, J, O
     /// The table of the core that waits for the end of a period of this one (AUTOSAR SWS OS 4.x, SWS_Os_00284).
     pub fn next_table(&self, table: TableRef) -> Option<TableRef>
         ensures value { result ≡ next_in self.now.view.own table self.now.tables }
-        ensures reads { Reads (λ v h. next_by v.own table h) self.now result }
         ensures own { IfSome result (λ next. IsTrue (is_own_object self.now.view.own (table_object next))) }
     {
         self.tables.next(self.core, table)
@@ -101,7 +93,6 @@ impl<'a, const P: usize, const J: usize, const OUT: usize> CoreState<'a, P, J, O
     pub fn due_tables(&self, counter: CounterRef) -> DueTables
         requires own { IsTrue (is_own_object self.now.view.own (counter_object counter)) }
         ensures value { result.items ≡ due_tables_in self.now.view.own counter self.now.tables }
-        ensures reads { Reads (λ v h. due_tables_by v.own counter h) self.now result.items }
         ensures own { IsTrue (list_all (are_own self.now.view.own) result.items) }
         ensures ends { IsTrue (list_all (ends_alone self.now.view.own) result.items) }
         ensures few { length result.items ≤ length (timed_by self.now.view.own counter) }
@@ -116,7 +107,6 @@ impl<'a, const P: usize, const J: usize, const OUT: usize> CoreState<'a, P, J, O
         requires own { IsTrue (is_own_object self.now.view.own (counter_object counter)) }
         requires turn { start ≤ max_of self.now.view.own counter }
         ensures value { result ≡ counts_to_value_in counter start self.now.clocks }
-        ensures reads { Reads (λ v h. counts_to_value_by v.own counter start h) self.now result }
         ensures within { result ≤ suc (max_of self.now.view.own counter) }
     {
         self.clocks.counts_to_value(self.core, counter, start)

@@ -1,7 +1,5 @@
-use Rattle.std.proofs.Common.{◌≡◌, ◌<◌, ◌&&◌, Bool, true, false, not, None, refl, sym, subst, ◌∙◌, rules, arith, lit≤}
+use Rattle.std.proofs.Common.{◌≡◌, ◌<◌, ◌&&◌, Bool, true, false, not, refl, sym, subst, ◌∙◌, rules, arith}
 use Rattle.std.proofs.lemmas.Bool.{leb-false}
-use Rattle.osbase.specs.declared.statuses.ServiceId.TheVariants as Service
-use Rattle.osbase.specs.declared.statuses.Status.TheVariants.{EOsLimit}
 use Rattle.osbase.specs.declared.references.Runner.{Runner}
 use Rattle.osbase.specs.declared.references.TaskRef.{TaskRef}
 use Rattle.osbase.specs.History.{job_count, same_runner, without_oldest}
@@ -9,11 +7,7 @@ use Rattle.osbase.proofs.Same.{same_runner-true}
 use Rattle.osstate.specs.Queries.{is_at_limit_in}
 use Rattle.osstate.specs.Sound.{activation_limit}
 use Rattle.osstate.specs.State.{KernelState}
-use Rattle.osstate.proofs.Effecting.{as_effect, then}
 use Rattle.osstate.proofs.JobLists.{job_count-without_oldest}
-use Rattle.osservice.specs.Acts.{both, does}
-use Rattle.osservice.specs.Returning.{returns as returning}
-use Rattle.osservice_tasks.specs.Tasks.{activates, ends}
 use Rattle.oschain.proofs.chaining.chain_here.Goals as goal
 
 -- once the caller has ended, the task has fewer jobs than it may have
@@ -29,15 +23,5 @@ below old new caller t view jobs own allowed = by (same_runner (Runner.Task call
 pub activate-requires : goal.activate-requires
 activate-requires g c =
     let limit : job_count (Runner.Task c.args.task) c.end_task.new.state.tasks.jobs < activation_limit c.end_task.new.state.view.own (Runner.Task c.args.task) =
-    below c.args.state.now c.end_task.new.state c.args.caller c.args.task c.end_task.ensures.effects.stays.view c.end_task.ensures.jobs c.end_task.ensures.below (sym c.exceeds_limit.ensures.value ∙ c.if-exceeds_limit.false) in
+    below c.args.state.now c.end_task.new.state c.args.caller c.args.task c.end_task.ensures.steps.view c.end_task.ensures.jobs c.end_task.ensures.below (sym c.exceeds_limit.ensures ∙ c.if-exceeds_limit.false) in
     search (rules, limit)
-
-pub returns : goal.returns
-returns g c =
-    as_effect {f = does (both (ends (Runner.Task c.args.caller)) (activates c.args.task))} (λ v h stands. rw (sym (c.exceeds_limit.ensures.reads v h stands) ∙ c.if-exceeds_limit.false) refl)
-    (lit≤ tt) (lit≤ tt) (then c.end_task.ensures.effects c.activate.ensures.effects)
-
-pub returns-then-exceeds_limit : goal.returns-then-exceeds_limit
-returns-then-exceeds_limit g c =
-    as_effect {f = does (returning (Runner.Task c.args.caller) Service.ChainTask EOsLimit None)} (λ v h stands. rw (sym (c.exceeds_limit.ensures.reads v h stands) ∙ c.if-exceeds_limit.true) refl)
-    (lit≤ tt) (lit≤ tt) c.refuse.ensures

@@ -21,9 +21,9 @@ expire-requires g c =
     search (rules, own, places-left next c.loop-alarm.invariant c.requires.posts.outbox, room-left next c.loop-alarm.invariant c.requires.posts.room)
 
 pub loop-alarm-preserved : goal.loop-alarm-preserved
-loop-alarm-preserved g c = one-acted (next-at c.args.due.now c.loop-alarm.alarm-index blank c.loop-alarm-test.true) c.loop-alarm.invariant c.expire.ensures.effects c.expire.ensures.outbox
+loop-alarm-preserved g c = one-acted (next-at c.args.due.now c.loop-alarm.alarm-index blank c.loop-alarm-test.true) c.loop-alarm.invariant c.expire.ensures.steps c.expire.ensures.outbox
 
 pub returns : goal.returns
 returns g c =
     let done = rw (take_all c.loop-alarm.alarm-index c.args.due.now c.loop-alarm-test.false) at c.loop-alarm.invariant in
-    record { effects = done.effects; outbox = done.outbox }
+    record { steps = done.steps; outbox = done.outbox }

@@ -19,9 +19,9 @@ process_table-requires g c =
     search (rules, own, places-left next c.loop-table.invariant c.requires.posts.outbox, room-left next c.loop-table.invariant c.requires.posts.room)
 
 pub loop-table-preserved : goal.loop-table-preserved
-loop-table-preserved g c = one-acted (next-at c.args.due.now c.loop-table.table-index blank c.loop-table-test.true) c.loop-table.invariant c.process_table.ensures.effects c.process_table.ensures.outbox
+loop-table-preserved g c = one-acted (next-at c.args.due.now c.loop-table.table-index blank c.loop-table-test.true) c.loop-table.invariant c.process_table.ensures.steps c.process_table.ensures.outbox
 
 pub returns : goal.returns
 returns g c =
     let done = rw (take_all c.loop-table.table-index c.args.due.now c.loop-table-test.false) at c.loop-table.invariant in
-    record { effects = done.effects; outbox = done.outbox }
+    record { steps = done.steps; outbox = done.outbox }

@@ -1,4 +1,4 @@
-use Rattle.std.proofs.Common.{◌≡◌, ◌≤◌, ◌+◌, ℕ, Bool, true, false, cond, IfSome, IsTrue, Option, Some, None, length, rules, ap, sym, ◌∙◌, arith, lit≤}
+use Rattle.std.proofs.Common.{◌≡◌, ◌≤◌, ◌+◌, ℕ, Bool, true, false, cond, IfSome, IsTrue, Option, Some, None, length, rules, ap, sym, arith, lit≤}
 use Rattle.std.specs.Option.{option_map_or}
 use Rattle.std.proofs.lemmas.Bool.{and_parts}
 use Rattle.osbase.specs.declared.references.TableRef.{TableRef}
@@ -7,10 +7,9 @@ use Rattle.osbase.specs.Phases.{is_before_live}
 use Rattle.osplan.specs.declared.plans.Core.{Core}
 use Rattle.osplan.specs.declared.plans.ExpiryPoint.{ExpiryPoint}
 use Rattle.osplan.specs.Objects.{is_own_object}
-use Rattle.osstate.specs.State.{KernelState}
-use Rattle.osstate.proofs.Effecting.{as_effect, then}
-use Rattle.osstate.proofs.ReadLemmas.{read}
-use Rattle.osservice.specs.Acts.{does}
+use Rattle.osacts.specs.Acts.{Acts, both, nothing, when}
+use Rattle.osacts.specs.Runs.{runs, says}
+use Rattle.osacts.proofs.Each.{as_steps, then, unmoved}
 use Rattle.osexpiry.specs.ExpiryPoints.{due_point, ends, posted_by_end, posted_by_point, processes_point}
 use Rattle.osexpiry.proofs.expiry_points.process_table.Goals as goal
 
@@ -26,21 +25,23 @@ end-requires g c =
     let posted = ap (λ (o : Option ExpiryPoint). posted_by_point core o) c.due_point-point.ensures.value in
     let ended = ap {B = ℕ} (λ (b : Bool). cond b (posted_by_end core table c.args.due.next) 0) c.if-due.true in
     let owns = and_parts (is_own_object core (table_object table)) _ c.requires.own in
-    let own : IsTrue (is_own_object c.process_point.new.state.view.own (table_object table)) = rw (c.process_point.ensures.effects.stays.view) owns.0 in
-    let next : IfSome c.args.due.next (λ (u : TableRef). IsTrue (is_own_object c.process_point.new.state.view.own (table_object u))) = rw (c.process_point.ensures.effects.stays.view) (waiting-own core c.args.due.next owns.1) in
+    let own : IsTrue (is_own_object c.process_point.new.state.view.own (table_object table)) = rw (c.process_point.ensures.steps.view) owns.0 in
+    let next : IfSome c.args.due.next (λ (u : TableRef). IsTrue (is_own_object c.process_point.new.state.view.own (table_object u))) = rw (c.process_point.ensures.steps.view) (waiting-own core c.args.due.next owns.1) in
     let outbox : length c.process_point.new.state.border.outbox + posted_by_end c.process_point.new.state.view.own table c.args.due.next ≤ g.row.OUT =
-    rw (c.process_point.ensures.effects.stays.view) (omega (arith, posted, ended, c.process_point.ensures.outbox, c.requires.posts.outbox)) in
-    let live : is_before_live c.process_point.new.state.progress.phase ≡ false = ap is_before_live c.process_point.ensures.effects.stays.phase ∙ c.requires.posts.live in
+    rw (c.process_point.ensures.steps.view) (omega (arith, posted, ended, c.process_point.ensures.outbox, c.requires.posts.outbox)) in
+    let live : is_before_live c.process_point.new.state.progress.phase ≡ false = rw (c.process_point.ensures.steps.phase) c.requires.posts.live in
     search (rules, own, next, outbox, live)
 
-pub returns-then-due-clause-effects : goal.returns-then-due-clause-effects
-returns-then-due-clause-effects g c =
-    as_effect (λ v h stands.
-    rw (c.if-due.true) (ap (λ (o : Option ExpiryPoint). does (ends c.args.due.table c.args.due.next) v (does (processes_point c.args.due.table o) v h)) (sym (read (λ (s : KernelState). due_point s.view.own c.args.due) c.due_point-point.ensures.value stands))))
-    (lit≤ tt) (lit≤ tt) (then c.process_point.ensures.effects c.end.ensures.effects)
+pub returns-then-due-clause-steps : goal.returns-then-due-clause-steps
+returns-then-due-clause-steps g c =
+    let due = c.args.due in
+    let same : both (processes_point due.table (due_point c.args.state.now.view.own due)) (when due.due.ends (ends due.table due.next) nothing) ≡ both (processes_point due.table _) (when true (ends due.table due.next) nothing) =
+    λ i. both (processes_point due.table (sym c.due_point-point.ensures.value i)) (when (c.if-due.true i) (ends due.table due.next) nothing) in
+    as_steps (ap (λ (x : Acts). runs x c.args.state.now) same) (ap (λ (x : Acts). says x c.args.state.now) same) (lit≤ tt) (lit≤ tt) (then c.process_point.ensures.steps c.end.ensures.steps)
 
-pub returns-else-due-clause-effects : goal.returns-else-due-clause-effects
-returns-else-due-clause-effects g c =
-    as_effect (λ v h stands.
-    rw (c.if-due.false) (ap (λ (o : Option ExpiryPoint). does (processes_point c.args.due.table o) v h) (sym (read (λ (s : KernelState). due_point s.view.own c.args.due) c.due_point-point.ensures.value stands))))
-    (lit≤ tt) (lit≤ tt) c.process_point.ensures.effects
+pub returns-else-due-clause-steps : goal.returns-else-due-clause-steps
+returns-else-due-clause-steps g c =
+    let due = c.args.due in
+    let same : both (processes_point due.table (due_point c.args.state.now.view.own due)) (when due.due.ends (ends due.table due.next) nothing) ≡ both (processes_point due.table _) (when false (ends due.table due.next) nothing) =
+    λ i. both (processes_point due.table (sym c.due_point-point.ensures.value i)) (when (c.if-due.false i) (ends due.table due.next) nothing) in
+    as_steps (ap (λ (x : Acts). runs x c.args.state.now) same) (ap (λ (x : Acts). says x c.args.state.now) same) (lit≤ tt) (lit≤ tt) (then c.process_point.ensures.steps unmoved)

@@ -4,12 +4,9 @@ use Rattle.osbase.specs.declared.statuses.Status.TheVariants.{EOsCore, EOsId}
 use Rattle.osclock.specs.Clocks.{attached_to}
 use Rattle.ostable.specs.Tables.{timed_by}
 use Rattle.osstate.specs.Readings.{is_this_core}
-use Rattle.osstate.specs.State.{KernelState}
-use Rattle.osstate.proofs.Effecting.{as_effect, then}
-use Rattle.osstate.proofs.ReadLemmas.{read}
+use Rattle.osacts.proofs.Each.{as_steps, then}
 use Rattle.osexpiry.specs.Incrementing.{counts_and_returns, is_hardware}
 use Rattle.osexpiry.specs.Advancing.{posted_by}
-use Rattle.osservice.specs.Acts.{does}
 use Rattle.osservice.specs.Returning.{returns as returning}
 use Rattle.osexpiry.proofs.Owned.{attached-few}
 use Rattle.osexpiry.proofs.Postings.{posted-fewer, timed-few}
@@ -28,31 +25,25 @@ pub accept-requires : goal.accept-requires
 accept-requires g c =
     let few = attached-few c.args.state.now.view.own c.args.counter c.is_hardware.ensures.within in
     let short = timed-few c.args.state.now.view.own c.args.counter c.is_hardware.ensures.within in
-    let count : c.advance.new.state.progress.entries + 3 ≤ 2 ^ 63 = omega (arith, few, short, c.requires.serves.posts.room.count, c.advance.ensures.effects.stays.entries) in
-    let place : vec_len c.advance.new.marks + 2 ≤ vec_capacity c.advance.new.marks = omega (arith, few, short, c.requires.serves.posts.room.place, c.advance.ensures.effects.len, c.advance.ensures.effects.capacity) in
+    let count : c.advance.new.state.progress.entries + 3 ≤ 2 ^ 63 = omega (arith, few, short, c.requires.serves.posts.room.count, c.advance.ensures.steps.count) in
+    let place : vec_len c.advance.new.marks + 2 ≤ vec_capacity c.advance.new.marks = omega (arith, few, short, c.requires.serves.posts.room.place, c.advance.ensures.steps.len, c.advance.ensures.steps.capacity) in
     search (rules, count, place)
 
 pub returns-then-is_hardware : goal.returns-then-is_hardware
 returns-then-is_hardware g c =
-    as_effect {f = does (returning c.args.runner Service.IncrementCounter EOsId None)} (λ v h stands.
-    let hard : is_hardware v.own c.args.counter ≡ true = sym (read (λ (s : KernelState). is_hardware s.view.own c.args.counter) c.is_hardware.ensures.value stands) ∙ c.if-is_hardware.true in
-    rw (hard) (refl {a = does (returning c.args.runner Service.IncrementCounter EOsId None) v h}))
-    (lit≤ tt) (lit≤ tt) c.refuse.ensures
+    let hard : is_hardware c.args.state.now.view.own c.args.counter ≡ true = sym c.is_hardware.ensures.value ∙ c.if-is_hardware.true in
+    as_steps {x = returning c.args.runner Service.IncrementCounter EOsId None} (rw (hard) refl) (rw (hard) refl) (lit≤ tt) (lit≤ tt) c.refuse.ensures
 
 pub returns-then-is_this_core : goal.returns-then-is_this_core
 returns-then-is_this_core g c =
     let few = attached-few c.args.state.now.view.own c.args.counter c.is_hardware.ensures.within in
     let short = timed-few c.args.state.now.view.own c.args.counter c.is_hardware.ensures.within in
-    as_effect {f = does (counts_and_returns c.args.runner (Some c.args.counter))} (λ v h stands.
-    let soft : is_hardware v.own c.args.counter ≡ false = sym (read (λ (s : KernelState). is_hardware s.view.own c.args.counter) c.is_hardware.ensures.value stands) ∙ c.if-is_hardware.false in
-    let own : is_this_core v c.args.counter.core ≡ true = sym (read (λ (s : KernelState). is_this_core s.view c.args.counter.core) c.is_this_core.ensures.value stands) ∙ c.if-is_this_core.true in
-    rw (soft, own) refl)
-    (omega (arith, few, short)) (omega (arith, few, short)) (then c.advance.ensures.effects c.accept.ensures)
+    let soft : is_hardware c.args.state.now.view.own c.args.counter ≡ false = sym c.is_hardware.ensures.value ∙ c.if-is_hardware.false in
+    let own : is_this_core c.args.state.now.view c.args.counter.core ≡ true = sym c.is_this_core.ensures.value ∙ c.if-is_this_core.true in
+    as_steps {x = counts_and_returns c.args.runner (Some c.args.counter)} (rw (soft, own) refl) (rw (soft, own) refl) (omega (arith, few, short)) (omega (arith, few, short)) (then c.advance.ensures.steps c.accept.ensures)
 
 pub returns-else-is_this_core : goal.returns-else-is_this_core
 returns-else-is_this_core g c =
-    as_effect {f = does (returning c.args.runner Service.IncrementCounter EOsCore None)} (λ v h stands.
-    let soft : is_hardware v.own c.args.counter ≡ false = sym (read (λ (s : KernelState). is_hardware s.view.own c.args.counter) c.is_hardware.ensures.value stands) ∙ c.if-is_hardware.false in
-    let own : is_this_core v c.args.counter.core ≡ false = sym (read (λ (s : KernelState). is_this_core s.view c.args.counter.core) c.is_this_core.ensures.value stands) ∙ c.if-is_this_core.false in
-    rw (soft, own) refl)
-    (lit≤ tt) (lit≤ tt) c.refuse-else-is_this_core.ensures
+    let soft : is_hardware c.args.state.now.view.own c.args.counter ≡ false = sym c.is_hardware.ensures.value ∙ c.if-is_hardware.false in
+    let other : is_this_core c.args.state.now.view c.args.counter.core ≡ false = sym c.is_this_core.ensures.value ∙ c.if-is_this_core.false in
+    as_steps {x = returning c.args.runner Service.IncrementCounter EOsCore None} (rw (soft, other) refl) (rw (soft, other) refl) (lit≤ tt) (lit≤ tt) c.refuse-else-is_this_core.ensures

@@ -1,4 +1,4 @@
-use Rattle.std.proofs.Common.{◌≡◌, ◌≤◌, ◌+◌, length, arith, Option, Some, None, IfSome, IsTrue, true, rules, ap, sym, lit≤}
+use Rattle.std.proofs.Common.{◌≡◌, ◌≤◌, ◌+◌, length, arith, Option, Some, None, IfSome, IsTrue, true, rules, sym}
 use Rattle.osbase.specs.declared.messages.RemoteCall.{RemoteCall}
 use Rattle.osbase.specs.declared.statuses.ServiceId.{ServiceId}
 use Rattle.oscript.specs.declared.Op.{Op}
@@ -6,11 +6,8 @@ use Rattle.oscript.specs.Calls.{call_of_op}
 use Rattle.osplan.specs.declared.plans.Core.{Core}
 use Rattle.osplan.specs.Objects.{may_name}
 use Rattle.osstate.specs.Sound.{has_objects_of}
-use Rattle.osstate.proofs.Effecting.{as_effect}
-use Rattle.osservice.specs.Acts.{does}
 use Rattle.osservice.proofs.Called.{called-passes}
 use Rattle.oscall.specs.Border.{is_known_call}
-use Rattle.oskernel.specs.Operations.{operates_by}
 use Rattle.oskernel.proofs.operations.do_operation.Goals as goal
 
 -- What is asked for is an object that the operation names.
@@ -23,9 +20,3 @@ call-requires g c =
     let known : IfSome c.in-Some.target (λ call. IsTrue (is_known_call c.args.state.now.view.own call)) = known-call c.args.state.now.view.own c.args.step.op c.in-Some.service c.in-Some.target c.in-Some.ensures c.requires.known in
     let place : length c.args.state.now.border.outbox + 1 ≤ g.row.OUT = omega (arith, c.requires.serves.posts.outbox) in
     search (rules, known, place)
-
-pub returns-in-Some : goal.returns-in-Some
-returns-in-Some g c = as_effect (λ v h stands. ap (λ o. does (operates_by c.args.step.runner c.args.step.op o) v h) (sym c.in-Some.ensures)) (lit≤ tt) (lit≤ tt) c.call.ensures
-
-pub returns-in-None : goal.returns-in-None
-returns-in-None g c = as_effect (λ v h stands. ap (λ o. does (operates_by c.args.step.runner c.args.step.op o) v h) (sym c.in-None.ensures)) (lit≤ tt) (lit≤ tt) c.act_alone.ensures

@@ -1,12 +1,11 @@
-use Rattle.std.proofs.Common.{◌≡◌, ◌<◌, ◌^◌, ℕ, Some, IsTrue, rules, ap, sym, subst, arith}
+use Rattle.std.proofs.Common.{◌≡◌, ◌<◌, ◌^◌, ℕ, Some, IsTrue, rules, sym, subst, arith}
 use Rattle.std.specs.List.{slice_get}
 use Rattle.osplan.specs.declared.plans.Core.{Core}
 use Rattle.osplan.specs.Clocked.{are_clocks_within}
 use Rattle.osplan.specs.View.{View}
-use Rattle.osservice.specs.Acts.{does}
+use Rattle.osacts.specs.Steps.{QuietSteps}
 use Rattle.oskernel.specs.Step.{autostarts_alarm}
 use Rattle.oskernel.specs.Taking.{agreement_on}
-use Rattle.oskernel.proofs.Autostart.{quiet-alarm}
 use Rattle.osservice.proofs.Numbered.{all-noted, object-at, one-noted}
 use Rattle.oskernel.proofs.starting.start_alarms.Goals as goal
 
@@ -14,20 +13,20 @@ pub autostart_alarm-requires : goal.autostart_alarm-requires
 autostart_alarm-requires g c =
     let before = c.loop-alarm.invariant in
     let own : slice_get c.loop-alarm.state.view.own.alarms c.loop-alarm.index ≡ Some c.alarm-item.result =
-    object-at (autostarts_alarm (Some (agreement_on c.args.mode))) (λ (core : Core). core.alarms) c.args.state.now c.loop-alarm.state c.alarms-alarms.result.now c.loop-alarm.index c.loop-alarm.alarm-index c.alarm-item.result c.alarms-alarms.ensures.value before.effects.stays.view before.place c.loop-alarm-test.true c.alarm-item.is in
-    let within : IsTrue (are_clocks_within c.loop-alarm.state.view.own) = subst (λ (w : View). IsTrue (are_clocks_within w.own)) (sym before.effects.stays.view) c.alarms-alarms.ensures.within in
-    let count : c.loop-alarm.state.progress.entries < 2 ^ 63 = omega (arith, before.effects.stays.entries, c.requires.count, c.loop-alarm-test.true, c.alarms-alarms.ensures.few) in
+    object-at (autostarts_alarm (Some (agreement_on c.args.mode))) (λ (core : Core). core.alarms) c.args.state.now c.loop-alarm.state c.alarms-alarms.result.now c.loop-alarm.index c.loop-alarm.alarm-index c.alarm-item.result c.alarms-alarms.ensures.value before.steps.view before.place c.loop-alarm-test.true c.alarm-item.is in
+    let within : IsTrue (are_clocks_within c.loop-alarm.state.view.own) = subst (λ (w : View). IsTrue (are_clocks_within w.own)) (sym before.steps.view) c.alarms-alarms.ensures.within in
+    let count : c.loop-alarm.state.progress.entries < 2 ^ 63 = omega (arith, before.steps.count, c.requires.count, c.loop-alarm-test.true, c.alarms-alarms.ensures.few) in
     search (rules, own, within, count)
 
 pub loop-alarm-preserved : goal.loop-alarm-preserved
 loop-alarm-preserved g c = record {
   place = omega arith;
-  effects = one-noted (autostarts_alarm (Some (agreement_on c.args.mode))) (λ (core : Core). core.alarms) (quiet-alarm (Some (agreement_on c.args.mode))) c.alarms-alarms.result.now c.loop-alarm.alarm-index c.alarms-alarms.ensures.value c.alarm-item.result c.loop-alarm-test.true c.alarm-item.is
-      (λ v h view. ap (λ (n : ℕ). does (autostarts_alarm (Some (agreement_on c.args.mode)) v.own n c.alarm-item.result) v h) c.loop-alarm.invariant.place)
-      (omega arith) c.loop-alarm.invariant.effects c.autostart_alarm.ensures;
+  steps = one-noted (autostarts_alarm (Some (agreement_on c.args.mode))) (λ (core : Core). core.alarms) c.alarms-alarms.result.now c.loop-alarm.alarm-index c.alarms-alarms.ensures.value c.alarm-item.result c.loop-alarm-test.true c.alarm-item.is
+      (omega arith) c.loop-alarm.invariant.steps
+      (subst (λ (n : ℕ). QuietSteps 1 (autostarts_alarm (Some (agreement_on c.args.mode)) c.loop-alarm.state.view.own n c.alarm-item.result) c.loop-alarm.state c.autostart_alarm.new.state) c.loop-alarm.invariant.place c.autostart_alarm.ensures);
 }
 
 pub returns : goal.returns
 returns g c =
-    all-noted (autostarts_alarm (Some (agreement_on c.args.mode))) (λ (core : Core). core.alarms) (quiet-alarm (Some (agreement_on c.args.mode))) c.alarms-alarms.result.now c.loop-alarm.alarm-index c.alarms-alarms.ensures.value c.loop-alarm-test.false
-    (omega (arith, c.alarms-alarms.ensures.few)) c.loop-alarm.invariant.effects
+    all-noted (autostarts_alarm (Some (agreement_on c.args.mode))) (λ (core : Core). core.alarms) c.alarms-alarms.result.now c.loop-alarm.alarm-index c.alarms-alarms.ensures.value c.loop-alarm-test.false
+    (omega (arith, c.alarms-alarms.ensures.few)) c.loop-alarm.invariant.steps

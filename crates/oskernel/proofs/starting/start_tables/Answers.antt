@@ -1,12 +1,11 @@
-use Rattle.std.proofs.Common.{◌≡◌, ◌<◌, ◌^◌, ℕ, Some, IsTrue, rules, ap, sym, subst, arith}
+use Rattle.std.proofs.Common.{◌≡◌, ◌<◌, ◌^◌, ℕ, Some, IsTrue, rules, sym, subst, arith}
 use Rattle.std.specs.List.{slice_get}
 use Rattle.osplan.specs.declared.plans.Core.{Core}
 use Rattle.osplan.specs.Clocked.{are_clocks_within}
 use Rattle.osplan.specs.View.{View}
-use Rattle.osservice.specs.Acts.{does}
+use Rattle.osacts.specs.Steps.{QuietSteps}
 use Rattle.oskernel.specs.Step.{autostarts_table}
 use Rattle.oskernel.specs.Taking.{agreement_on}
-use Rattle.oskernel.proofs.Autostart.{quiet-table}
 use Rattle.osservice.proofs.Numbered.{all-noted, object-at, one-noted}
 use Rattle.oskernel.proofs.starting.start_tables.Goals as goal
 
@@ -14,20 +13,20 @@ pub autostart_table-requires : goal.autostart_table-requires
 autostart_table-requires g c =
     let before = c.loop-table.invariant in
     let own : slice_get c.loop-table.state.view.own.tables c.loop-table.index ≡ Some c.table-item.result =
-    object-at (autostarts_table (Some (agreement_on c.args.mode))) (λ (core : Core). core.tables) c.args.state.now c.loop-table.state c.tables-tables.result.now c.loop-table.index c.loop-table.table-index c.table-item.result c.tables-tables.ensures.value before.effects.stays.view before.place c.loop-table-test.true c.table-item.is in
-    let within : IsTrue (are_clocks_within c.loop-table.state.view.own) = subst (λ (w : View). IsTrue (are_clocks_within w.own)) (sym before.effects.stays.view) c.tables-tables.ensures.within in
-    let count : c.loop-table.state.progress.entries < 2 ^ 63 = omega (arith, before.effects.stays.entries, c.requires.count, c.loop-table-test.true, c.tables-tables.ensures.few) in
+    object-at (autostarts_table (Some (agreement_on c.args.mode))) (λ (core : Core). core.tables) c.args.state.now c.loop-table.state c.tables-tables.result.now c.loop-table.index c.loop-table.table-index c.table-item.result c.tables-tables.ensures.value before.steps.view before.place c.loop-table-test.true c.table-item.is in
+    let within : IsTrue (are_clocks_within c.loop-table.state.view.own) = subst (λ (w : View). IsTrue (are_clocks_within w.own)) (sym before.steps.view) c.tables-tables.ensures.within in
+    let count : c.loop-table.state.progress.entries < 2 ^ 63 = omega (arith, before.steps.count, c.requires.count, c.loop-table-test.true, c.tables-tables.ensures.few) in
     search (rules, own, within, count)
 
 pub loop-table-preserved : goal.loop-table-preserved
 loop-table-preserved g c = record {
   place = omega arith;
-  effects = one-noted (autostarts_table (Some (agreement_on c.args.mode))) (λ (core : Core). core.tables) (quiet-table (Some (agreement_on c.args.mode))) c.tables-tables.result.now c.loop-table.table-index c.tables-tables.ensures.value c.table-item.result c.loop-table-test.true c.table-item.is
-      (λ v h view. ap (λ (n : ℕ). does (autostarts_table (Some (agreement_on c.args.mode)) v.own n c.table-item.result) v h) c.loop-table.invariant.place)
-      (omega arith) c.loop-table.invariant.effects c.autostart_table.ensures;
+  steps = one-noted (autostarts_table (Some (agreement_on c.args.mode))) (λ (core : Core). core.tables) c.tables-tables.result.now c.loop-table.table-index c.tables-tables.ensures.value c.table-item.result c.loop-table-test.true c.table-item.is
+      (omega arith) c.loop-table.invariant.steps
+      (subst (λ (n : ℕ). QuietSteps 1 (autostarts_table (Some (agreement_on c.args.mode)) c.loop-table.state.view.own n c.table-item.result) c.loop-table.state c.autostart_table.new.state) c.loop-table.invariant.place c.autostart_table.ensures);
 }
 
 pub returns : goal.returns
 returns g c =
-    all-noted (autostarts_table (Some (agreement_on c.args.mode))) (λ (core : Core). core.tables) (quiet-table (Some (agreement_on c.args.mode))) c.tables-tables.result.now c.loop-table.table-index c.tables-tables.ensures.value c.loop-table-test.false
-    (omega (arith, c.tables-tables.ensures.few)) c.loop-table.invariant.effects
+    all-noted (autostarts_table (Some (agreement_on c.args.mode))) (λ (core : Core). core.tables) c.tables-tables.result.now c.loop-table.table-index c.tables-tables.ensures.value c.loop-table-test.false
+    (omega (arith, c.tables-tables.ensures.few)) c.loop-table.invariant.steps

@@ -2,8 +2,9 @@ use Rattle.std.proofs.Common.{◌≡◌, refl, sym, ap, ◌∙◌, lit≤}
 use Rattle.osbase.specs.declared.references.Runner.{Runner}
 use Rattle.osbase.specs.declared.statuses.Status.{Status}
 use Rattle.osplan.specs.declared.protection.Protection.{Protection}
-use Rattle.osstate.proofs.Effecting.{as_effect}
-use Rattle.osservice.specs.Acts.{Acts, does}
+use Rattle.osacts.specs.Acts.{Acts}
+use Rattle.osacts.specs.Runs.{runs, says}
+use Rattle.osacts.proofs.Each.{as_steps}
 use Rattle.oscall.specs.Shutdown.{goes_down}
 use Rattle.ostick.specs.Faults.{answers_fault}
 use Rattle.ostick.proofs.faults.answer.Goals as goal
@@ -14,16 +15,14 @@ other Protection.TerminateTaskIsr r status differs = absurd (differs refl)
 other p r status differs = refl
 
 pub returns-in_default : goal.returns-in_default
-returns-in_default g c = record {
-  effects =
-      as_effect (λ v h stands.
-      ap (λ (p : Protection). does (answers_fault p c.args.runner c.args.status) v h) (sym (c.protection.ensures.reads v h stands))
-      ∙ ap (λ (acts : Acts). does acts v h) (other c.protection.result c.args.runner c.args.status c.in_default.not-TerminateTaskIsr))
-      (lit≤ tt) (lit≤ tt) c.go_down.ensures.effects;
-  outbox = c.go_down.ensures.outbox;
-}
+returns-in_default g c =
+    let same = ap (λ (p : Protection). answers_fault p c.args.runner c.args.status) (sym c.protection.ensures) ∙ other c.protection.result c.args.runner c.args.status c.in_default.not-TerminateTaskIsr in
+    record {
+      steps = as_steps (ap (λ (x : Acts). runs x c.args.state.now) same) (ap (λ (x : Acts). says x c.args.state.now) same) (lit≤ tt) (lit≤ tt) c.go_down.ensures.steps;
+      outbox = c.go_down.ensures.outbox;
+    }
 
-pub returns-in-TerminateTaskIsr-clause-effects : goal.returns-in-TerminateTaskIsr-clause-effects
-returns-in-TerminateTaskIsr-clause-effects g c =
-    as_effect (λ v h stands. ap (λ (p : Protection). does (answers_fault p c.args.runner c.args.status) v h) (sym (c.protection.ensures.reads v h stands) ∙ c.in-TerminateTaskIsr.is))
-    (lit≤ tt) (lit≤ tt) c.end_by_force.ensures.effects
+pub returns-in-TerminateTaskIsr-clause-steps : goal.returns-in-TerminateTaskIsr-clause-steps
+returns-in-TerminateTaskIsr-clause-steps g c =
+    let same = ap (λ (p : Protection). answers_fault p c.args.runner c.args.status) (sym c.protection.ensures ∙ c.in-TerminateTaskIsr.is) in
+    as_steps (ap (λ (x : Acts). runs x c.args.state.now) same) (ap (λ (x : Acts). says x c.args.state.now) same) (lit≤ tt) (lit≤ tt) c.end_by_force.ensures.steps

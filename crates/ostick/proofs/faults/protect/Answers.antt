@@ -1,14 +1,12 @@
 use Rattle.std.proofs.Common.{Option, option_map, ap, sym, lit≤}
 use Rattle.osbase.specs.declared.histories.Job.{Job}
-use Rattle.osstate.specs.Queries.{running_in}
-use Rattle.osstate.proofs.Effecting.{as_effect}
-use Rattle.osstate.proofs.ReadLemmas.{read}
-use Rattle.osservice.specs.Acts.{does}
-use Rattle.osservice.specs.Seen.{seen_of}
+use Rattle.osacts.specs.Acts.{Acts}
+use Rattle.osacts.specs.Runs.{runs, says, seen_in}
+use Rattle.osacts.proofs.Each.{as_steps}
 use Rattle.ostick.specs.Faults.{protects}
 use Rattle.ostick.proofs.faults.protect.Goals as goal
 
-pub returns-in-Some-clause-effects : goal.returns-in-Some-clause-effects
-returns-in-Some-clause-effects g c =
-    as_effect (λ v h stands. ap (λ (o : Option Job). does (protects (seen_of v h) (option_map (λ (j : Job). j.runner) o)) v h) (sym (read running_in c.in-Some.ensures.value stands)))
-    (lit≤ tt) (lit≤ tt) c.protect_from.ensures.effects
+pub returns-in-Some-clause-steps : goal.returns-in-Some-clause-steps
+returns-in-Some-clause-steps g c =
+    let same = ap (λ (o : Option Job). protects (seen_in c.args.state.now) (option_map (λ (j : Job). j.runner) o)) (sym c.in-Some.ensures.value) in
+    as_steps (ap (λ (x : Acts). runs x c.args.state.now) same) (ap (λ (x : Acts). says x c.args.state.now) same) (lit≤ tt) (lit≤ tt) c.protect_from.ensures.steps

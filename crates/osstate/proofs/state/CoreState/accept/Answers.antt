@@ -1,9 +1,8 @@
 use Rattle.std.proofs.Common.{◌<◌, rules, sym, subst}
 use Rattle.osbase.specs.declared.references.Runner.TheVariants as Runner
 use Rattle.osbase.specs.History.{job_count}
-use Rattle.osstate.specs.Sound.{IsSound, interrupt_limit}
+use Rattle.osstate.specs.Sound.{interrupt_limit}
 use Rattle.osstate.specs.State.{KernelState}
-use Rattle.osstate.proofs.Effecting.{printing}
 use Rattle.osstate.proofs.Room.{interrupt_place}
 use Rattle.osstate.proofs.Sounds.{accepted}
 use Rattle.osstate.proofs.state.CoreState.accept.Goals as goal
@@ -19,6 +18,3 @@ pub invariant_of-self : goal.invariant_of-self
 invariant_of-self g c =
     rw (c.accept.ensures, c.record.ensures.progress) (accepted g.row.P g.row.J c.args.isr _ c.self.invariant
     (subst (λ (s : KernelState). job_count (Runner.Isr c.args.isr) s.tasks.isrs.live < interrupt_limit s.view.own (Runner.Isr c.args.isr)) (sym c.self.view_is) c.requires.limit))
-
-pub returns-clause-effects : goal.returns-clause-effects
-returns-clause-effects g c = printing (subst (IsSound g.row.P g.row.J) c.self.view_is c.self.invariant) (search rules) c.record.ensures.marks

@@ -7,7 +7,6 @@ use Rattle.osbase.specs.declared.marks.Mark.TheVariants as Mark
 use Rattle.osstate.specs.Sound.{IsSound, activation_limit}
 use Rattle.osstate.specs.State.{KernelState}
 use Rattle.osstate.proofs.Sounds.{activated, place}
-use Rattle.osstate.proofs.Effecting.{printing}
 use Rattle.osstate.proofs.Histories.{own-step}
 use Rattle.osstate.proofs.Room.{own_from_place}
 use Rattle.osstate.proofs.state.CoreState.activate.Goals as goal
@@ -26,6 +25,3 @@ invariant_of-self g c =
 
 pub returns-clause-state : goal.returns-clause-state
 returns-clause-state g c = own-step (Printed (Mark.Activated c.args.task)) (subst (IsSound g.row.P g.row.J) c.self.view_is c.self.invariant) (own_from_place c.args.self.now.view.own (Runner.Task c.args.task) (omega (arith, c.requires.limit))) (search rules)
-
-pub returns-clause-effects : goal.returns-clause-effects
-returns-clause-effects g c = printing (subst (IsSound g.row.P g.row.J) c.self.view_is c.self.invariant) (returns-clause-state g c) c.record.ensures.marks

@@ -1,5 +1,4 @@
 use Rattle.std.proofs.Common.{◌≡◌, true, None, Option, is_some, rules, ap, sym, subst, ◌∙◌}
-use Rattle.std.proofs.lemmas.Bool.{false≢true}
 use Rattle.osplan.specs.declared.plans.Alarm.{Alarm}
 use Rattle.osplan.specs.View.{own_alarm}
 use Rattle.osclock.proofs.Places.{alarm-some}
@@ -9,6 +8,7 @@ use Rattle.osplan.specs.Objects.{may_act}
 use Rattle.osstate.specs.State.{KernelState}
 use Rattle.osstate.proofs.ReadLemmas.{known_timed}
 use Rattle.osstate.proofs.state.CoreState.alarm_action.Goals as goal
+use Rattle.std.proofs.lemmas.Bool.{false≢true}
 
 pub returns-clause-known : goal.returns-clause-known
 returns-clause-known g c =

@@ -1,7 +1,6 @@
 use Rattle.std.proofs.Common.{rules, refl, subst}
 use Rattle.osbase.specs.History.{Noted, Done}
 use Rattle.osstate.specs.Sound.{IsSound}
-use Rattle.osstate.proofs.Effecting.{noting}
 use Rattle.osstate.proofs.Histories.{own-step}
 use Rattle.osstate.proofs.Sounds.{border-closed, goes-on, jobs-kept}
 use Rattle.osstate.proofs.state.CoreState.complete.Goals as goal
@@ -10,8 +9,5 @@ pub invariant_of-self : goal.invariant_of-self
 invariant_of-self g c =
     rw (c.complete.ensures, c.closed_by-self-inside.ensures) (goes-on _ _ c.self.invariant (jobs-kept _ (Noted (Done c.args.runner c.args.status c.args.value)) 0 refl refl c.self.invariant.jobs) (border-closed c.args.runner c.self.invariant.border) c.self.invariant.times)
 
-pub returns-clause-state : goal.returns-clause-state
-returns-clause-state g c = own-step (Noted (Done c.args.runner c.args.status c.args.value)) (subst (IsSound g.row.P g.row.J) c.self.view_is c.self.invariant) c.requires.own (search rules)
-
-pub returns-clause-remarks : goal.returns-clause-remarks
-returns-clause-remarks g c = noting (subst (IsSound g.row.P g.row.J) c.self.view_is c.self.invariant) refl (returns-clause-state g c)
+pub returns : goal.returns
+returns g c = own-step (Noted (Done c.args.runner c.args.status c.args.value)) (subst (IsSound g.row.P g.row.J) c.self.view_is c.self.invariant) c.requires.own (search rules)

@@ -1,4 +1,4 @@
-use Rattle.std.proofs.Common.{rules, refl, ap, sym, subst, ◌∙◌}
+use Rattle.std.proofs.Common.{refl, ap, sym, subst, ◌∙◌}
 use Rattle.osbase.specs.History.{Noted, CounterIncremented}
 use Rattle.osclock.specs.Clocks.{AreClocks}
 use Rattle.osclock.proofs.Asked.{kept}
@@ -6,8 +6,6 @@ use Rattle.ostable.specs.Tables.{AreTables}
 use Rattle.ostable.specs.Waiting.{all_wait_by_counter}
 use Rattle.ostable.proofs.Asked.{kept as tables-kept}
 use Rattle.ostable.proofs.Waiting.{waits-kept}
-use Rattle.osstate.specs.Sound.{IsSound}
-use Rattle.osstate.proofs.Effecting.{noting}
 use Rattle.osstate.proofs.Sounds.{clocked}
 use Rattle.osstate.proofs.state.CoreState.count.Goals as goal
 
@@ -16,7 +14,3 @@ invariant_of-self g c =
     clocked g.row.P g.row.J _ _ _ c.self.invariant (subst (AreClocks c.self.inside.core.now) (sym c.count.ensures) (kept c.self.inside.core.now (Noted (CounterIncremented c.args.counter)) _ c.self.invariant.times.clocks))
     (subst (AreTables c.self.inside.core.now) (sym c.count-2.ensures) (tables-kept c.self.inside.core.now (Noted (CounterIncremented c.args.counter)) _ c.self.invariant.times.tables))
     (ap (all_wait_by_counter c.self.inside.core.now) c.count-2.ensures ∙ waits-kept c.self.inside.core.now (Noted (CounterIncremented c.args.counter)) _ c.self.invariant.times.tables refl c.self.invariant.times.waiting)
-
-pub returns-clause-remarks : goal.returns-clause-remarks
-returns-clause-remarks g c =
-    noting (subst (IsSound g.row.P g.row.J) c.self.view_is c.self.invariant) refl (search rules)

@@ -2,19 +2,12 @@ use Rattle.std.proofs.Common.{◌≡◌, List, true, ap, subst, sym, ◌∙◌, 
 use Rattle.std.specs.List.{list_all}
 use Rattle.osbase.specs.declared.references.AlarmRef.{AlarmRef}
 use Rattle.osbase.specs.Objects.{alarm_object}
-use Rattle.osplan.specs.Clocked.{are_clocks_within}
 use Rattle.osplan.specs.Objects.{is_own_object}
 use Rattle.osplan.proofs.Tests.{length-filter-le}
 use Rattle.osclock.specs.Clocks.{attached_to, due_in, is_due_in}
 use Rattle.osclock.proofs.Attached.{picked-own}
 use Rattle.osstate.specs.State.{KernelState}
-use Rattle.osstate.proofs.ReadLemmas.{reads_dues}
 use Rattle.osstate.proofs.state.CoreState.due_next.Goals as goal
-
-pub returns-clause-reads : goal.returns-clause-reads
-returns-clause-reads g c =
-    reads_dues c.args.self.now c.args.counter _ (subst (λ (s : KernelState). are_clocks_within s.view.own ≡ true) c.self.view_is c.self.invariant.times.clocks.within)
-    (c.due_next.ensures ∙ ap (λ (s : KernelState). due_in s.view.own c.args.counter s.clocks) c.self.view_is)
 
 pub returns-clause-own : goal.returns-clause-own
 returns-clause-own g c =

@@ -1,6 +1,5 @@
 use Rattle.std.proofs.Common.{◌≡◌, List, true, ap, subst, sym, ◌∙◌, ◌≤◌, length, sum_by}
 use Rattle.std.specs.List.{list_all}
-use Rattle.osplan.specs.Clocked.{are_clocks_within}
 use Rattle.ostable.specs.declared.tables.DueTable.{DueTable}
 use Rattle.ostable.specs.Tables.{due_tables_in, timed_by}
 use Rattle.ostable.specs.Waiting.{are_own, ends_alone, with_next}
@@ -8,13 +7,7 @@ use Rattle.ostable.proofs.Asked.{dues-few, dues-own, dues-read}
 use Rattle.ostable.proofs.Finals.{ends-alone-in}
 use Rattle.ostable.proofs.Posted.{posted-in}
 use Rattle.osstate.specs.State.{KernelState}
-use Rattle.osstate.proofs.ReadLemmas.{reads_due_tables}
 use Rattle.osstate.proofs.state.CoreState.due_tables.Goals as goal
-
-pub returns-clause-reads : goal.returns-clause-reads
-returns-clause-reads g c =
-    reads_due_tables c.args.self.now c.args.counter _ (subst (λ (s : KernelState). are_clocks_within s.view.own ≡ true) c.self.view_is c.self.invariant.times.clocks.within)
-    (c.due_next.ensures ∙ ap (λ (s : KernelState). due_tables_in s.view.own c.args.counter s.tables) c.self.view_is)
 
 pub returns-clause-own : goal.returns-clause-own
 returns-clause-own g c =

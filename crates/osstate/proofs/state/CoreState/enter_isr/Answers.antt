@@ -1,9 +1,7 @@
 use Rattle.std.proofs.Common.{◌≡◌, true, rules, sym, subst}
 use Rattle.osbase.specs.declared.references.Runner.TheVariants as Runner
 use Rattle.osjobs.specs.Priorities.{is_own_runner}
-use Rattle.osstate.specs.Sound.{IsSound}
 use Rattle.osstate.specs.State.{KernelState}
-use Rattle.osstate.proofs.Effecting.{printing}
 use Rattle.osstate.proofs.Room.{entered_place}
 use Rattle.osstate.proofs.Sounds.{isr_entered}
 use Rattle.osstate.proofs.state.CoreState.enter_isr.Goals as goal
@@ -19,6 +17,3 @@ pub invariant_of-self : goal.invariant_of-self
 invariant_of-self g c =
     rw (c.enter_isr.ensures, c.record.ensures.progress) (isr_entered g.row.P g.row.J c.args.isr _ c.self.invariant
     (subst (λ (s : KernelState). is_own_runner s.view.own (Runner.Isr c.args.isr) ≡ true) (sym c.self.view_is) c.requires.own))
-
-pub returns-clause-effects : goal.returns-clause-effects
-returns-clause-effects g c = printing (subst (IsSound g.row.P g.row.J) c.self.view_is c.self.invariant) (search rules) c.record.ensures.marks

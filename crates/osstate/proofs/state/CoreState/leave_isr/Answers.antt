@@ -2,7 +2,6 @@ use Rattle.std.proofs.Common.{rules, subst}
 use Rattle.osbase.specs.declared.marks.Mark.TheVariants as Mark
 use Rattle.osbase.specs.History.{Printed}
 use Rattle.osstate.specs.Sound.{IsSound}
-use Rattle.osstate.proofs.Effecting.{printing}
 use Rattle.osstate.proofs.Histories.{own-step}
 use Rattle.osstate.proofs.Sounds.{isr_left}
 use Rattle.osstate.proofs.state.CoreState.leave_isr.Goals as goal
@@ -12,6 +11,3 @@ invariant_of-self g c = rw (c.end_isr.ensures, c.closed_by-self-inside.ensures, 
 
 pub returns-clause-state : goal.returns-clause-state
 returns-clause-state g c = own-step (Printed (Mark.IsrLeft c.args.isr)) (subst (IsSound g.row.P g.row.J) c.self.view_is c.self.invariant) c.requires.own (search rules)
-
-pub returns-clause-effects : goal.returns-clause-effects
-returns-clause-effects g c = printing (subst (IsSound g.row.P g.row.J) c.self.view_is c.self.invariant) (returns-clause-state g c) c.record.ensures.marks

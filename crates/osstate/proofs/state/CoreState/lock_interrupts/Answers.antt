@@ -1,7 +1,6 @@
-use Rattle.std.proofs.Common.{[], rules, refl, subst}
+use Rattle.std.proofs.Common.{rules, refl, subst, []}
 use Rattle.osbase.specs.History.{Noted, InterruptsSuspended}
 use Rattle.osstate.specs.Sound.{IsSound}
-use Rattle.osstate.proofs.Effecting.{noting}
 use Rattle.osstate.proofs.Histories.{own-step}
 use Rattle.osstate.proofs.Sounds.{same-jobs}
 use Rattle.osstate.proofs.state.CoreState.lock_interrupts.Goals as goal
@@ -9,8 +8,5 @@ use Rattle.osstate.proofs.state.CoreState.lock_interrupts.Goals as goal
 pub invariant_of-self : goal.invariant_of-self
 invariant_of-self g c = rw c.lock_interrupts.ensures (same-jobs [] (Noted (InterruptsSuspended c.args.runner)) refl refl c.self.invariant)
 
-pub returns-clause-state : goal.returns-clause-state
-returns-clause-state g c = own-step (Noted (InterruptsSuspended c.args.runner)) (subst (IsSound g.row.P g.row.J) c.self.view_is c.self.invariant) c.requires.own (search rules)
-
-pub returns-clause-remarks : goal.returns-clause-remarks
-returns-clause-remarks g c = noting (subst (IsSound g.row.P g.row.J) c.self.view_is c.self.invariant) refl (returns-clause-state g c)
+pub returns : goal.returns
+returns g c = own-step (Noted (InterruptsSuspended c.args.runner)) (subst (IsSound g.row.P g.row.J) c.self.view_is c.self.invariant) c.requires.own (search rules)

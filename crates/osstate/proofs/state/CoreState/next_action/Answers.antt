@@ -1,15 +1,11 @@
 use Rattle.std.proofs.Common.{rules, ◌≡◌, true, subst}
 use Rattle.std.specs.List.{list_all}
 use Rattle.osrunner.specs.Rows.{frame_in}
-use Rattle.osstate.specs.Queries.{next_action_in}
 use Rattle.osstate.specs.Readings.{script_of}
 use Rattle.osstate.specs.Sound.{has_objects_of}
 use Rattle.osstate.specs.State.{KernelState}
-use Rattle.osstate.proofs.ReadLemmas.{known_action, read}
+use Rattle.osstate.proofs.ReadLemmas.{known_action}
 use Rattle.osstate.proofs.state.CoreState.next_action.Goals as goal
-
-pub returns-clause-reads : goal.returns-clause-reads
-returns-clause-reads g c v h stands = read (next_action_in c.args.runner) (search rules) stands
 
 pub returns-clause-known : goal.returns-clause-known
 returns-clause-known g c =

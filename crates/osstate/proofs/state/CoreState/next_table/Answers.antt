@@ -8,15 +8,10 @@ use Rattle.ostable.specs.Tables.{TableStates, next_in}
 use Rattle.ostable.proofs.Asked.{next-own, next-read}
 use Rattle.ostable.proofs.Bounds.{tables-length}
 use Rattle.osstate.specs.State.{KernelState}
-use Rattle.osstate.proofs.ReadLemmas.{reads_next}
 use Rattle.osstate.proofs.state.CoreState.next_table.Goals as goal
 
 pub next-requires : goal.next-requires
 next-requires g c = tables-length c.self.inside.core.now _ c.self.invariant.times.tables
-
-pub returns-clause-reads : goal.returns-clause-reads
-returns-clause-reads g c =
-    reads_next c.args.self.now c.args.table _ (c.next.ensures ∙ ap (λ (s : KernelState). next_in s.view.own c.args.table s.tables) c.self.view_is)
 
 pub returns-clause-own : goal.returns-clause-own
 returns-clause-own g c =

@@ -1,8 +1,6 @@
-use Rattle.std.proofs.Common.{◌≡◌, true, rules, refl, arith, sym, subst}
+use Rattle.std.proofs.Common.{◌≡◌, true, refl, arith, sym, subst}
 use Rattle.osjobs.specs.Priorities.{is_own_runner}
-use Rattle.osstate.specs.Sound.{IsSound}
 use Rattle.osstate.specs.State.{KernelState}
-use Rattle.osstate.proofs.Effecting.{noting}
 use Rattle.osstate.proofs.Sounds.{goes-on, jobs-later}
 use Rattle.osstate.proofs.state.CoreState.open_call.Goals as goal
 
@@ -16,6 +14,3 @@ invariant_of-self g c =
       received = (λ k. omega (arith, c.self.invariant.border.received k));
     })
     c.self.invariant.times
-
-pub returns-clause-remarks : goal.returns-clause-remarks
-returns-clause-remarks g c = noting (subst (IsSound g.row.P g.row.J) c.self.view_is c.self.invariant) refl (search rules)

@@ -1,12 +1,7 @@
-use Rattle.std.proofs.Common.{[], rules, subst}
 use Rattle.osbase.specs.History.{Printed}
-use Rattle.osstate.specs.Sound.{IsSound}
 use Rattle.osstate.proofs.Sounds.{plain-isrs, plain-jobs, same-jobs}
-use Rattle.osstate.proofs.Effecting.{printing}
 use Rattle.osstate.proofs.state.CoreState.print.Goals as goal
-
-pub returns-clause-effects : goal.returns-clause-effects
-returns-clause-effects g c = printing (subst (IsSound g.row.P g.row.J) c.self.view_is c.self.invariant) (search rules) c.record.ensures.marks
+use Rattle.std.proofs.Common.{[]}
 
 pub invariant_of-self : goal.invariant_of-self
 invariant_of-self g c =

@@ -1,12 +1,10 @@
-use Rattle.std.proofs.Common.{refl, ◌≡◌, true, rules, ap, sym, subst, ◌∙◌}
+use Rattle.std.proofs.Common.{refl, ◌≡◌, true, ap, sym, subst, ◌∙◌}
 use Rattle.osbase.specs.History.{Noted, TableNext}
 use Rattle.ostable.specs.Tables.{AreTables}
 use Rattle.ostable.specs.Waiting.{all_wait_by_counter, are_of_one_counter}
 use Rattle.ostable.proofs.Asked.{kept}
 use Rattle.ostable.proofs.Waiting.{waits-kept}
-use Rattle.osstate.specs.Sound.{IsSound}
 use Rattle.osstate.specs.State.{KernelState}
-use Rattle.osstate.proofs.Effecting.{noting}
 use Rattle.osstate.proofs.Sounds.{clocked}
 use Rattle.osstate.proofs.state.CoreState.set_next_table.Goals as goal
 
@@ -15,7 +13,3 @@ invariant_of-self g c =
     clocked g.row.P g.row.J _ _ _ c.self.invariant c.self.invariant.times.clocks
     (subst (AreTables c.self.inside.core.now) (sym c.wait_for.ensures) (kept c.self.inside.core.now (Noted (TableNext c.args.table c.args.next)) _ c.self.invariant.times.tables))
     (ap (all_wait_by_counter c.self.inside.core.now) c.wait_for.ensures ∙ waits-kept c.self.inside.core.now (Noted (TableNext c.args.table c.args.next)) _ c.self.invariant.times.tables (subst (λ (s : KernelState). are_of_one_counter s.view.own c.args.table c.args.next ≡ true) (sym c.self.view_is) c.requires.counter) c.self.invariant.times.waiting)
-
-pub returns-clause-remarks : goal.returns-clause-remarks
-returns-clause-remarks g c =
-    noting (subst (IsSound g.row.P g.row.J) c.self.view_is c.self.invariant) refl (search rules)

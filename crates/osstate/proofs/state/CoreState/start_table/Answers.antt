@@ -1,11 +1,9 @@
-use Rattle.std.proofs.Common.{rules, refl, ap, sym, subst, ◌∙◌}
+use Rattle.std.proofs.Common.{refl, ap, sym, subst, ◌∙◌}
 use Rattle.osbase.specs.History.{Noted, TableStarted}
 use Rattle.ostable.specs.Tables.{AreTables}
 use Rattle.ostable.specs.Waiting.{all_wait_by_counter}
 use Rattle.ostable.proofs.Asked.{kept}
 use Rattle.ostable.proofs.Waiting.{waits-kept}
-use Rattle.osstate.specs.Sound.{IsSound}
-use Rattle.osstate.proofs.Effecting.{noting}
 use Rattle.osstate.proofs.Sounds.{clocked}
 use Rattle.osstate.proofs.state.CoreState.start_table.Goals as goal
 
@@ -14,7 +12,3 @@ invariant_of-self g c =
     clocked g.row.P g.row.J _ _ _ c.self.invariant c.self.invariant.times.clocks
     (subst (AreTables c.self.inside.core.now) (sym c.start.ensures) (kept c.self.inside.core.now (Noted (TableStarted c.args.table c.args.wait)) _ c.self.invariant.times.tables))
     (ap (all_wait_by_counter c.self.inside.core.now) c.start.ensures ∙ waits-kept c.self.inside.core.now (Noted (TableStarted c.args.table c.args.wait)) _ c.self.invariant.times.tables refl c.self.invariant.times.waiting)
-
-pub returns-clause-remarks : goal.returns-clause-remarks
-returns-clause-remarks g c =
-    noting (subst (IsSound g.row.P g.row.J) c.self.view_is c.self.invariant) refl (search rules)

@@ -1,10 +1,10 @@
-use Rattle.std.proofs.Common.{ap, refl, ◌≡◌, ◌||◌, true, sym, subst}
+use Rattle.std.proofs.Common.{IfSome, ap, refl, ◌≡◌, ◌||◌, true, sym, subst}
+use Rattle.osbase.specs.declared.histories.OpenCall.{OpenCall}
 use Rattle.osbase.specs.History.{Took, phase_on}
 use Rattle.osbase.specs.Phases.{is_before_live, is_past_first_gate}
-use Rattle.osstate.specs.Sound.{IsSound, is_first_gate}
+use Rattle.osstate.specs.Sound.{is_awaited_known, is_first_gate}
 use Rattle.osstate.specs.State.{KernelState}
 use Rattle.osstate.specs.Steps.{state_after}
-use Rattle.osstate.proofs.Histories.{notes}
 use Rattle.osstate.proofs.Sounds.{taken}
 use Rattle.osstate.proofs.state.CoreState.take_item.Goals as goal
 
@@ -14,9 +14,9 @@ invariant_of-self g c =
     (subst (λ (s : KernelState). is_before_live (phase_on c.args.item.now s.progress.phase) ≡ true → is_before_live s.progress.phase ≡ true) (sym c.self.view_is) c.requires.forward)
     (subst (λ (s : KernelState). is_past_first_gate (phase_on c.args.item.now s.progress.phase) ≡ true → (is_first_gate c.args.item.now || is_past_first_gate s.progress.phase) ≡ true) (sym c.self.view_is) c.requires.onward))
 
+pub settle_by-requires : goal.settle_by-requires
+settle_by-requires g c = c.requires.lock (subst (λ (s : KernelState). IfSome s.border.open_call (λ (call : OpenCall). is_awaited_known call.awaits ≡ true)) c.self.view_is c.self.invariant.border.awaited)
+
 pub returns-clause-state : goal.returns-clause-state
 returns-clause-state g c =
     rw (c.take_item.ensures, c.take_item-2.ensures, c.settle_by.ensures.spins, c.settle_by.ensures.call, c.post_by.ensures, c.receive_by.ensures) (ap (state_after (Took c.args.item.now)) c.self.view_is)
-
-pub returns-clause-notes : goal.returns-clause-notes
-returns-clause-notes g c = notes (returns-clause-state g c) (subst (IsSound g.row.P g.row.J) c.self.view_is c.self.invariant).times.clocks.within refl

@@ -5,7 +5,6 @@ use Rattle.osbase.specs.declared.marks.Mark.TheVariants as Mark
 use Rattle.osbase.specs.History.{Printed}
 use Rattle.osstate.specs.Sound.{IsSound}
 use Rattle.osstate.specs.State.{KernelState}
-use Rattle.osstate.proofs.Effecting.{printing}
 use Rattle.osstate.proofs.Histories.{own-step}
 use Rattle.osstate.proofs.Sounds.{below, terminated}
 use Rattle.osstate.proofs.state.CoreState.terminate.Goals as goal
@@ -15,9 +14,6 @@ invariant_of-self g c = rw (c.end.ensures, c.closed_by-self-inside.ensures, c.ow
 
 pub returns-clause-state : goal.returns-clause-state
 returns-clause-state g c = own-step (Printed (Mark.Terminated c.args.task)) (subst (IsSound g.row.P g.row.J) c.self.view_is c.self.invariant) c.requires.own (search rules)
-
-pub returns-clause-effects : goal.returns-clause-effects
-returns-clause-effects g c = printing (subst (IsSound g.row.P g.row.J) c.self.view_is c.self.invariant) (returns-clause-state g c) c.record.ensures.marks
 
 pub returns-clause-below : goal.returns-clause-below
 returns-clause-below g c = rw c.end.ensures (below g.row.P g.row.J c.args.task _ c.self.invariant (subst (λ (s : KernelState). is_own_runner s.view.own (Runner.Task c.args.task) ≡ true) (sym c.self.view_is) c.requires.own))

@@ -1,10 +1,9 @@
-use Rattle.std.proofs.Common.{[], refl, rules, ap, subst, arith}
+use Rattle.std.proofs.Common.{refl, rules, ap, subst, arith, []}
 use Rattle.osbase.specs.Sets.{slot_of}
 use Rattle.osbase.specs.History.{Printed}
 use Rattle.osbase.specs.declared.marks.Mark.TheVariants as Mark
 use Rattle.osstate.specs.Sound.{IsSound}
 use Rattle.osstate.specs.State.{KernelState}
-use Rattle.osstate.proofs.Effecting.{printing}
 use Rattle.osstate.proofs.Histories.{own-step}
 use Rattle.osstate.proofs.Room.{own_charged}
 use Rattle.osstate.proofs.Sounds.{same-jobs}
@@ -27,6 +26,3 @@ pub returns-clause-state : goal.returns-clause-state
 returns-clause-state g c =
     let sound = subst (IsSound g.row.P g.row.J) c.self.view_is c.self.invariant in
     own-step (Printed Mark.Tick) sound (own_charged c.args.self.now.view.own c.args.self.now.tasks sound.jobs.within sound.jobs.interrupts) (search rules)
-
-pub returns-clause-effects : goal.returns-clause-effects
-returns-clause-effects g c = printing (subst (IsSound g.row.P g.row.J) c.self.view_is c.self.invariant) (returns-clause-state g c) c.record.ensures.marks

@@ -1,4 +1,4 @@
-use Rattle.std.proofs.Common.{[], rules, refl, subst, ◌≡◌, true, sym}
+use Rattle.std.proofs.Common.{rules, refl, subst, ◌≡◌, true, sym, []}
 use Rattle.osbase.specs.declared.marks.Mark.TheVariants as Mark
 use Rattle.osbase.specs.History.{Printed}
 use Rattle.osbase.specs.declared.references.Runner.TheVariants as Runner
@@ -7,7 +7,6 @@ use Rattle.osjobs.proofs.Configured.{own-listed}
 use Rattle.osstate.specs.Sound.{IsSound}
 use Rattle.osstate.specs.State.{KernelState}
 use Rattle.osstate.proofs.Room.{one-job}
-use Rattle.osstate.proofs.Effecting.{printing}
 use Rattle.osstate.proofs.Histories.{own-step}
 use Rattle.osstate.proofs.Sounds.{same-jobs}
 use Rattle.osstate.proofs.state.CoreState.wait.Goals as goal
@@ -24,6 +23,3 @@ invariant_of-self g c = rw (c.wait.ensures, c.record.ensures.progress) (same-job
 
 pub returns-clause-state : goal.returns-clause-state
 returns-clause-state g c = own-step (Printed (Mark.EventAwaited c.args.task c.args.mask)) (subst (IsSound g.row.P g.row.J) c.self.view_is c.self.invariant) c.requires.own (search rules)
-
-pub returns-clause-effects : goal.returns-clause-effects
-returns-clause-effects g c = printing (subst (IsSound g.row.P g.row.J) c.self.view_is c.self.invariant) (returns-clause-state g c) c.record.ensures.marks

@@ -1,0 +1,4 @@
+pub mod Seeing
+pub mod Law
+pub mod Within
+pub mod Each

@@ -1,0 +1,5 @@
+pub mod Acts
+pub mod Seen
+pub mod Runs
+pub mod Laws
+pub mod Steps

@@ -1,0 +1,18 @@
+//! What a core's acts do to its state, and the law that this is what they do to every history. There is no code here.
+#![tactic(auto)]
+
+ghost use Rattle.std.specs.Prelude.{IsTrue};
+ghost use Rattle.osbase.specs.History.{History};
+ghost use Rattle.osplan.specs.Clocked.{are_clocks_within};
+ghost use Rattle.osplan.specs.View.{View};
+ghost use Rattle.osclock.specs.Clocks.{are_settings_granted};
+ghost use Rattle.osstate.specs.State.{state_of};
+ghost use Rattle.osacts.specs.Acts.{Acts};
+ghost use Rattle.osacts.specs.Laws.{Agrees, are_permitted};
+
+/// Acts do to the state of a history what they do to the history, and print the same lines, whatever happened before, if the
+/// core's counters and tables are within their limits and each act is permitted: a letter goes to a core that a configuration
+/// may have, and an alarm is set as a service grants it (the project's own).
+pub fn states_go_as_histories_do()
+    ensures { (x : Acts) → (v : View) → (h : History) → IsTrue (are_clocks_within v.own) → IsTrue (are_settings_granted v.own h) → IsTrue (are_permitted x (state_of v h)) → Agrees x v h }
+{}

@@ -1,0 +1,98 @@
+-- What a step's functions say of the state they say of every history: what follows from an item, and dispatch.
+use Rattle.std.proofs.Common.{◌≡◌, ℕ, ◌+◌, Bool, true, false, cond, Option, Some, None, List, ◌∷◌, ◌++◌, refl, ap, sym, subst, ◌∙◌, append_assoc, Vec, Global}
+use Rattle.std.specs.Option.{option_map_or}
+use Rattle.osbase.specs.declared.references.Runner.{Runner}
+use Rattle.osbase.specs.declared.references.TaskRef.{TaskRef}
+use Rattle.osbase.specs.declared.histories.Job.{Job}
+use Rattle.osbase.specs.declared.items.Item.{Item}
+use Rattle.osbase.specs.declared.marks.Mark.{Mark}
+use Rattle.osbase.specs.History.{History, Took, current_task, same_job}
+use Rattle.osplan.specs.Clocked.{are_clocks_within}
+use Rattle.osplan.specs.View.{View}
+use Rattle.osstate.specs.Does.{Tracks}
+use Rattle.osstate.specs.Queries.{best_in, running_in}
+use Rattle.osstate.specs.Readings.{best_job, running}
+use Rattle.osstate.specs.State.{KernelState, Stands, state_of}
+use Rattle.osstate.specs.Steps.{state_after}
+use Rattle.osstate.proofs.Histories.{state-stands}
+use Rattle.osawait.specs.Free.{may_dispatch}
+use Rattle.osacts.specs.Acts.{Acts, does}
+use Rattle.osacts.specs.Laws.{are_permitted}
+use Rattle.osacts.specs.Runs.{says}
+use Rattle.osacts.specs.Steps.{Steps}
+use Rattle.osacts.proofs.Law.{lines-after, stands-after}
+use Rattle.osacts.proofs.Within.{runs-within}
+use Rattle.oskernel.specs.Step.{dispatches, dispatches_in, enters_by, enters_from, goes_in, goes_to}
+
+-- ---- dispatch
+
+-- Dispatch by the state of a history is dispatch by the history.
+pub dispatched : (v : View) (h : History) → does (dispatches_in (state_of v h)) v h ≡ dispatches v h
+dispatched v h = ap (λ (k : History). cond (may_dispatch (state_of v h)) k h) (gone (best_job v h))
+  where
+    entered : (o : Option TaskRef) (r : Runner) → does (enters_by o r) v h ≡ enters_from o r h
+    entered None (Runner.Task t) = refl
+    entered (Some current) (Runner.Task t) = refl
+    entered o (Runner.Isr i) = refl
+
+    gone : (o : Option Job) → does (goes_in (state_of v h) o) v h ≡ goes_to v o h
+    gone None = refl
+    gone (Some j) = ap (λ (k : History). cond (option_map_or (same_job j) (running v h) false) h k) (entered (current_task h) j.runner)
+
+-- It prints lines alone.
+pub dispatch-permitted : (s q : KernelState) → are_permitted (dispatches_in s) q ≡ true
+dispatch-permitted s q = either (may_dispatch s) (gone (best_in s))
+  where
+    either : (b : Bool) {c : Bool} → c ≡ true → cond b c true ≡ true
+    either true e = e
+    either false e = refl
+
+    entered : (o : Option TaskRef) (r : Runner) → are_permitted (enters_by o r) q ≡ true
+    entered None (Runner.Task t) = refl
+    entered (Some current) (Runner.Task t) = refl
+    entered o (Runner.Isr i) = refl
+
+    gone : (o : Option Job) → are_permitted (goes_in s o) q ≡ true
+    gone None = refl
+    gone (Some j) = other (option_map_or (same_job j) (running_in s) false) (entered s.tasks.current j.runner)
+      where
+        other : (b : Bool) {c : Bool} → c ≡ true → cond b true c ≡ true
+        other true e = refl
+        other false e = e
+
+-- ---- every history
+
+-- The entry of an item that was taken.
+pub took : {v : View} {h : History} {earlier base : List Mark} {s : KernelState} {marks : List Mark} (item : Item) → are_clocks_within s.view.own ≡ true
+    → Tracks v h earlier base s marks → Tracks v (Took item ∷ h) earlier base (state_after (Took item) s) marks
+took {v} {h} item within t = record {
+  stands = record {
+    is = ap (state_after (Took item)) t.stands.is ∙ state-stands v (Took item) h (subst (λ (q : KernelState). are_clocks_within q.view.own ≡ true) t.stands.is within);
+    granted = t.stands.granted;
+  };
+  added = t.added;
+  behind = t.behind;
+  shows = t.shows;
+}
+
+-- What was done by these acts was done to every history for which the state stands.
+pub tracked : {v : View} {h : History} {earlier base : List Mark} {most marks : ℕ} {s s' : KernelState} {vec vec' : Vec Mark Global} (x : Acts) → are_clocks_within s.view.own ≡ true → are_permitted x s ≡ true
+    → Steps most marks x s s' vec vec' → Tracks v h earlier base s vec.items → Tracks v (does x v h) earlier base s' vec'.items
+tracked {v} {h} {earlier} {base} {s = s} x within permitted steps t = record {
+  stands = subst (λ (q : KernelState). Stands v (does x v h) q) (sym steps.state) (stands-after x within permitted t.stands);
+  added = t.added ++ says x s;
+  behind = steps.prints ∙ ap (λ (ms : List Mark). ms ++ says x s) t.behind ∙ append_assoc base t.added (says x s);
+  shows = sym (append_assoc earlier t.added (says x s)) ∙ ap (λ (ms : List Mark). ms ++ says x s) t.shows ∙ sym (lines-after x within permitted t.stands);
+}
+
+-- Dispatch was dispatch of every such history.
+pub dispatch-tracked : {v : View} {h : History} {earlier base : List Mark} {most marks : ℕ} {s s' : KernelState} {vec vec' : Vec Mark Global} → are_clocks_within s.view.own ≡ true
+    → Steps most marks (dispatches_in s) s s' vec vec' → Tracks v h earlier base s vec.items → Tracks v (dispatches v h) earlier base s' vec'.items
+dispatch-tracked {v} {h} {earlier} {base} {s = s} {s' = s'} {vec' = vec'} within steps t =
+    subst (λ (k : History). Tracks v k earlier base s' vec'.items) (ap (λ (q : KernelState). does (dispatches_in q) v h) t.stands.is ∙ dispatched v h) (tracked (dispatches_in s) within (dispatch-permitted s s) steps t)
+
+-- What acts do after an item counts no other item.
+pub counted : {most marks most' marks' : ℕ} (s : KernelState) {s' s'' : KernelState} {vec vec' vec'' : Vec Mark Global} (item : Item) (x y : Acts) → Steps most marks x (state_after (Took item) s) s' vec vec' → Steps most' marks' y s' s'' vec' vec'' → s''.progress.items ≡ s.progress.items + 1
+counted s {s' = s'} item x y first second =
+    let items : KernelState → ℕ = λ q. q.progress.items in
+    ap items second.state ∙ (runs-within y s').items ∙ ap items first.state ∙ (runs-within x (state_after (Took item) s)).items

@@ -1,0 +1,33 @@
+-- What follows from an item is permitted.
+use Rattle.std.proofs.Common.{◌≡◌, nat_lt, Bool, true, refl, sym, subst, arith}
+use Rattle.std.proofs.lemmas.Bool.{and_from}
+use Rattle.osbase.specs.declared.references.CoreId.{CoreId}
+use Rattle.osbase.specs.declared.messages.Message.{Message}
+use Rattle.osbase.specs.declared.items.Item.{Item}
+use Rattle.osbase.specs.declared.limits.TheConstants.{CORES}
+use Rattle.osbase.specs.History.{History}
+use Rattle.osplan.specs.Clocked.{are_clocks_within}
+use Rattle.osplan.specs.View.{View}
+use Rattle.osstate.specs.Sound.{is_sender_known}
+use Rattle.osstate.specs.State.{KernelState, Stands}
+use Rattle.osacts.specs.Laws.{are_permitted}
+use Rattle.osservice.proofs.Kept.{Leave, anybody}
+use Rattle.osservice.proofs.Permitted.{permitted}
+use Rattle.oskernel.specs.Step.{effect}
+use Rattle.oskernel.proofs.Carried.{acting-anybody, allow-anybody, effect-ok, is_replied, leave_all}
+
+-- A core answers those whose numbers a configuration may have.
+abbrev is_numbered : CoreId → Bool
+is_numbered core = nat_lt core.number CORES
+
+sender-replied : (item : Item) → is_sender_known item ≡ true → is_replied is_numbered anybody item ≡ true
+sender-replied (Item.Received from number (Message.Request call)) known = and_from _ _ known refl
+sender-replied item known = grind arith
+
+-- At a state that stands for a history of a core whose clocks are within their limits, of an item whose sender has a core number.
+pub effect-permitted : (item : Item) {v : View} {h : History} {s : KernelState} → are_clocks_within s.view.own ≡ true → is_sender_known item ≡ true → Stands v h s → are_permitted (effect item) s ≡ true
+effect-permitted item {v} {h} within known stands =
+    let inside = subst (λ (q : KernelState). are_clocks_within q.view.own ≡ true) stands.is within in
+    let l : Leave = leave_all v anybody is_numbered in
+    subst (λ (q : KernelState). are_permitted (effect item) q ≡ true) (sym stands.is)
+    (permitted l inside (λ core e. e) (λ k. (acting-anybody v anybody is_numbered k).seen) (effect item) (effect-ok l (allow-anybody v) item (sender-replied item known)) h stands.granted)

@@ -1,3 +1,0 @@
-mod Seeing
-pub mod Law
-pub mod Effects

@@ -1,5 +1,0 @@
-use Rattle.osruns.proofs.Law.{agrees}
-use Rattle.osruns.proofs.states_go_as_histories_do.Goals as goal
-
-pub returns : goal.returns
-returns c = (λ x v h within set permitted. agrees v within x h set permitted)
