@@ -1,13 +1,10 @@
 -- The actions of a core's alarms and of its tables' points: how many letters join the outbox by them.
 use Rattle.std.proofs.Common.{◌≡◌, ◌<◌, ◌≤◌, ◌+◌, ◌*◌, ℕ, suc, nat_le, Bool, true, false, not, cond, List, length, count_by, refl, arith}
 use Rattle.std.specs.List.{list_all}
-use Rattle.std.proofs.lemmas.Bool.{and_parts, leb-true}
-use Rattle.std.proofs.lemmas.List.Filters.{length-filter_both, sum_by-filter_both}
+use Rattle.std.proofs.{lemmas.Bool.and_parts, lemmas.Bool.leb-true, lemmas.List.Filters.length-filter_both, lemmas.List.Filters.sum_by-filter_both}
 use Rattle.osbase.specs.declared.messages.RemoteCall.{RemoteCall}
 use Rattle.oscript.specs.Calls.{is_action}
-use Rattle.osplan.specs.declared.plans.Core.{Core}
-use Rattle.osplan.specs.declared.plans.ExpiryPoint.{ExpiryPoint}
-use Rattle.osplan.specs.Objects.{is_posting, may_act}
+use Rattle.osplan.specs.{declared.plans.Core.Core, declared.plans.ExpiryPoint.ExpiryPoint, Objects.is_posting, Objects.may_act}
 use Rattle.oscall.specs.Border.{is_known_call}
 use Rattle.osaction.specs.Points.{is_known_point, is_of_kind, of_kind}
 

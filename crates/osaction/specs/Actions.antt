@@ -1,12 +1,9 @@
 -- What an action of an alarm or of a schedule table does.
-use Rattle.osbase.specs.declared.statuses.Status.TheVariants.{EOsCore}
-use Rattle.osbase.specs.declared.messages.Message.{Message}
-use Rattle.osbase.specs.declared.messages.RemoteCall.{RemoteCall}
+use Rattle.osbase.specs.{declared.statuses.Status.TheVariants.EOsCore, declared.messages.Message.Message, declared.messages.RemoteCall.RemoteCall}
 use Rattle.osbase.specs.declared.marks.Mark.TheVariants as Mark
 use Rattle.osacts.specs.Acts.{Acts, Prints, Sends, both, if_started, look, nothing, one_then, prints, when}
-use Rattle.osservice.specs.Returning.{reports}
+use Rattle.osservice.specs.{Returning.reports, Service.effect_of, Service.status_of}
 use Rattle.osacts.specs.Seen.{is_this_core}
-use Rattle.osservice.specs.Service.{effect_of, status_of}
 use Rattle.oscall.specs.Border.{core_of_call, service_of}
 
 -- An action on a task of the core acts at once, and its error calls ErrorHook. [AUTOSAR SWS OS 4.x, SWS_Os_00632; the hook: own]

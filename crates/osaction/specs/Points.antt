@@ -1,13 +1,10 @@
 -- What an expiry point of a schedule table does.
 use Rattle.std.specs.Prelude.{◌&&◌, nat_le, not, Bool, true, false, List, filter, length}
 use Rattle.std.specs.List.{list_all}
-use Rattle.osbase.specs.declared.references.TableRef.{TableRef}
-use Rattle.osbase.specs.declared.messages.RemoteCall.{RemoteCall}
+use Rattle.osbase.specs.{declared.references.TableRef.TableRef, declared.messages.RemoteCall.RemoteCall}
 use Rattle.osbase.specs.declared.marks.Mark.TheVariants as Mark
 use Rattle.oscript.specs.Calls.{is_activation}
-use Rattle.osplan.specs.declared.plans.Core.{Core}
-use Rattle.osplan.specs.declared.plans.ExpiryPoint.{ExpiryPoint}
-use Rattle.osplan.specs.Objects.{may_act}
+use Rattle.osplan.specs.{declared.plans.Core.Core, declared.plans.ExpiryPoint.ExpiryPoint, Objects.may_act}
 use Rattle.osacts.specs.Acts.{Acts, Prints, both, for_each, one_then}
 use Rattle.osaction.specs.Actions.{acts}
 

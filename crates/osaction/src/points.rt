@@ -1,11 +1,11 @@
 //! What an expiry point of a schedule table does.
 
-ghost use Rattle.std.specs.Prelude.{◌≡◌, ◌≤◌, ◌+◌, ◌*◌, IsTrue, count_by, length};
+ghost use Rattle.std.specs.Prelude.{◌≡◌, ◌*◌, IsTrue, count_by, length};
 ghost use Rattle.std.specs.List.{list_all};
 ghost use Rattle.osplan.specs.Objects.{is_posting, may_act, posted_at};
 ghost use Rattle.osservice.specs.Terms.{MayPost};
 ghost use Rattle.osaction.specs.Points.{acts_each, does_point, is_known_point, is_of_kind, of_kind};
-ghost use Rattle.osacts.specs.Steps.{Steps};
+ghost use Rattle.osacts.specs.Steps.{Posts};
 
 use crate::actions::act;
 use osbase::{Mark, RemoteCall, TableRef};
@@ -23,8 +23,7 @@ pub fn do_point<const P: usize, const J: usize, const OUT: usize>(
 )
     requires known { IsTrue (is_known_point state.old.view.own point.now) }
     requires posts { MayPost (posted_at state.old.view.own point.now) OUT 17 17 state.old marks.old }
-    ensures steps { Steps 17 17 (does_point table point.now) state.old state.new marks.old marks.new }
-    ensures outbox { length state.new.border.outbox ≤ length state.old.border.outbox + posted_at state.old.view.own point.now }
+    ensures { Posts (posted_at state.old.view.own point.now) 17 17 (does_point table point.now) state.old state.new marks.old marks.new }
 {
     let offset = point.offset;
     let actions = point.actions.as_slice();
@@ -42,8 +41,7 @@ fn act_each<const P: usize, const J: usize, const OUT: usize>(
 )
     requires known { IsTrue (list_all (may_act state.old.view.own) actions.now) }
     requires posts { MayPost (count_by (is_posting state.old.view.own) (of_kind activating actions.now)) OUT (2 * length (of_kind activating actions.now)) (2 * length (of_kind activating actions.now)) state.old marks.old }
-    ensures steps { Steps (2 * length (of_kind activating actions.now)) (2 * length (of_kind activating actions.now)) (acts_each (of_kind activating actions.now)) state.old state.new marks.old marks.new }
-    ensures outbox { length state.new.border.outbox ≤ length state.old.border.outbox + count_by (is_posting state.old.view.own) (of_kind activating actions.now) }
+    ensures { Posts (count_by (is_posting state.old.view.own) (of_kind activating actions.now)) (2 * length (of_kind activating actions.now)) (2 * length (of_kind activating actions.now)) (acts_each (of_kind activating actions.now)) state.old state.new marks.old marks.new }
 {
     for action in actions {
         if is_of_kind(action, activating) {

@@ -1,14 +1,11 @@
 -- How steps compose: one after the other, the same in other words, and one for each of a list.
-use Rattle.std.proofs.Common.{◌≡◌, ◌≤◌, ◌+◌, ℕ, List, [], ◌∷◌, ◌++◌, refl, ap, sym, ◌∙◌, arith, append_assoc, Vec, Global}
+use Rattle.std.proofs.Common.{◌≡◌, ◌≤◌, ◌+◌, ℕ, List, [], ◌∷◌, ◌++◌, Bool, true, false, refl, ap, sym, subst, ◌∙◌, arith, append_assoc, Vec, Global}
 use Rattle.std.proofs.lemmas.List.{append-nil}
-use Rattle.osbase.specs.declared.marks.Mark.{Mark}
-use Rattle.osbase.specs.History.{Note, Noted, Printed}
-use Rattle.osstate.specs.Does.{Joins}
-use Rattle.osstate.specs.State.{KernelState}
-use Rattle.osstate.specs.Steps.{state_after}
-use Rattle.osacts.specs.Acts.{Acts, both, for_each, nothing, notes, prints}
-use Rattle.osacts.specs.Runs.{runs, says}
-use Rattle.osacts.specs.Steps.{QuietSteps, Steps}
+use Rattle.osbase.specs.{declared.marks.Mark.Mark, History.Note, History.Noted, History.Printed}
+use Rattle.osprogress.specs.Progress.{Joins}
+use Rattle.osstate.specs.{State.KernelState, Steps.state_after}
+use Rattle.osacts.specs.Acts.{Acts, both, for_each, look, nothing, notes, prints, when}
+use Rattle.osacts.specs.{Runs.runs, Runs.says, Runs.seen_in, Seen.Seen, Steps.QuietSteps, Steps.Steps}
 
 -- Nothing is done.
 pub unmoved : {s : KernelState} {vec : Vec Mark Global} → Steps 0 0 nothing s s vec vec
@@ -75,6 +72,32 @@ as_steps {vec = vec} same told few short e = record {
   len = omega (arith, short, e.len);
   capacity = e.capacity;
 }
+
+-- ---- the same in other words
+
+module _ {a m : ℕ} {s s' : KernelState} {vec vec' : Vec Mark Global} where
+  -- By other acts that are equal to these.
+  pub in-words : {x y : Acts} → y ≡ x → Steps a m x s s' vec vec' → Steps a m y s s' vec vec'
+  in-words same e = subst (λ (z : Acts). Steps a m z s s' vec vec') (sym same) e
+
+  -- By what is read now.
+  pub looked : {f : Seen → Acts} → Steps a m (f (seen_in s)) s s' vec vec' → Steps a m (look f) s s' vec vec'
+  looked e = record { state = e.state; prints = e.prints; view = e.view; phase = e.phase; count = e.count; len = e.len; capacity = e.capacity }
+
+  -- By the side of a test.
+  pub where-holds : {b : Bool} {x y : Acts} → b ≡ true → Steps a m x s s' vec vec' → Steps a m (when b x y) s s' vec vec'
+  where-holds {b} {x} {y} is e =
+      subst (λ (c : Bool). Steps a m (when c x y) s s' vec vec') (sym is)
+      (record { state = e.state; prints = e.prints; view = e.view; phase = e.phase; count = e.count; len = e.len; capacity = e.capacity })
+
+  pub where-fails : {b : Bool} {x y : Acts} → b ≡ false → Steps a m y s s' vec vec' → Steps a m (when b x y) s s' vec vec'
+  where-fails {b} {x} {y} is e =
+      subst (λ (c : Bool). Steps a m (when c x y) s s' vec vec') (sym is)
+      (record { state = e.state; prints = e.prints; view = e.view; phase = e.phase; count = e.count; len = e.len; capacity = e.capacity })
+
+  -- With room for more.
+  pub wider : {b n : ℕ} {x : Acts} → a ≤ b → m ≤ n → Steps a m x s s' vec vec' → Steps b n x s s' vec vec'
+  wider few short e = record { state = e.state; prints = e.prints; view = e.view; phase = e.phase; count = omega (arith, few, e.count); len = omega (arith, short, e.len); capacity = e.capacity }
 
 -- ---- for each of a list
 

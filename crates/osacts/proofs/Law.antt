@@ -1,22 +1,15 @@
 -- What acts do to the state of a history they do to the history: the law by which a function that speaks of its state alone speaks of
 -- every history.
 use Rattle.std.proofs.Common.{◌≡◌, Bool, true, false, cond, List, ◌++◌, refl, ap, sym, subst, ◌∙◌, append_assoc}
-use Rattle.std.proofs.lemmas.Bool.{and_from, and_parts, ltb-true}
-use Rattle.std.proofs.lemmas.List.{append-nil}
-use Rattle.osbase.specs.declared.references.CoreId.{CoreId}
-use Rattle.osbase.specs.declared.marks.Mark.{Mark}
-use Rattle.osbase.specs.declared.limits.TheConstants.{CORES}
+use Rattle.std.proofs.{lemmas.Bool.and_from, lemmas.Bool.and_parts, lemmas.Bool.ltb-true, lemmas.List.append-nil}
+use Rattle.osbase.specs.{declared.references.CoreId.CoreId, declared.marks.Mark.Mark, declared.limits.TheConstants.CORES}
 use Rattle.osbase.specs.History.{History, Noted, Printed, Queued, letter_with, marks_of, queued_count}
-use Rattle.osplan.specs.Clocked.{are_clocks_within}
-use Rattle.osplan.specs.View.{View}
+use Rattle.osplan.specs.{Clocked.are_clocks_within, View.View}
 use Rattle.osclock.specs.Clocks.{are_settings_granted}
-use Rattle.osstate.specs.Readings.{knows_started}
-use Rattle.osstate.specs.State.{KernelState, Stands, state_of}
-use Rattle.osstate.specs.Steps.{state_after}
+use Rattle.osstate.specs.{Readings.knows_started, State.KernelState, State.Stands, State.state_of, Steps.state_after}
 use Rattle.osstate.proofs.Histories.{count_at, state-stands}
 use Rattle.osacts.specs.Acts.{Act, Prints, Notes, Sends, Acts, nothing, one_then, both, when, if_started, look, look_around, act, does}
-use Rattle.osacts.specs.Seen.{all_cores, seen_of}
-use Rattle.osacts.specs.Laws.{Agrees, are_permitted, is_permitted}
+use Rattle.osacts.specs.{Seen.all_cores, Seen.seen_of, Laws.Agrees, Laws.are_permitted, Laws.is_permitted}
 use Rattle.osacts.specs.Runs.{entry_in, line_of, runs, says, seen_in}
 use Rattle.osacts.proofs.Seeing.{seen-same}
 

@@ -1,38 +1,23 @@
 -- What a core sees of its state is what it sees of the history.
 use Rattle.std.proofs.Common.{◌≡◌, ◌&&◌, ℕ, nat_lt, Bool, true, false, cond, Option, None, List, length, option_map, refl, ap, sym, ◌∙◌, arith}
-use Rattle.std.specs.List.{slice_get}
-use Rattle.std.specs.Option.{option_map_or}
-use Rattle.std.proofs.lemmas.Bool.{ltb-false}
-use Rattle.std.proofs.lemmas.Option.{slice_get_past}
-use Rattle.osbase.specs.declared.references.AlarmRef.{AlarmRef}
-use Rattle.osbase.specs.declared.references.CounterRef.{CounterRef}
-use Rattle.osbase.specs.declared.references.TableRef.{TableRef}
-use Rattle.osbase.specs.declared.histories.Job.{Job}
+use Rattle.std.specs.{List.slice_get, Option.option_map_or}
+use Rattle.std.proofs.{lemmas.Bool.ltb-false, lemmas.Option.slice_get_past}
+use Rattle.osbase.specs.{declared.references.AlarmRef.AlarmRef, declared.references.CounterRef.CounterRef, declared.references.TableRef.TableRef, declared.histories.Job.Job, Objects.alarm_object, Objects.counter_object, Objects.table_object, Spins.got_spinlocks}
 use Rattle.osbase.specs.Counting.{Stopped, alarm_of, counts_of, counts_to, is_in_use, left_of, table_state}
 use Rattle.osbase.specs.History.{History, agreement_of, course_of, job_count, live_jobs, open_call, same_core}
-use Rattle.osbase.specs.Objects.{alarm_object, counter_object, table_object}
-use Rattle.osbase.specs.Spins.{got_spinlocks}
-use Rattle.osplan.specs.declared.plans.Alarm.{Alarm as AlarmPlan}
-use Rattle.osplan.specs.declared.plans.Core.{Core}
-use Rattle.osplan.specs.declared.plans.Counter.{Counter as CounterPlan}
-use Rattle.osplan.specs.declared.plans.Table.{Table as TablePlan}
-use Rattle.osplan.specs.Clocked.{are_clocks_within}
-use Rattle.osplan.specs.Objects.{is_own_object}
+use Rattle.osplan.specs.{declared.plans.Alarm.Alarm as AlarmPlan, declared.plans.Core.Core, declared.plans.Counter.Counter as CounterPlan, declared.plans.Table.Table as TablePlan, Clocked.are_clocks_within, Objects.is_own_object}
 use Rattle.osplan.specs.View.{View, own_alarm, own_counter, own_table}
-use Rattle.oscount.specs.declared.counters.Counter.{Counter}
-use Rattle.oscount.specs.Clocks.{counter_at}
+use Rattle.oscount.specs.{declared.counters.Counter.Counter, Clocks.counter_at}
 use Rattle.osclock.specs.Clocks.{alarm_in, are_settings_granted, clocks_of, counter_by, counter_in, counts_to_by, counts_to_in, counts_to_value_by, is_in_use_by, is_used, left_by, left_in, no_counter}
 use Rattle.osclock.proofs.Asked.{counts_to-read, dues-read, left-read, used-read}
 use Rattle.osclock.proofs.Law.{counter-at}
 use Rattle.osrunner.specs.Rows.{is_occupied}
-use Rattle.ostable.specs.declared.table.TableStatus.{TableStatus}
-use Rattle.ostable.specs.Ahead.{status_of}
+use Rattle.ostable.specs.{declared.table.TableStatus.TableStatus, Ahead.status_of}
 use Rattle.ostable.specs.Tables.{state_by, status_in, table_in, tables_of}
 use Rattle.ostable.proofs.Asked.{dues-read as tables-read, next-read, status-read}
 use Rattle.osstate.specs.Readings.{is_pending, row_at, rows_of, running}
 use Rattle.osstate.specs.State.{state_of}
-use Rattle.osacts.specs.Seen.{seen_of}
-use Rattle.osacts.specs.Runs.{seen_in}
+use Rattle.osacts.specs.{Seen.seen_of, Runs.seen_in}
 
 -- ---- what is no object of the core's own
 

@@ -1,7 +1,6 @@
 -- Acts are within one item: what the core sees, its phase and the number of its items stay.
 use Rattle.std.proofs.Common.{◌≡◌, Bool, true, false, cond, refl, ◌∙◌}
-use Rattle.osstate.specs.State.{KernelState}
-use Rattle.osstate.specs.Steps.{state_after}
+use Rattle.osstate.specs.{State.KernelState, Steps.state_after}
 use Rattle.osacts.specs.Acts.{Act, Prints, Notes, Sends, Acts, nothing, one_then, both, when, if_started, look, look_around}
 use Rattle.osacts.specs.Runs.{all_cores_in, entry_in, knows_started_in, runs, seen_in}
 

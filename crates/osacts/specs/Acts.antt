@@ -4,9 +4,7 @@
 -- core does the same wherever it reads the same, whose objects its lines name, and whom it asks.
 use Rattle.std.specs.Prelude.{ℕ, Bool, if◌then◌else◌, List, [], ◌∷◌}
 use Rattle.std.specs.List.{enumerate_from}
-use Rattle.osbase.specs.declared.references.CoreId.{CoreId}
-use Rattle.osbase.specs.declared.messages.Message.{Message}
-use Rattle.osbase.specs.declared.marks.Mark.{Mark}
+use Rattle.osbase.specs.{declared.references.CoreId.CoreId, declared.messages.Message.Message, declared.marks.Mark.Mark}
 use Rattle.osbase.specs.History.{History, Note, Printed, Noted, Queued, queued_count, letter_with}
 use Rattle.osplan.specs.View.{View}
 use Rattle.osstate.specs.Readings.{knows_started}

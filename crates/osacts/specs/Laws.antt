@@ -1,11 +1,9 @@
 -- The law of acts: what they do to the state of a history they do to the history. It is proved for every history.
 use Rattle.std.specs.Prelude.{◌≡◌, ◌&&◌, nat_lt, Bool, true, if◌then◌else◌, IsTrue, ◌++◌}
-use Rattle.osbase.specs.declared.limits.TheConstants.{CORES}
-use Rattle.osbase.specs.History.{History, Noted, marks_of}
+use Rattle.osbase.specs.{declared.limits.TheConstants.CORES, History.History, History.Noted, History.marks_of}
 use Rattle.osplan.specs.View.{View}
 use Rattle.osclock.specs.Clocks.{are_settings_granted, is_setting_granted}
-use Rattle.osstate.specs.State.{KernelState, state_of}
-use Rattle.osstate.specs.Steps.{state_after}
+use Rattle.osstate.specs.{State.KernelState, State.state_of, Steps.state_after}
 use Rattle.osacts.specs.Acts.{Act, Prints, Notes, Sends, Acts, nothing, one_then, both, when, if_started, look, look_around, does}
 use Rattle.osacts.specs.Runs.{all_cores_in, entry_in, knows_started_in, runs, says, seen_in}
 

@@ -4,26 +4,15 @@
 -- the state by the step of its entry. The law (specs/Laws.antt) says that both are the same for every history, so that a function need
 -- only say what it does to the state.
 use Rattle.std.specs.Prelude.{◌&&◌, Bool, if◌then◌else◌, None, option_map, List, [], ◌∷◌, ◌++◌}
-use Rattle.osbase.specs.declared.references.AlarmRef.{AlarmRef}
-use Rattle.osbase.specs.declared.references.CoreId.{CoreId}
-use Rattle.osbase.specs.declared.references.CounterRef.{CounterRef}
-use Rattle.osbase.specs.declared.references.TableRef.{TableRef}
-use Rattle.osbase.specs.declared.histories.Job.{Job}
-use Rattle.osbase.specs.declared.marks.Mark.{Mark}
-use Rattle.osbase.specs.Counting.{counts_to}
+use Rattle.osbase.specs.{declared.references.AlarmRef.AlarmRef, declared.references.CoreId.CoreId, declared.references.CounterRef.CounterRef, declared.references.TableRef.TableRef, declared.histories.Job.Job, declared.marks.Mark.Mark, Counting.counts_to, Interrupts.is_pending_among, Objects.alarm_object, Objects.counter_object, Objects.table_object, Sets.has_core}
 use Rattle.osbase.specs.History.{Entry, Printed, Noted, Queued, job_count}
-use Rattle.osbase.specs.Interrupts.{is_pending_among}
-use Rattle.osbase.specs.Objects.{alarm_object, counter_object, table_object}
-use Rattle.osbase.specs.Sets.{has_core}
 use Rattle.osplan.specs.Objects.{is_own_object}
 use Rattle.oscount.specs.declared.counters.Counter.{Counter}
 use Rattle.osclock.specs.Clocks.{alarm_in, counter_in, counts_to_in, due_in, is_used, left_in, no_counter}
 use Rattle.ostable.specs.declared.table.TableStatus.{TableStatus}
 use Rattle.ostable.specs.Tables.{due_tables_in, next_in, status_in, table_in}
 use Rattle.osrunner.specs.Rows.{is_occupied, row_in}
-use Rattle.osstate.specs.Queries.{running_in}
-use Rattle.osstate.specs.State.{KernelState}
-use Rattle.osstate.specs.Steps.{next_letter, state_after}
+use Rattle.osstate.specs.{Queries.running_in, State.KernelState, Steps.next_letter, Steps.state_after}
 use Rattle.osacts.specs.Acts.{Act, Prints, Notes, Sends, Acts, nothing, one_then, both, when, if_started, look, look_around}
 use Rattle.osacts.specs.Seen.{AllCores, Seen}
 

@@ -1,29 +1,11 @@
 -- What a service may read.
 use Rattle.std.specs.Prelude.{ℕ, Bool, nat_le, ◌==◌, Option, option_map, List}
-use Rattle.osbase.specs.declared.references.AlarmRef.{AlarmRef}
-use Rattle.osbase.specs.declared.references.CoreId.{CoreId}
-use Rattle.osbase.specs.declared.references.CounterRef.{CounterRef}
-use Rattle.osbase.specs.declared.references.IsrRef.{IsrRef}
-use Rattle.osbase.specs.declared.references.SpinlockId.{SpinlockId}
-use Rattle.osbase.specs.declared.references.TableRef.{TableRef}
-use Rattle.osbase.specs.declared.references.TaskRef.{TaskRef}
-use Rattle.osbase.specs.declared.references.Runner.{Runner}
-use Rattle.osbase.specs.declared.histories.Course.{Course}
-use Rattle.osbase.specs.declared.histories.Job.{Job}
-use Rattle.osbase.specs.declared.histories.GotSpinlock.{GotSpinlock}
-use Rattle.osbase.specs.declared.histories.OpenCall.{OpenCall}
-use Rattle.osbase.specs.declared.items.Agreement.{Agreement}
-use Rattle.osbase.specs.declared.items.CoreSet.{CoreSet}
+use Rattle.osbase.specs.{declared.references.AlarmRef.AlarmRef, declared.references.CoreId.CoreId, declared.references.CounterRef.CounterRef, declared.references.IsrRef.IsrRef, declared.references.SpinlockId.SpinlockId, declared.references.TableRef.TableRef, declared.references.TaskRef.TaskRef, declared.references.Runner.Runner, declared.histories.Course.Course, declared.histories.Job.Job, declared.histories.GotSpinlock.GotSpinlock, declared.histories.OpenCall.OpenCall, declared.items.Agreement.Agreement, declared.items.CoreSet.CoreSet, Spins.got_spinlocks}
 use Rattle.osbase.specs.History.{History, agreement_of, course_of, job_count, live_jobs, open_call, same_core, started_cores}
-use Rattle.osbase.specs.Spins.{got_spinlocks}
 use Rattle.oscript.specs.Runners.{Row}
-use Rattle.osplan.specs.declared.plans.Core.{Core}
-use Rattle.osplan.specs.View.{View}
+use Rattle.osplan.specs.{declared.plans.Core.Core, View.View}
 use Rattle.osclock.specs.Clocks.{counts_to_by, counts_to_value_by, due_by, is_in_use_by, left_by, value_by}
-use Rattle.ostable.specs.declared.table.TableStatus.{TableStatus}
-use Rattle.ostable.specs.declared.tables.DueTable.{DueTable}
-use Rattle.ostable.specs.Ahead.{status_of}
-use Rattle.ostable.specs.Tables.{due_tables_by, next_by, state_by}
+use Rattle.ostable.specs.{declared.table.TableStatus.TableStatus, declared.tables.DueTable.DueTable, Ahead.status_of, Tables.due_tables_by, Tables.next_by, Tables.state_by}
 use Rattle.osrunner.specs.Rows.{is_occupied}
 use Rattle.osstate.specs.Readings.{is_pending, row_at, rows_of, running}
 use Rattle.osstate.specs.Sound.{activation_limit}

@@ -3,12 +3,10 @@
 
 ghost use Rattle.std.specs.Prelude.{IsTrue};
 ghost use Rattle.osbase.specs.History.{History};
-ghost use Rattle.osplan.specs.Clocked.{are_clocks_within};
-ghost use Rattle.osplan.specs.View.{View};
+ghost use Rattle.osplan.specs.{Clocked.are_clocks_within, View.View};
 ghost use Rattle.osclock.specs.Clocks.{are_settings_granted};
 ghost use Rattle.osstate.specs.State.{state_of};
-ghost use Rattle.osacts.specs.Acts.{Acts};
-ghost use Rattle.osacts.specs.Laws.{Agrees, are_permitted};
+ghost use Rattle.osacts.specs.{Acts.Acts, Laws.Agrees, Laws.are_permitted};
 
 /// Acts do to the state of a history what they do to the history, and print the same lines, whatever happened before, if the
 /// core's counters and tables are within their limits and each act is permitted: a letter goes to a core that a configuration

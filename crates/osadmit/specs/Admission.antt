@@ -1,31 +1,11 @@
 -- Which item a core may take, by its state.
 use Rattle.std.specs.Prelude.{ℕ, ◌^◌, ◌==◌, ◌&&◌, ◌||◌, nat_lt, Bool, true, false, not, if◌then◌else◌, is_none, Option, List, [], ◌∷◌, length, slice_index}
-use Rattle.std.specs.List.{list_all}
-use Rattle.std.specs.Option.{option_map_or}
-use Rattle.osbase.specs.declared.statuses.Status.{Status}
-use Rattle.osbase.specs.declared.statuses.Status.TheVariants.{EOk, EOsId, EOsState}
-use Rattle.osbase.specs.declared.references.CoreId.{CoreId}
-use Rattle.osbase.specs.declared.references.SpinlockId.{SpinlockId}
-use Rattle.osbase.specs.declared.messages.Message.{Message}
-use Rattle.osbase.specs.declared.items.CoreSet.{CoreSet}
-use Rattle.osbase.specs.declared.items.Agreement.{Agreement}
-use Rattle.osbase.specs.declared.items.Item.{Item}
-use Rattle.osbase.specs.declared.histories.Awaited.{Awaited}
-use Rattle.osbase.specs.declared.histories.OpenCall.{OpenCall}
-use Rattle.osbase.specs.declared.histories.Sent.{Sent}
+use Rattle.std.specs.{List.list_all, Option.option_map_or}
+use Rattle.osbase.specs.{declared.statuses.Status.Status, declared.statuses.Status.TheVariants.EOk, declared.statuses.Status.TheVariants.EOsId, declared.statuses.Status.TheVariants.EOsState, declared.references.CoreId.CoreId, declared.references.SpinlockId.SpinlockId, declared.messages.Message.Message, declared.items.CoreSet.CoreSet, declared.items.Agreement.Agreement, declared.items.Item.Item, declared.histories.Awaited.Awaited, declared.histories.OpenCall.OpenCall, declared.histories.Sent.Sent, History.same_core, Phases.is_scheduling, Phases.stands_in, Sets.has_core, Sets.core_ids, Spins.newest_owed, Spins.same_spinlock, declared.items.CoreMode.CoreMode, declared.items.CoreMode.TheVariants.Named, declared.items.CoreMode.TheVariants.DontCare}
 use Rattle.osbase.specs.declared.histories.Phase.TheVariants as Phase
-use Rattle.osbase.specs.History.{same_core}
-use Rattle.osbase.specs.Phases.{is_scheduling, stands_in}
-use Rattle.osbase.specs.Sets.{has_core, core_ids}
-use Rattle.osbase.specs.Spins.{newest_owed, same_spinlock}
-use Rattle.osbase.specs.declared.items.CoreMode.{CoreMode}
-use Rattle.osbase.specs.declared.items.CoreMode.TheVariants.{Named, DontCare}
-use Rattle.osplan.specs.Stimuli.{knows_stimulus}
-use Rattle.osplan.specs.View.{View, is_configured}
-use Rattle.osstate.specs.Readings.{is_this_core, next_start}
-use Rattle.osstate.specs.State.{KernelState}
-use Rattle.osawait.specs.Free.{is_settled, may_go_on, may_look_halt}
-use Rattle.osawait.specs.Messages.{is_awaited}
+use Rattle.osplan.specs.{Stimuli.knows_stimulus, View.View, View.is_configured}
+use Rattle.osstate.specs.{Readings.is_this_core, Readings.next_start, State.KernelState}
+use Rattle.osawait.specs.{Free.is_settled, Free.may_go_on, Free.may_look_halt, Messages.is_awaited}
 
 -- `StartCore` answers E_OS_ID exactly for a core that is not configured, and else E_OK, or E_OS_STATE for one
 -- that was started already. [AUTOSAR SWS OS 4.x, StartCore; E_OS_STATE before StartOS]

@@ -1,10 +1,8 @@
 //! Which item may be taken.
 
 ghost use Rattle.std.specs.Prelude.{◌≡◌, ◌||◌, false, not};
-ghost use Rattle.std.specs.List.{list_all};
-ghost use Rattle.std.specs.Option.{option_map_or};
-ghost use Rattle.osbase.specs.Sets.{core_ids, has_core};
-ghost use Rattle.osbase.specs.Spins.{newest_owed, same_spinlock};
+ghost use Rattle.std.specs.{List.list_all, Option.option_map_or};
+ghost use Rattle.osbase.specs.{Sets.core_ids, Sets.has_core, Spins.newest_owed, Spins.same_spinlock};
 ghost use Rattle.osplan.specs.View.{is_configured};
 ghost use Rattle.osstate.specs.Readings.{next_start};
 ghost use Rattle.osadmit.specs.Admission.{admits, are_started_cores, is_agreement, is_for, is_front_for, is_next_from, is_start_answer, is_started_now_or_before, is_unknown_core, asks_halt, awaits_get, awaits_try, has_asked_halt, is_get_of, is_next_release, is_release_of, is_try_of, may_halt};

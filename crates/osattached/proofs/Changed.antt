@@ -2,10 +2,8 @@
 use Rattle.std.proofs.Common.{◌≡◌, ℕ, zero, suc, ◌+◌, Bool, true, false, cond, filter, List, ◌∷◌, length, map, refl, ap, sym, ◌∙◌, arith, get_or}
 use Rattle.std.specs.List.{slice_set}
 use Rattle.std.proofs.lemmas.List.{set-get_or}
-use Rattle.osbase.specs.declared.references.CounterRef.{CounterRef}
-use Rattle.osbase.specs.Sets.{numbers_from}
+use Rattle.osbase.specs.{declared.references.CounterRef.CounterRef, Sets.numbers_from, Families.Family, Families.goes_by, Families.those_by}
 use Rattle.osattached.specs.Attached.{all_changed, changed_by, each_changed}
-use Rattle.osbase.specs.Families.{Family, goes_by, those_by}
 use Rattle.osattached.proofs.Filling.{filled, filled-none, filled-on, filled-table}
 
 module _ {R X A : Type 0} (f : Family R X) (c : CounterRef) (index : R → ℕ) (at : (n : ℕ) → index (f.ref n) ≡ n) (change : R → A → A) (none : A) where

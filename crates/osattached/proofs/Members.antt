@@ -1,22 +1,12 @@
 -- What holds of the objects that go by a counter.
 use Rattle.std.proofs.Common.{◌≡◌, ℕ, zero, suc, ◌≤◌, ◌+◌, Bool, true, false, cond, All, Option, Some, None, filter, List, [], ◌∷◌, ◌++◌, length, replicate, map, sum_by, get_or, refl, ap, sym, ◌∙◌, arith, length-append}
-use Rattle.std.specs.List.{list_all, slice_set}
-use Rattle.std.specs.Option.{option_map_or}
-use Rattle.std.proofs.lemmas.Bool.{and_from, false_from_ne_true, false≢true}
-use Rattle.std.proofs.lemmas.List.Elements.{All-weaker, filter-append, filter_passes}
-use Rattle.std.proofs.lemmas.List.{append-nil}
-use Rattle.std.proofs.lemmas.List.Sums.{sum_by-le-sum_by}
-use Rattle.osbase.specs.declared.references.CoreId.{CoreId}
-use Rattle.osbase.specs.declared.references.CounterRef.{CounterRef}
-use Rattle.osbase.specs.Counting.{same_counter}
+use Rattle.std.specs.{List.list_all, List.slice_set, Option.option_map_or}
+use Rattle.std.proofs.{lemmas.Bool.and_from, lemmas.Bool.false_from_ne_true, lemmas.Bool.false≢true, lemmas.List.Elements.All-weaker, lemmas.List.Elements.filter-append, lemmas.List.Elements.filter_passes, lemmas.List.append-nil, lemmas.List.Sums.sum_by-le-sum_by}
+use Rattle.osbase.specs.{declared.references.CoreId.CoreId, declared.references.CounterRef.CounterRef, Counting.same_counter, Sets.numbers_from}
 use Rattle.osbase.specs.Families.{Family, counter_at, goes_by, refs_of, those_by}
-use Rattle.osbase.specs.Sets.{numbers_from}
-use Rattle.osbase.proofs.Places.{CounterPlace}
-use Rattle.osbase.proofs.Same.{same_counter-refl, same_counter-true}
-use Rattle.osbase.proofs.Tables.{table-at, table-set}
+use Rattle.osbase.proofs.{Places.CounterPlace, Same.same_counter-refl, Same.same_counter-true, Tables.table-at, Tables.table-set}
 use Rattle.osattached.specs.Attached.{IsMember, firsts_by}
-use Rattle.osattached.proofs.Ranges.{repeated, table-more}
-use Rattle.osattached.proofs.Sums.{at-most-once, sum-across, sum-kept}
+use Rattle.osattached.proofs.{Ranges.repeated, Ranges.table-more, Sums.at-most-once, Sums.sum-across, Sums.sum-kept}
 
 -- ---- one object
 

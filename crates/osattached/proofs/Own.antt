@@ -1,21 +1,13 @@
 -- The core's own objects of a family: each has its place in the core's configuration, by which the code keeps something for it.
 use Rattle.std.proofs.Common.{◌≡◌, ℕ, ◌<◌, ◌&&◌, nat_lt, Bool, true, false, cond, All, Option, Some, None, is_some, option_map, List, get_or, length, map, refl, ap, sym, subst, ◌∙◌, arith}
-use Rattle.std.specs.List.{list_all, slice_get, slice_set}
-use Rattle.std.specs.Option.{option_map_or}
+use Rattle.std.specs.{List.list_all, List.slice_get, List.slice_set, Option.option_map_or}
 use Rattle.std.proofs.lemmas.Option.{slice_get-get_or}
-use Rattle.osbase.specs.declared.objects.Place.{Place}
-use Rattle.osbase.specs.declared.references.CoreId.{CoreId}
-use Rattle.osbase.specs.declared.references.CounterRef.{CounterRef}
-use Rattle.osbase.specs.Counting.{same_counter}
-use Rattle.osbase.specs.History.{same_core}
+use Rattle.osbase.specs.{declared.objects.Place.Place, declared.references.CoreId.CoreId, declared.references.CounterRef.CounterRef, Counting.same_counter, History.same_core, Objects.counter_place, Objects.place_on, Objects.same_place, Sets.numbers_from}
 use Rattle.osbase.specs.Families.{Family, IsObjectOf, goes_by, is_place_on, refs_of, those_by}
-use Rattle.osbase.specs.Objects.{counter_place, place_on, same_place}
-use Rattle.osbase.specs.Sets.{numbers_from}
 use Rattle.osbase.proofs.Places.{apart, elsewhere, found-inside, own-at, own-passes, place-inside, place-is, place-of-counter, some-there, there}
 use Rattle.osbase.proofs.Tables.{table-at, table-set}
 use Rattle.osattached.specs.Attached.{IsMember, all_changed, changed_by}
-use Rattle.osattached.proofs.Members.{kept-all, stands}
-use Rattle.osattached.proofs.Ranges.{table-within}
+use Rattle.osattached.proofs.{Members.kept-all, Members.stands, Ranges.table-within}
 
 -- A family that is all objects of one kind on a core with so many counters, by their places.
 pub record Placed {R X : Type 0} (core : CoreId) (counters : ℕ) (f : Family R X) : Type 0 where

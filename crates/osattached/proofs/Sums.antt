@@ -1,7 +1,6 @@
 -- Sums over lists: of what is kept, by rows and by columns, and of what is there at most once.
 use Rattle.std.proofs.Common.{◌≡◌, ℕ, zero, suc, ◌+◌, ◌≤◌, Bool, true, false, cond, filter, List, [], ◌∷◌, map, sum_by, refl, ap, sym, subst, ◌∙◌, arith}
-use Rattle.std.proofs.lemmas.Bool.{false_from_ne_true}
-use Rattle.std.proofs.lemmas.List.Sums.{sum_by-cons}
+use Rattle.std.proofs.{lemmas.Bool.false_from_ne_true, lemmas.List.Sums.sum_by-cons}
 use Rattle.osbase.specs.Sets.{numbers_from}
 
 pub sum-none : {A : Type 0} (xs : List A) → sum_by (λ (x : A). 0) xs ≡ 0

@@ -1,11 +1,7 @@
 -- The objects of a core that go by each of its counters, and what a count changes of them.
-use Rattle.std.specs.Prelude.{◌≡◌, ℕ, Bool, if◌then◌else◌, List, [], ◌∷◌, filter, map, slice_index_or}
+use Rattle.std.specs.Prelude.{◌≡◌, ◌<◌, ◌≤◌, ℕ, Bool, if◌then◌else◌, List, [], ◌∷◌, filter, length, map, slice_index_or}
 use Rattle.std.specs.List.{slice_set}
-use Rattle.osbase.specs.declared.references.CoreId.{CoreId}
-use Rattle.osbase.specs.declared.references.CounterRef.{CounterRef}
-use Rattle.osbase.specs.Counting.{same_counter}
-use Rattle.osbase.specs.Families.{Family, counter_at, goes_by}
-use Rattle.osbase.specs.Sets.{numbers_from}
+use Rattle.osbase.specs.{declared.limits.TheConstants.COUNTERS, declared.references.CoreId.CoreId, declared.references.CounterRef.CounterRef, Counting.same_counter, Families.Family, Families.counter_at, Families.goes_by, Sets.numbers_from}
 
 -- Of the first so many objects those that go by each counter of a core, which has so many, by the test which of them go by a counter.
 abbrev pub firsts_by : {R : Type 0} → CoreId → ℕ → (CounterRef → R → Bool) → (ℕ → R) → ℕ → List (List R)
@@ -16,6 +12,16 @@ pub record IsMember {R : Type 0} (core : CoreId) (goes : CounterRef → R → Bo
   pub here : r ≡ ref n
   pub on : counter ≡ counter_at core counter.index
   pub by : (c : CounterRef) → goes c (ref n) ≡ same_counter c counter
+
+-- A core has at most COUNTERS counters, and at most so many objects of one kind.
+pub record AreFew (most counter_count object_count : ℕ) : Type 0 where
+  pub counters : counter_count ≤ COUNTERS
+  pub objects : object_count ≤ most
+
+-- One object more can go by this counter: the core has it, and fewer than the most go by it.
+pub record HasRoom {R : Type 0} (most : ℕ) (lists : List (List R)) (counter : CounterRef) : Type 0 where
+  pub known : counter.index < length lists
+  pub room : length (slice_index_or lists counter.index []) < most
 
 -- A count of this counter changes what is kept for each object that goes by it, and for no other.
 abbrev pub changed_by : {R X A : Type 0} → Family R X → CounterRef → (R → A → A) → ℕ → A → A

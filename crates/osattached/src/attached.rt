@@ -2,9 +2,8 @@
 
 ghost use Rattle.std.specs.Prelude.{◌≡◌, ◌<◌, ◌≤◌, ◌++◌, ◌∷◌, ℕ, Bool, [], length, replicate, slice_index_or};
 ghost use Rattle.std.specs.List.{slice_set};
-ghost use Rattle.osbase.specs.declared.references.CoreId.{CoreId};
-ghost use Rattle.osbase.specs.declared.references.CounterRef.{CounterRef as CounterRefValue};
-ghost use Rattle.osattached.specs.Attached.{IsMember, firsts_by};
+ghost use Rattle.osbase.specs.{declared.references.CoreId.CoreId, declared.references.CounterRef.CounterRef as CounterRefValue};
+ghost use Rattle.osattached.specs.Attached.{AreFew, HasRoom, IsMember, firsts_by};
 
 use arrayvec::ArrayVec;
 use osbase::{COUNTERS, CounterRef};
@@ -30,8 +29,7 @@ impl<R: Copy + Default, const N: usize> Attached<R, N> {
     /// The first so many objects of one kind of a core with so many counters: the closure gives for each index the counter by
     /// which the object goes, one of the core's, and how it is referred to.
     pub fn new<F: Fn(usize) -> (CounterRef, R)>(counters: usize, count: usize, object: F) -> Self
-        requires counters { counters ≤ COUNTERS }
-        requires few { count ≤ N }
+        requires few { AreFew N counters count }
         requires called { (n : ℕ) → n < count → F.pre object n }
         requires own { (n : ℕ) (x : _) → n < count → F.post object n x → x.0.index < counters }
         ensures { (core : CoreId) (goes : CounterRefValue → R → Bool) (ref : ℕ → R) → ((n : ℕ) (x : _) → n < count → F.post object n x → IsMember core goes ref n x.0 x.1) → result ≡ firsts_by core counters goes ref count }
@@ -58,8 +56,7 @@ impl<R: Copy + Default, const N: usize> Attached<R, N> {
 
     // One object more goes by this counter.
     fn attach(&mut self, counter: CounterRef, object: R)
-        requires known { counter.index < length self.old }
-        requires room { length (slice_index_or self.old counter.index []) < N }
+        requires { HasRoom N self.old counter }
         ensures { self.new ≡ slice_set self.old counter.index (slice_index_or self.old counter.index [] ++ object ∷ []) }
     {
         if let Some(list) = self.lists.get_mut(usize::from(counter.index)) {

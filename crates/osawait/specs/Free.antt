@@ -1,11 +1,7 @@
 -- Whether a core may do its own next step.
 use Rattle.std.specs.Prelude.{◌&&◌, Bool, true, false, not, is_none, List, [], ◌∷◌}
 use Rattle.std.specs.Option.{option_map_or}
-use Rattle.osbase.specs.declared.histories.Awaited.{Awaited}
-use Rattle.osbase.specs.declared.histories.OpenCall.{OpenCall}
-use Rattle.osbase.specs.declared.histories.Sent.{Sent}
-use Rattle.osbase.specs.Phases.{is_going, is_scheduling}
-use Rattle.osbase.specs.Spins.{is_owing}
+use Rattle.osbase.specs.{declared.histories.Awaited.Awaited, declared.histories.OpenCall.OpenCall, declared.histories.Sent.Sent, Phases.is_going, Phases.is_scheduling, Spins.is_owing}
 use Rattle.osstate.specs.State.{KernelState}
 
 -- No call is open, and the release of no spinlock is owed. [own]

@@ -1,17 +1,10 @@
 -- Which messages a core expects.
 use Rattle.std.specs.Prelude.{ℕ, ◌&&◌, nat_lt, Bool, true, false, not, if◌then◌else◌, length}
 use Rattle.std.specs.Option.{option_map_or}
-use Rattle.osbase.specs.declared.statuses.Status.{Status}
-use Rattle.osbase.specs.declared.statuses.ServiceId.{ServiceId}
+use Rattle.osbase.specs.{declared.statuses.Status.Status, declared.statuses.ServiceId.ServiceId, declared.references.CoreId.CoreId, declared.messages.Message.Message, declared.histories.Awaited.Awaited, declared.histories.OpenCall.OpenCall, History.same_core}
 use Rattle.osbase.specs.declared.statuses.ServiceId.TheVariants as Service
-use Rattle.osbase.specs.declared.references.CoreId.{CoreId}
-use Rattle.osbase.specs.declared.messages.Message.{Message}
-use Rattle.osbase.specs.declared.histories.Awaited.{Awaited}
-use Rattle.osbase.specs.declared.histories.OpenCall.{OpenCall}
-use Rattle.osbase.specs.History.{same_core}
 use Rattle.oscript.specs.Calls.{is_action}
-use Rattle.osstate.specs.Readings.{is_served}
-use Rattle.osstate.specs.State.{KernelState}
+use Rattle.osstate.specs.{Readings.is_served, State.KernelState}
 use Rattle.osservice.specs.Checks.{is_ok_status}
 
 -- The service whose E_OK comes with a value. [OSEK/VDX OS 2.2.3, section 13.6.3.2]

@@ -1,7 +1,6 @@
 //! Which messages a core expects.
 
-ghost use Rattle.std.specs.Prelude.{◌≡◌, false};
-ghost use Rattle.std.specs.Option.{option_map_or};
+ghost use Rattle.std.specs.{Prelude.◌≡◌, Prelude.false, Option.option_map_or};
 ghost use Rattle.osawait.specs.Messages.{answers_value, is_awaited, is_reply_to};
 
 use osbase::{Awaited, CoreId, Message, OpenCall, ServiceId, Status};

@@ -1,9 +1,8 @@
 -- A core that stands in a phase: what holds of that phase holds of where the core stands.
 use Rattle.std.proofs.Common.{◌≡◌, Bool, true, refl, ap, ◌∙◌}
 use Rattle.std.proofs.lemmas.Bool.{false≢true}
-use Rattle.osbase.specs.declared.histories.Phase.{Phase}
+use Rattle.osbase.specs.{declared.histories.Phase.Phase, Phases.stands_in}
 use Rattle.osbase.specs.declared.histories.Phase.TheVariants.{Off, Boot, FirstGate, BetweenGates, SecondGate, Live, Drained, Closing, Ended}
-use Rattle.osbase.specs.Phases.{stands_in}
 
 pub stands_in-is : (asked p : Phase) → stands_in asked p ≡ true → p ≡ asked
 stands_in-is Off Off e = refl

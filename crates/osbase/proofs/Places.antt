@@ -3,11 +3,7 @@ use Rattle.std.proofs.Common.{◌≡◌, ◌&&◌, ℕ, zero, suc, ◌<◌, nat_
 use Rattle.std.specs.List.{list_all, slice_get}
 use Rattle.std.proofs.lemmas.Bool.{and_parts, and_from, cond-true, false_from_ne_true, false≢true, lt-ltb, ltb-true}
 use Rattle.std.proofs.lemmas.Option.{slice_get_within}
-use Rattle.osbase.specs.declared.objects.Place.{Place}
-use Rattle.osbase.specs.declared.references.CoreId.{CoreId}
-use Rattle.osbase.specs.declared.references.CounterRef.{CounterRef}
-use Rattle.osbase.specs.Families.{counter_at, is_place_on}
-use Rattle.osbase.specs.History.{same_core}
+use Rattle.osbase.specs.{declared.objects.Place.Place, declared.references.CoreId.CoreId, declared.references.CounterRef.CounterRef, Families.counter_at, Families.is_place_on, History.same_core}
 use Rattle.osbase.specs.Objects.{counter_of, counter_place, place_on, same_place}
 use Rattle.osbase.proofs.Same.{same_core-refl, same_core-true, same_place-true}
 

@@ -1,17 +1,8 @@
 -- References that test as the same are equal, and each tests as the same as itself.
 use Rattle.std.proofs.Common.{◌≡◌, ℕ, Bool, true, false, nat_eq, refl, ap, sym, ◌∙◌}
 use Rattle.std.proofs.lemmas.Bool.{eqb-true, eq-eqb, and_parts, and_from, false≢true}
-use Rattle.osbase.specs.declared.objects.ObjectKind.{ObjectKind}
+use Rattle.osbase.specs.{declared.objects.ObjectKind.ObjectKind, declared.references.CoreId.CoreId, declared.references.TaskRef.TaskRef, declared.references.IsrRef.IsrRef, declared.references.AlarmRef.AlarmRef, declared.references.CounterRef.CounterRef, declared.references.TableRef.TableRef, declared.objects.Place.Place, Counting.same_alarm, Counting.same_counter, Counting.same_table, declared.references.Runner.Runner}
 use Rattle.osbase.specs.declared.objects.ObjectKind.TheVariants.{Mode, Spinlock, Task, Isr, Resource, Counter, Alarm, Table}
-use Rattle.osbase.specs.declared.references.CoreId.{CoreId}
-use Rattle.osbase.specs.declared.references.TaskRef.{TaskRef}
-use Rattle.osbase.specs.declared.references.IsrRef.{IsrRef}
-use Rattle.osbase.specs.declared.references.AlarmRef.{AlarmRef}
-use Rattle.osbase.specs.declared.references.CounterRef.{CounterRef}
-use Rattle.osbase.specs.declared.references.TableRef.{TableRef}
-use Rattle.osbase.specs.declared.objects.Place.{Place}
-use Rattle.osbase.specs.Counting.{same_alarm, same_counter, same_table}
-use Rattle.osbase.specs.declared.references.Runner.{Runner}
 use Rattle.osbase.specs.Objects.{alarm_of, alarm_place, counter_of, counter_place, isr_of, isr_place, place_on, same_kind, same_place, table_of, table_place, task_of, task_place}
 use Rattle.osbase.specs.History.{same_core, same_task, same_isr, same_runner}
 

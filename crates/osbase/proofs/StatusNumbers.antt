@@ -1,12 +1,9 @@
 -- Statuses and their numbers.
 use Rattle.std.proofs.Common.{◌≡◌, ◌∙◌, ℕ, zero, suc, ◌+◌, ◌<◌, ◌==◌, ◌&&◌, Bool, true, List, [], ◌∷◌, Some, length, unwrap_or, refl, sym, ap, arith}
 use Rattle.std.specs.List.{slice_get}
-use Rattle.std.proofs.lemmas.Bool.{and_parts, eqb-true}
-use Rattle.std.proofs.lemmas.Option.{same_Some}
-use Rattle.osbase.specs.declared.statuses.Status.{Status}
+use Rattle.std.proofs.{lemmas.Bool.and_parts, lemmas.Bool.eqb-true, lemmas.Option.same_Some}
+use Rattle.osbase.specs.{declared.statuses.Status.Status, declared.statuses.TheConstants.STATUS_LIST, Words.status_number, Words.status_numbered}
 use Rattle.osbase.specs.declared.statuses.Status.TheVariants.{EOk, EOsAccess, EOsCallevel, EOsId, EOsLimit, EOsNofunc, EOsResource, EOsState, EOsValue, EOsMissingend, EOsDisabledint, EOsProtectionTime, EOsCore, EOsSpinlock, EOsInterferenceDeadlock, EOsNestingDeadlock, EOsProtectionLocked}
-use Rattle.osbase.specs.declared.statuses.TheConstants.{STATUS_LIST}
-use Rattle.osbase.specs.Words.{status_number, status_numbered}
 
 -- The status of a status' number is that status,
 pub status_back : (status : Status) → status_numbered (status_number status) ≡ Some status

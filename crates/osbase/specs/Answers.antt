@@ -1,13 +1,6 @@
 -- What a service answered: in a line of the trace, and in the reply to another core. A value is one of E_OK.
 use Rattle.std.specs.Prelude.{Option, Some, None, ℤ}
-use Rattle.osbase.specs.declared.references.CoreId.{CoreId}
-use Rattle.osbase.specs.declared.references.Runner.{Runner}
-use Rattle.osbase.specs.declared.statuses.Status.{Status}
-use Rattle.osbase.specs.declared.statuses.ServiceId.{ServiceId}
-use Rattle.osbase.specs.declared.messages.RemoteCall.{RemoteCall}
-use Rattle.osbase.specs.declared.messages.RemoteCall.TheVariants.{GetAlarm}
-use Rattle.osbase.specs.declared.messages.Message.{Message}
-use Rattle.osbase.specs.declared.marks.Mark.{Mark}
+use Rattle.osbase.specs.{declared.references.CoreId.CoreId, declared.references.Runner.Runner, declared.statuses.Status.Status, declared.statuses.ServiceId.ServiceId, declared.messages.RemoteCall.RemoteCall, declared.messages.RemoteCall.TheVariants.GetAlarm, declared.messages.Message.Message, declared.marks.Mark.Mark}
 
 -- A service returned to its caller. [OSEK/VDX OS 2.2.3, section 11.2]
 abbrev pub returned : Runner → ServiceId → Status → Option ℤ → Mark

@@ -2,9 +2,7 @@
 -- due, and how long a table runs.
 use Rattle.std.specs.Prelude.{ℕ, suc, ◌+◌, ◌-◌, ◌%◌, ◌==◌, ◌&&◌, ◌||◌, nat_le, nat_lt, Bool, true, false, if◌then◌else◌, Option, Some, None, option_map, [], ◌∷◌}
 use Rattle.std.specs.Option.{option_map_or}
-use Rattle.osbase.specs.declared.references.CounterRef.{CounterRef}
-use Rattle.osbase.specs.declared.references.AlarmRef.{AlarmRef}
-use Rattle.osbase.specs.declared.references.TableRef.{TableRef}
+use Rattle.osbase.specs.{declared.references.CounterRef.CounterRef, declared.references.AlarmRef.AlarmRef, declared.references.TableRef.TableRef}
 use Rattle.osbase.specs.History.{History, Entry, Noted, CounterIncremented, AlarmSet, AlarmCancelled, TableStarted, TableStopped, TableNext, same_core}
 
 -- Equality of references.

@@ -1,13 +1,7 @@
 -- The objects of one kind on a core that go by its counters, as its alarms and its schedule tables do.
 use Rattle.std.specs.Prelude.{◌≡◌, ◌<◌, ◌&&◌, nat_lt, ℕ, Bool, false, IsTrue, Option, Some, List, filter, map, option_map}
 use Rattle.std.specs.Option.{option_map_or}
-use Rattle.osbase.specs.declared.objects.Place.{Place}
-use Rattle.osbase.specs.declared.references.CoreId.{CoreId}
-use Rattle.osbase.specs.declared.references.CounterRef.{CounterRef}
-use Rattle.osbase.specs.Counting.{same_counter}
-use Rattle.osbase.specs.History.{same_core}
-use Rattle.osbase.specs.Objects.{counter_place}
-use Rattle.osbase.specs.Sets.{numbers_from}
+use Rattle.osbase.specs.{declared.objects.Place.Place, declared.references.CoreId.CoreId, declared.references.CounterRef.CounterRef, Counting.same_counter, History.same_core, Objects.counter_place, Sets.numbers_from}
 
 -- The place is one of the first so many on the core.
 abbrev pub is_place_on : CoreId → ℕ → Place → Bool

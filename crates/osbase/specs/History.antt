@@ -3,36 +3,8 @@
 -- A history is the list of what a core took and did, the newest first, so that every reading is a
 -- fold with a named step. The kernel stores no history: it keeps the readings.
 use Rattle.std.specs.Prelude.{ℕ, suc, ◌+◌, ◌==◌, ◌&&◌, nat_lt, ℤ, Bool, true, false, not, if◌then◌else◌, Option, Some, None, is_some, List, [], ◌∷◌, ◌++◌, length, drop, replicate}
-use Rattle.std.specs.Int.{bit_not, w32}
-use Rattle.std.specs.Int.Bits.{bit_and, bit_or}
-use Rattle.std.specs.List.{list_any}
-use Rattle.std.specs.Option.{option_map_or}
-use Rattle.osbase.specs.declared.statuses.Status.{Status}
-use Rattle.osbase.specs.declared.statuses.Status.TheVariants.{EOk}
-use Rattle.osbase.specs.declared.statuses.ServiceId.{ServiceId}
-use Rattle.osbase.specs.declared.statuses.ServiceId.TheVariants.{Schedule}
-use Rattle.osbase.specs.declared.references.CoreId.{CoreId}
-use Rattle.osbase.specs.declared.references.TaskRef.{TaskRef}
-use Rattle.osbase.specs.declared.references.IsrRef.{IsrRef}
-use Rattle.osbase.specs.declared.references.CounterRef.{CounterRef}
-use Rattle.osbase.specs.declared.references.AlarmRef.{AlarmRef}
-use Rattle.osbase.specs.declared.references.TableRef.{TableRef}
-use Rattle.osbase.specs.declared.references.Runner.{Runner}
-use Rattle.osbase.specs.declared.messages.Letter.{Letter}
-use Rattle.osbase.specs.declared.messages.Message.{Message}
-use Rattle.osbase.specs.declared.items.CoreSet.{CoreSet}
-use Rattle.osbase.specs.declared.items.Agreement.{Agreement}
-use Rattle.osbase.specs.declared.items.Item.{Item}
-use Rattle.osbase.specs.declared.marks.Mark.{Mark}
-use Rattle.osbase.specs.declared.limits.TheConstants.{CORES}
-use Rattle.osbase.specs.declared.histories.Job.{Job}
-use Rattle.osbase.specs.declared.histories.HeldResource.{HeldResource}
-use Rattle.osbase.specs.declared.histories.OpenCall.{OpenCall}
-use Rattle.osbase.specs.declared.histories.TaskEvents.{TaskEvents}
-use Rattle.osbase.specs.declared.histories.Sent.{Sent}
-use Rattle.osbase.specs.declared.histories.Phase.{Phase}
-use Rattle.osbase.specs.declared.histories.Course.{Course}
-use Rattle.osbase.specs.Phases.{halted_from}
+use Rattle.std.specs.{Int.bit_not, Int.w32, Int.Bits.bit_and, Int.Bits.bit_or, List.list_any, Option.option_map_or}
+use Rattle.osbase.specs.{declared.statuses.Status.Status, declared.statuses.Status.TheVariants.EOk, declared.statuses.ServiceId.ServiceId, declared.statuses.ServiceId.TheVariants.Schedule, declared.references.CoreId.CoreId, declared.references.TaskRef.TaskRef, declared.references.IsrRef.IsrRef, declared.references.CounterRef.CounterRef, declared.references.AlarmRef.AlarmRef, declared.references.TableRef.TableRef, declared.references.Runner.Runner, declared.messages.Letter.Letter, declared.messages.Message.Message, declared.items.CoreSet.CoreSet, declared.items.Agreement.Agreement, declared.items.Item.Item, declared.marks.Mark.Mark, declared.limits.TheConstants.CORES, declared.histories.Job.Job, declared.histories.HeldResource.HeldResource, declared.histories.OpenCall.OpenCall, declared.histories.TaskEvents.TaskEvents, declared.histories.Sent.Sent, declared.histories.Phase.Phase, declared.histories.Course.Course, Phases.halted_from}
 
 -- What happens without a printed line. [own]
 pub data Note : Type 0 where

@@ -1,10 +1,7 @@
 -- Interrupts: the live jobs of ISRs, which of them were entered, which job runs, and how often a job has suspended interrupts.
 use Rattle.std.specs.Prelude.{ℕ, suc, ◌-◌, nat_lt, Bool, if◌then◌else◌, Option, None, option_map, List, [], ◌∷◌, ◌++◌, length}
 use Rattle.std.specs.Option.{option_or}
-use Rattle.osbase.specs.declared.references.IsrRef.{IsrRef}
-use Rattle.osbase.specs.declared.references.Runner.{Runner}
-use Rattle.osbase.specs.declared.marks.Mark.{Mark}
-use Rattle.osbase.specs.declared.histories.Job.{Job}
+use Rattle.osbase.specs.{declared.references.IsrRef.IsrRef, declared.references.Runner.Runner, declared.marks.Mark.Mark, declared.histories.Job.Job}
 use Rattle.osbase.specs.History.{Entry, Printed, History, current_job, job_count, oldest, same_isr, without_oldest}
 
 -- ---- jobs of ISRs

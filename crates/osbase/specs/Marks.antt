@@ -1,9 +1,6 @@
 -- The objects that a mark names, by their cores. A core's own number is no object.
 use Rattle.std.specs.Prelude.{Bool, true}
-use Rattle.osbase.specs.declared.references.CoreId.{CoreId}
-use Rattle.osbase.specs.declared.references.Runner.{Runner}
-use Rattle.osbase.specs.declared.marks.Mark.{Mark}
-use Rattle.osbase.specs.Objects.{object_of_call}
+use Rattle.osbase.specs.{declared.references.CoreId.CoreId, declared.references.Runner.Runner, declared.marks.Mark.Mark, Objects.object_of_call}
 
 -- The core of a runner.
 abbrev pub core_of_runner : Runner → CoreId

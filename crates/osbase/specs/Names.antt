@@ -1,7 +1,6 @@
 -- The form of names. [own]
 use Rattle.std.specs.Prelude.{ℕ, ◌==◌, ◌&&◌, ◌||◌, nat_le, Bool, false, List, [], ◌∷◌, length}
-use Rattle.std.specs.Char.{is_ascii_alphabetic, is_ascii_alphanumeric}
-use Rattle.std.specs.List.{list_all}
+use Rattle.std.specs.{Char.is_ascii_alphabetic, Char.is_ascii_alphanumeric, List.list_all}
 
 -- A name's first character is a letter, and the others are letters, digits and underscores, all of ASCII.
 abbrev pub is_name_part : ℕ → Bool

@@ -1,22 +1,8 @@
 -- Objects of every kind, and which of them a call across cores names.
 use Rattle.std.specs.Prelude.{ℕ, ◌==◌, ◌&&◌, Bool, true, false}
-use Rattle.osbase.specs.declared.references.ModeId.{ModeId}
-use Rattle.osbase.specs.declared.references.SpinlockId.{SpinlockId}
-use Rattle.osbase.specs.declared.references.TaskRef.{TaskRef}
-use Rattle.osbase.specs.declared.references.IsrRef.{IsrRef}
-use Rattle.osbase.specs.declared.references.ResourceRef.{ResourceRef}
-use Rattle.osbase.specs.declared.references.CounterRef.{CounterRef}
-use Rattle.osbase.specs.declared.references.AlarmRef.{AlarmRef}
-use Rattle.osbase.specs.declared.references.TableRef.{TableRef}
-use Rattle.osbase.specs.declared.objects.ObjectKind.{ObjectKind}
+use Rattle.osbase.specs.{declared.references.ModeId.ModeId, declared.references.SpinlockId.SpinlockId, declared.references.TaskRef.TaskRef, declared.references.IsrRef.IsrRef, declared.references.ResourceRef.ResourceRef, declared.references.CounterRef.CounterRef, declared.references.AlarmRef.AlarmRef, declared.references.TableRef.TableRef, declared.objects.ObjectKind.ObjectKind, declared.objects.Place.Place, declared.objects.TheConstants.NOBODY, declared.objects.Object.Object, declared.messages.RemoteCall.RemoteCall, declared.references.CoreId.CoreId, History.same_core}
 use Rattle.osbase.specs.declared.objects.ObjectKind.TheVariants.{Mode, Spinlock, Task, Isr, Resource, Counter, Alarm, Table}
-use Rattle.osbase.specs.declared.objects.Place.{Place}
-use Rattle.osbase.specs.declared.objects.TheConstants.{NOBODY}
-use Rattle.osbase.specs.declared.objects.Object.{Object}
-use Rattle.osbase.specs.declared.messages.RemoteCall.{RemoteCall}
 use Rattle.osbase.specs.declared.messages.RemoteCall.TheVariants.{ActivateTask, SetEvent, SetRelAlarm, SetAbsAlarm, CancelAlarm, GetAlarm}
-use Rattle.osbase.specs.declared.references.CoreId.{CoreId}
-use Rattle.osbase.specs.History.{same_core}
 
 -- Equality of kinds.
 abbrev pub same_kind : ObjectKind → ObjectKind → Bool

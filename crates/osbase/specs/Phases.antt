@@ -1,8 +1,6 @@
 -- The phases of a core in their order, from off to its end; and whether it runs.
 use Rattle.std.specs.Prelude.{ℕ, ◌==◌, ◌&&◌, nat_lt, Bool, true, false}
-use Rattle.osbase.specs.declared.histories.Course.{Course}
-use Rattle.osbase.specs.declared.histories.Course.TheVariants.{Going, Down, Halted}
-use Rattle.osbase.specs.declared.histories.Phase.{Phase}
+use Rattle.osbase.specs.{declared.histories.Course.Course, declared.histories.Course.TheVariants.Going, declared.histories.Course.TheVariants.Down, declared.histories.Course.TheVariants.Halted, declared.histories.Phase.Phase}
 use Rattle.osbase.specs.declared.histories.Phase.TheVariants.{Off, Boot, FirstGate, BetweenGates, SecondGate, Live, Drained, Closing, Ended}
 
 -- The place of a phase in their order. [own]

@@ -1,10 +1,6 @@
 -- What a listed run is given.
-use Rattle.std.specs.Prelude.{List, [], find}
-use Rattle.std.specs.Option.{option_map_or}
-use Rattle.osbase.specs.declared.references.CoreId.{CoreId}
-use Rattle.osbase.specs.declared.items.Stimulus.{Stimulus}
-use Rattle.osbase.specs.declared.turns.CoreStimuli.{CoreStimuli}
-use Rattle.osbase.specs.History.{same_core}
+use Rattle.std.specs.{Prelude.List, Prelude.[], Prelude.find, Option.option_map_or}
+use Rattle.osbase.specs.{declared.references.CoreId.CoreId, declared.items.Stimulus.Stimulus, declared.turns.CoreStimuli.CoreStimuli, History.same_core}
 
 -- The listed stimuli of a core, in order; none for a core that is not listed. [own]
 abbrev pub stimuli_of : List CoreStimuli → CoreId → List Stimulus

@@ -1,10 +1,7 @@
 -- Core numbers, sets of cores, and the places of a core's tasks and ISRs.
 use Rattle.std.specs.Prelude.{ℕ, zero, suc, ◌+◌, ◌&&◌, nat_lt, Bool, false, List, [], ◌∷◌, map, slice_get}
 use Rattle.std.specs.Option.{option_map_or}
-use Rattle.osbase.specs.declared.references.CoreId.{CoreId}
-use Rattle.osbase.specs.declared.items.CoreSet.{CoreSet}
-use Rattle.osbase.specs.declared.references.Runner.{Runner}
-use Rattle.osbase.specs.declared.limits.TheConstants.{CORES, TASKS}
+use Rattle.osbase.specs.{declared.references.CoreId.CoreId, declared.items.CoreSet.CoreSet, declared.references.Runner.Runner, declared.limits.TheConstants.CORES, declared.limits.TheConstants.TASKS}
 
 -- So many numbers from this one on.
 abbrev pub numbers_from : ℕ → ℕ → List ℕ

@@ -1,13 +1,7 @@
 -- The spinlocks that a core got: which, whose job has each, and which releases are owed.
 use Rattle.std.specs.Prelude.{◌==◌, Bool, true, false, if◌then◌else◌, Option, Some, None, is_none, is_some, option_map, find, List, [], ◌∷◌, map}
-use Rattle.std.specs.List.{list_any}
-use Rattle.std.specs.Option.{option_map_or}
-use Rattle.osbase.specs.declared.references.SpinlockId.{SpinlockId}
-use Rattle.osbase.specs.declared.references.Runner.{Runner}
-use Rattle.osbase.specs.declared.items.Item.{Item}
-use Rattle.osbase.specs.declared.marks.Mark.{Mark}
-use Rattle.osbase.specs.declared.histories.GotSpinlock.{GotSpinlock}
-use Rattle.osbase.specs.declared.histories.OpenCall.{OpenCall}
+use Rattle.std.specs.{List.list_any, Option.option_map_or}
+use Rattle.osbase.specs.{declared.references.SpinlockId.SpinlockId, declared.references.Runner.Runner, declared.items.Item.Item, declared.marks.Mark.Mark, declared.histories.GotSpinlock.GotSpinlock, declared.histories.OpenCall.OpenCall}
 use Rattle.osbase.specs.History.{Entry, Took, Printed, Noted, WentDown, History, open_call, same_runner}
 
 -- Equality of spinlocks.

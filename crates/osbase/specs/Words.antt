@@ -1,9 +1,7 @@
 -- The printed words and numbers of statuses and services.
 use Rattle.std.specs.Prelude.{ℕ, Option, List, codes, slice_get}
-use Rattle.osbase.specs.declared.statuses.Status.{Status}
+use Rattle.osbase.specs.{declared.statuses.Status.Status, declared.statuses.TheConstants.STATUS_LIST, declared.statuses.ServiceId.ServiceId}
 use Rattle.osbase.specs.declared.statuses.Status.TheVariants.{EOk, EOsAccess, EOsCallevel, EOsId, EOsLimit, EOsNofunc, EOsResource, EOsState, EOsValue, EOsMissingend, EOsDisabledint, EOsProtectionTime, EOsCore, EOsSpinlock, EOsInterferenceDeadlock, EOsNestingDeadlock, EOsProtectionLocked}
-use Rattle.osbase.specs.declared.statuses.TheConstants.{STATUS_LIST}
-use Rattle.osbase.specs.declared.statuses.ServiceId.{ServiceId}
 use Rattle.osbase.specs.declared.statuses.ServiceId.TheVariants as Service
 
 -- The number of a status: OSEK/VDX OS 2.2.3, section 13.1, for 0 to 8; the others are this project's own.

@@ -1,7 +1,6 @@
 //! The form of names.
 
-ghost use Rattle.std.specs.Prelude.{◌≡◌};
-ghost use Rattle.std.specs.List.{list_all};
+ghost use Rattle.std.specs.{Prelude.◌≡◌, List.list_all};
 ghost use Rattle.osbase.specs.Names.{is_name, is_name_part};
 
 /// Whether a text has the form of a name: 1 to 128 letters, digits and underscores, a letter first.

@@ -2,9 +2,8 @@
 
 ghost use Rattle.std.specs.Prelude.{◌≡◌};
 ghost use Rattle.osbase.specs.Objects.{alarm_of, alarm_place, counter_of, counter_place, isr_of, isr_place, mode_of, mode_place, object_at, resource_of, resource_place, same_kind, spinlock_of, spinlock_place, table_of, table_place, task_of, task_place};
-ghost use Rattle.osbase.specs.declared.objects.ObjectKind.{ObjectKind as KindValue};
+ghost use Rattle.osbase.specs.{declared.objects.ObjectKind.ObjectKind as KindValue, declared.objects.Place.Place as PlaceValue};
 ghost use Rattle.osbase.specs.declared.objects.ObjectKind.TheVariants as kinds;
-ghost use Rattle.osbase.specs.declared.objects.Place.{Place as PlaceValue};
 
 use crate::references::{
     AlarmRef, CoreId, CounterRef, IsrRef, ModeId, ResourceRef, SpinlockId, TableRef, TaskRef,

@@ -2,8 +2,7 @@
 //! core's objects of its kind, in the order of the configuration.
 
 ghost use Rattle.std.specs.Prelude.{◌≡◌};
-ghost use Rattle.osbase.specs.History.{same_runner};
-ghost use Rattle.osbase.specs.Sets.{slot_of};
+ghost use Rattle.osbase.specs.{History.same_runner, Sets.slot_of};
 
 use crate::limits::TASKS;
 

@@ -1,8 +1,7 @@
 //! What a listed run is given and gives: stimuli, turns and reports.
 
 ghost use Rattle.std.specs.Prelude.{◌≡◌, find, option_copied};
-ghost use Rattle.osbase.specs.History.{same_core};
-ghost use Rattle.osbase.specs.Runs.{stimuli_of};
+ghost use Rattle.osbase.specs.{History.same_core, Runs.stimuli_of};
 
 use crate::items::{Item, Stimulus};
 use crate::lists::List;

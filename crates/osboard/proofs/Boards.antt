@@ -3,27 +3,14 @@ use Rattle.std.proofs.Common.{◌≡◌, ◌==◌, ◌≢◌, ℕ, ◌+◌, ◌-
 use Rattle.std.proofs.lemmas.List.{get_or-set_same, get_or-set_other}
 use Rattle.std.proofs.lemmas.Bool.{ne_eqb, cond-true, cond-false, lt-ltb, both_ways}
 use Rattle.std.proofs.lemmas.Nat.Bits.{bit_at_or, bit_at-pow_same, bit_at-pow_other, bit_at-zero}
-use Rattle.std.specs.Int.{bit_at}
-use Rattle.std.specs.Int.Bits.{or_zero_l}
-use Rattle.std.specs.Option.{is_some}
+use Rattle.std.specs.{Int.bit_at, Int.Bits.or_zero_l, Option.is_some}
 use prog.Atomic.{either}
-use Rattle.osbase.specs.declared.references.CoreId.{CoreId}
-use Rattle.osbase.specs.declared.statuses.Status.{Status}
-use Rattle.osbase.specs.Words.{status_number, status_numbered}
+use Rattle.osbase.specs.{declared.references.CoreId.CoreId, declared.statuses.Status.Status, Words.status_number, Words.status_numbered, declared.items.CoreMode.CoreMode, declared.items.CoreSet.CoreSet, declared.items.CoreMode.TheVariants.Named, declared.items.CoreMode.TheVariants.DontCare}
 use Rattle.osbase.proofs.StatusNumbers.{status_back, status_low}
-use Rattle.osbase.specs.declared.items.CoreMode.{CoreMode}
-use Rattle.osbase.specs.declared.items.CoreSet.{CoreSet}
-use Rattle.osbase.specs.declared.items.CoreMode.TheVariants.{Named, DontCare}
-use Rattle.osshared.specs.declared.histories.Entry.{Entry}
-use Rattle.osshared.specs.Histories.{Continues}
-use Rattle.osshared.specs.Runs.{AreIdle}
-use Rattle.osshared.specs.Views.{IsStep}
+use Rattle.osshared.specs.{declared.histories.Entry.Entry, Histories.Continues, Runs.AreIdle, Views.IsStep}
 use Rattle.osshared.proofs.Steps.{continues}
-use Rattle.osboard.specs.declared.calls.BoardView.{BoardView}
-use Rattle.osboard.specs.declared.calls.BoardState.{BoardState}
-use Rattle.osboard.specs.declared.calls.BoardCall.{BoardCall}
+use Rattle.osboard.specs.{declared.calls.BoardView.BoardView, declared.calls.BoardState.BoardState, declared.calls.BoardCall.BoardCall, declared.calls.BoardReply.BoardReply}
 use Rattle.osboard.specs.declared.calls.BoardCall.TheVariants.{Start, Enter, MakeReady, Drain, Look, LookDrained, AskHalt, LookHalt}
-use Rattle.osboard.specs.declared.calls.BoardReply.{BoardReply}
 use Rattle.osboard.specs.declared.calls.BoardReply.TheVariants.{Started, Shown, Drained, Decided, Halting}
 use Rattle.osboard.specs.Boards.{IsLook, IsMode, ask_halt_call, first_board, with_mode, view_after, drained_after, halt_after, first_asked, board_after, board_reply, one_board, start_answer}
 use Rattle.osboard.specs.Words.{cores_in, flags_in, view_in, mode_bits, halt_word, asked_by, halt_in, Stands, answer}

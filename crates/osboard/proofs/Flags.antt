@@ -1,9 +1,6 @@
 -- A bit that is set in a word is a flag that is set in one of its sets.
 use Rattle.std.proofs.Common.{◌≡◌, ◌==◌, ◌≢◌, ℕ, ◌+◌, ◌<◌, Bool, true, false, List, length, set, get_or, max, bit_or, sym, ap, ◌∙◌, subst, ⊎_elim, arith, length-set}
-use Rattle.std.proofs.lemmas.List.{ext_get_or, get_or-set_same, get_or-set_other}
-use Rattle.std.proofs.lemmas.List.FromFn.{length-map-range_with_len, get_or-map-range_with_len}
-use Rattle.std.proofs.lemmas.Bool.{cases_eq}
-use Rattle.std.proofs.lemmas.Nat.Bits.{bit_at_or, bit_at-lt}
+use Rattle.std.proofs.{lemmas.List.ext_get_or, lemmas.List.get_or-set_same, lemmas.List.get_or-set_other, lemmas.List.FromFn.length-map-range_with_len, lemmas.List.FromFn.get_or-map-range_with_len, lemmas.Bool.cases_eq, lemmas.Nat.Bits.bit_at_or, lemmas.Nat.Bits.bit_at-lt}
 use Rattle.std.specs.Int.{bit_at}
 use Rattle.osboard.specs.Words.{has_bit, flags_in}
 

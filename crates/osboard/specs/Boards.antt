@@ -2,24 +2,10 @@
 -- shutdown of all cores. Each call of a core is answered at once. [own; the code has three words]
 use Rattle.std.specs.Prelude.{◌≡◌, ◌⊎◌, ℕ, zero, suc, ◌<◌, ◌||◌, Bool, true, false, not, if◌then◌else◌, Option, Some, None, count_by, position, replicate, slice_set}
 use Rattle.std.specs.List.{list_all, zip}
-use Rattle.osbase.specs.declared.statuses.Status.{Status}
-use Rattle.osbase.specs.declared.statuses.Status.TheVariants.{EOk, EOsState}
-use Rattle.osbase.specs.declared.references.CoreId.{CoreId}
-use Rattle.osbase.specs.declared.items.Agreement.{Agreement}
-use Rattle.osbase.specs.declared.items.CoreSet.{CoreSet}
-use Rattle.osbase.specs.History.{no_cores}
-use Rattle.osbase.specs.Sets.{has_core}
-use Rattle.osbase.specs.declared.items.CoreMode.{CoreMode}
-use Rattle.osbase.specs.declared.items.CoreMode.TheVariants.{Named, DontCare}
-use Rattle.osshared.specs.declared.histories.Entry.{Entry}
-use Rattle.osshared.specs.Histories.{Object, entry}
-use Rattle.osbase.specs.declared.limits.TheConstants.{CORES, MODES}
-use Rattle.osboard.specs.declared.calls.ModeSet.{ModeSet}
-use Rattle.osboard.specs.declared.calls.BoardView.{BoardView}
-use Rattle.osboard.specs.declared.calls.BoardState.{BoardState}
-use Rattle.osboard.specs.declared.calls.BoardCall.{BoardCall}
+use Rattle.osbase.specs.{declared.statuses.Status.Status, declared.statuses.Status.TheVariants.EOk, declared.statuses.Status.TheVariants.EOsState, declared.references.CoreId.CoreId, declared.items.Agreement.Agreement, declared.items.CoreSet.CoreSet, History.no_cores, Sets.has_core, declared.items.CoreMode.CoreMode, declared.items.CoreMode.TheVariants.Named, declared.items.CoreMode.TheVariants.DontCare, declared.limits.TheConstants.CORES, declared.limits.TheConstants.MODES}
+use Rattle.osshared.specs.{declared.histories.Entry.Entry, Histories.Object, Histories.entry}
+use Rattle.osboard.specs.{declared.calls.ModeSet.ModeSet, declared.calls.BoardView.BoardView, declared.calls.BoardState.BoardState, declared.calls.BoardCall.BoardCall, declared.calls.BoardReply.BoardReply}
 use Rattle.osboard.specs.declared.calls.BoardCall.TheVariants.{Start, Enter, MakeReady, Drain, Look, LookDrained, AskHalt, LookHalt}
-use Rattle.osboard.specs.declared.calls.BoardReply.{BoardReply}
 use Rattle.osboard.specs.declared.calls.BoardReply.TheVariants.{Started, Acknowledged, Shown, Drained, Decided, Halting}
 
 abbrev pub with_core : CoreId → CoreSet → CoreSet

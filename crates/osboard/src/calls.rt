@@ -76,8 +76,7 @@ impl SharedObject for BoardWords {
 
     type Reply = BoardReply;
 
-    ghost use Rattle.osboard.specs.Boards.{one_board};
-    ghost use Rattle.osboard.specs.Words.{Stands, answer};
+    ghost use Rattle.osboard.specs.{Boards.one_board, Words.Stands, Words.answer};
 
     ghost object = { one_board };
 

@@ -2,25 +2,14 @@
 -- asked. The check makes the cases of a table itself: the first clause is only there to begin them.
 use Rattle.std.proofs.Common.{◌≡◌, ℤ, true, Option, Some, None, IfSome, refl}
 use Rattle.std.proofs.lemmas.Bool.{and_from}
-use Rattle.osbase.specs.declared.statuses.Status.{Status}
-use Rattle.osbase.specs.declared.statuses.ServiceId.{ServiceId}
-use Rattle.osbase.specs.declared.references.CoreId.{CoreId}
-use Rattle.osbase.specs.declared.references.Runner.{Runner}
-use Rattle.osbase.specs.declared.messages.RemoteCall.{RemoteCall}
-use Rattle.osbase.specs.declared.objects.Object.{Object}
-use Rattle.osbase.specs.Answers.{served}
-use Rattle.oscript.specs.declared.Op.{Op}
-use Rattle.oscript.specs.Calls.{call_of_op}
-use Rattle.osacts.specs.Acts.{Prints}
-use Rattle.osservice.specs.Checks.{first_failing}
-use Rattle.osacts.specs.Seen.{Seen}
-use Rattle.osservice.specs.Service.{effect_of, serves}
+use Rattle.osbase.specs.{declared.statuses.Status.Status, declared.statuses.ServiceId.ServiceId, declared.references.CoreId.CoreId, declared.references.Runner.Runner, declared.messages.RemoteCall.RemoteCall, declared.objects.Object.Object, Answers.served}
+use Rattle.oscript.specs.{declared.Op.Op, Calls.call_of_op}
+use Rattle.osacts.specs.{Acts.Prints, Seen.Seen}
+use Rattle.osservice.specs.{Checks.first_failing, Service.effect_of, Service.serves}
 use Rattle.osservice.proofs.Called.{IsAllowed, called-passes}
 use Rattle.osservice.proofs.Kept.{AreAllowed, IsNamed, IsSeen, Leave, crosses-ok, is_allowed, is_within, returns-ok, serves-ok}
 use Rattle.osservice_alarms.proofs.Allowed.{absolute-ok, relative-ok}
-use Rattle.oscall.specs.Border.{calls, core_of_call, service_of}
-use Rattle.oscall.specs.Shutdown.{core_acts, starting_checks}
-use Rattle.oscall.specs.Variables.{script_acts}
+use Rattle.oscall.specs.{Border.calls, Border.core_of_call, Border.service_of, Shutdown.core_acts, Shutdown.starting_checks, Variables.script_acts}
 
 module _ (l : Leave) where
   pub service-ok : (call : RemoteCall) → l.names (core_of_call call) ≡ true → (s : Seen) → IsSeen l s → AreAllowed l (effect_of (service_of call s))

@@ -3,23 +3,14 @@
 -- Such a service has two halves. The caller's core makes the checks up to whether the object's core was started; the
 -- object's core makes the others and has the effect, for a job of its own and for another core alike.
 use Rattle.std.specs.Prelude.{Bool, Option, Some, None}
-use Rattle.osbase.specs.declared.statuses.Status.TheVariants.{EOsCore, EOsId}
-use Rattle.osbase.specs.declared.statuses.ServiceId.{ServiceId}
-use Rattle.osbase.specs.declared.references.CoreId.{CoreId}
-use Rattle.osbase.specs.declared.references.Runner.{Runner}
-use Rattle.osbase.specs.declared.messages.RemoteCall.{RemoteCall}
+use Rattle.osbase.specs.{declared.statuses.Status.TheVariants.EOsCore, declared.statuses.Status.TheVariants.EOsId, declared.statuses.ServiceId.ServiceId, declared.references.CoreId.CoreId, declared.references.Runner.Runner, declared.messages.RemoteCall.RemoteCall, Objects.object_of_call, Answers.reply, Answers.served}
 use Rattle.osbase.specs.declared.messages.RemoteCall.TheVariants.{ActivateTask, SetEvent, SetRelAlarm, SetAbsAlarm, CancelAlarm, GetAlarm}
-use Rattle.osbase.specs.Objects.{object_of_call}
-use Rattle.osbase.specs.Answers.{reply, served}
-use Rattle.osplan.specs.declared.plans.Core.{Core}
-use Rattle.osplan.specs.Objects.{may_name}
-use Rattle.osservice.specs.declared.returning.ServiceResult.{ServiceResult}
+use Rattle.osplan.specs.{declared.plans.Core.Core, Objects.may_name}
+use Rattle.osservice.specs.{declared.returning.ServiceResult.ServiceResult, Returning.asks, Returning.reports, Returning.returns}
 use Rattle.osacts.specs.Acts.{Acts, Sends, both, if_started, look, nothing, one_then, prints, when}
-use Rattle.osservice.specs.Returning.{asks, reports, returns}
 use Rattle.osacts.specs.Seen.{Seen, is_this_core}
 use Rattle.osservice.specs.Service.{Service, answer_of, effect_of, serves}
-use Rattle.osservice_tasks.specs.Events.{setting}
-use Rattle.osservice_tasks.specs.Tasks.{activation}
+use Rattle.osservice_tasks.specs.{Events.setting, Tasks.activation}
 use Rattle.osservice_alarms.specs.Alarms.{absolute_setting, cancellation, inquiry, relative_setting}
 
 -- The table: a row for each call. [own]

@@ -1,20 +1,13 @@
 -- The services of whole cores: StartCore, which a script calls too late; how many cores are started; the shutdown of one core and of all.
 use Rattle.std.specs.Prelude.{ℕ, pos, Bool, true, false, not, Option, Some, None, List, [], ◌∷◌, count_by, find, is_some}
 use Rattle.std.specs.Option.{option_map_or}
-use Rattle.osbase.specs.declared.statuses.Status.{Status}
-use Rattle.osbase.specs.declared.statuses.Status.TheVariants.{EOsAccess, EOsId}
+use Rattle.osbase.specs.{declared.statuses.Status.Status, declared.statuses.Status.TheVariants.EOsAccess, declared.statuses.Status.TheVariants.EOsId, declared.references.CoreId.CoreId, declared.references.Runner.Runner, declared.references.Variable.Variable, declared.items.CoreSet.CoreSet, History.Opened, History.WentDown, History.same_core}
 use Rattle.osbase.specs.declared.statuses.ServiceId.TheVariants as Service
-use Rattle.osbase.specs.declared.references.CoreId.{CoreId}
-use Rattle.osbase.specs.declared.references.Runner.{Runner}
-use Rattle.osbase.specs.declared.references.Variable.{Variable}
-use Rattle.osbase.specs.declared.items.CoreSet.{CoreSet}
 use Rattle.osbase.specs.declared.marks.Mark.TheVariants as Mark
 use Rattle.osbase.specs.declared.histories.Awaited.TheVariants as Awaited
-use Rattle.osbase.specs.History.{Opened, WentDown, same_core}
 use Rattle.oscript.specs.declared.Op.{Op}
 use Rattle.osacts.specs.Acts.{Acts, Prints, look_around, notes, one_then}
-use Rattle.osservice.specs.Checks.{Check, first_failing}
-use Rattle.osservice.specs.Returning.{returns}
+use Rattle.osservice.specs.{Checks.Check, Checks.first_failing, Returning.returns}
 use Rattle.osacts.specs.Seen.{AllCores}
 use Rattle.oscall.specs.Variables.{sets}
 

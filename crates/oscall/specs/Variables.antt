@@ -1,14 +1,9 @@
 -- The operations of a script that are no services: those that work on its variables, jumps, and work. [own]
 use Rattle.std.specs.Prelude.{ℤ, pos, ◌+ℤ◌, Option, Some, None}
 use Rattle.std.specs.Int.{saturate_signed, w64}
-use Rattle.osbase.specs.declared.statuses.Status.TheVariants.{EOk}
-use Rattle.osbase.specs.declared.references.Runner.{Runner}
-use Rattle.osbase.specs.declared.references.Variable.{Variable}
+use Rattle.osbase.specs.{declared.statuses.Status.TheVariants.EOk, declared.references.Runner.Runner, declared.references.Variable.Variable, History.Done, Words.status_number}
 use Rattle.osbase.specs.declared.marks.Mark.TheVariants as Mark
-use Rattle.osbase.specs.History.{Done}
-use Rattle.osbase.specs.Words.{status_number}
-use Rattle.oscript.specs.declared.Op.{Op}
-use Rattle.oscript.specs.Frames.{value_of}
+use Rattle.oscript.specs.{declared.Op.Op, Frames.value_of}
 use Rattle.osacts.specs.Acts.{Acts, Prints, look, notes, one_then}
 
 -- A sum stops at the ends of a signed number of 64 bits.

@@ -1,18 +1,13 @@
 //! Services on objects that may stand on another core, and what a core does for another one.
 
-ghost use Rattle.std.specs.Prelude.{◌≡◌, ◌<◌, IfSome, IsTrue, false};
-ghost use Rattle.osbase.specs.declared.limits.TheConstants.{CORES};
-ghost use Rattle.osstate.specs.Does.{service_entries, service_marks};
-ghost use Rattle.osservice.specs.Terms.{MayBegin, MayPost, MayServe};
-ghost use Rattle.osacts.specs.Acts.{both, prints};
-ghost use Rattle.osservice.specs.Checks.{is_ok_status};
+ghost use Rattle.std.specs.Prelude.{◌≡◌, ◌<◌, IfSome, IsTrue};
+ghost use Rattle.osbase.specs.{declared.limits.TheConstants.CORES, Answers.reply, Answers.served};
+ghost use Rattle.osstate.specs.{Does.service_entries, Does.service_marks, Readings.is_served};
+ghost use Rattle.osservice.specs.Terms.{MayBegin, MayPost, MayServe, Serves};
+ghost use Rattle.osacts.specs.{Acts.both, Acts.prints, Runs.seen_in, Steps.Steps, Steps.StepsWithin};
 ghost use Rattle.osservice.specs.Service.{carries_out, answer_of};
-ghost use Rattle.osbase.specs.Answers.{reply, served};
 ghost use Rattle.osjobs.specs.Jobs.{is_plain};
 ghost use Rattle.oscall.specs.Border.{calls, core_of_call, crosses, is_known_call, serves_action, serves_request, service_of};
-ghost use Rattle.osstate.specs.Readings.{is_served};
-ghost use Rattle.osacts.specs.Runs.{seen_in};
-ghost use Rattle.osacts.specs.Steps.{Steps};
 
 use osbase::{CoreId, Mark, Message, RemoteCall, Runner, ServiceId, Status};
 use osservice::{ServiceResult, ask, finish, refuse, report};
@@ -29,10 +24,7 @@ pub fn serve<const P: usize, const J: usize, const OUT: usize>(
 ) -> ServiceResult
     requires served { IsTrue (is_served state.old.view call) }
     requires begins { MayBegin 2 2 state.old marks.old }
-    ensures answer { result ≡ answer_of (service_of call (seen_in state.old)) }
-    ensures steps { Steps 2 2 (carries_out (service_of call)) state.old state.new marks.old marks.new }
-    ensures refused { is_ok_status result.status ≡ false → Steps 0 0 (carries_out (service_of call)) state.old state.new marks.old marks.new }
-    ensures border { state.new.border ≡ state.old.border }
+    ensures { Serves 2 2 (service_of call) result state.old state.new marks.old marks.new }
 {
     match call {
         RemoteCall::ActivateTask(task) => activate(state, task, marks),
@@ -108,8 +100,7 @@ fn serve_for<const P: usize, const J: usize, const OUT: usize>(
     requires served { IsTrue (is_served state.old.view call) }
     requires begins { MayBegin 3 3 state.old marks.old }
     ensures answer { result ≡ answer_of (service_of call (seen_in state.old)) }
-    ensures steps { Steps 3 3 (both (carries_out (service_of call)) (prints (served from call result.status result.value))) state.old state.new marks.old marks.new }
-    ensures border { state.new.border ≡ state.old.border }
+    ensures steps { StepsWithin 3 3 (both (carries_out (service_of call)) (prints (served from call result.status result.value))) state.old state.new marks.old marks.new }
 {
     let answer = serve(state, call, marks);
     state.print(mark_of(from, call, answer), marks);

@@ -3,11 +3,9 @@
 ghost use Rattle.std.specs.Prelude.{◌≡◌, ◌≤◌, ◌+◌, ◌^◌, IsTrue};
 ghost use Rattle.osjobs.specs.Priorities.{is_own_runner};
 ghost use Rattle.osstate.specs.Does.{HasRoom, service_entries, service_marks};
-ghost use Rattle.osservice.specs.Terms.{MayAct, Offered};
-ghost use Rattle.osservice.specs.Checks.{first_failing};
+ghost use Rattle.osservice.specs.{Terms.MayAct, Terms.Offered, Checks.first_failing};
 ghost use Rattle.oscall.specs.Shutdown.{core_acts, core_count, counts_cores, goes_down, is_ignored, is_unknown, refuses_start, shuts_down_all, starting_checks};
-ghost use Rattle.osacts.specs.Runs.{all_cores_in};
-ghost use Rattle.osacts.specs.Steps.{QuietSteps, Steps};
+ghost use Rattle.osacts.specs.{Runs.all_cores_in, Steps.PostsNone, Steps.QuietSteps, Steps.Steps};
 
 use crate::variables::set;
 use osbase::{Awaited, CoreId, CoreSet, Mark, OpenCall, Runner, ServiceId, Status, Variable};
@@ -86,8 +84,7 @@ pub fn go_down<const P: usize, const J: usize, const OUT: usize>(
     marks: &mut Vec<Mark>,
 )
     requires { HasRoom 2 1 state.old marks.old }
-    ensures steps { Steps 2 1 (goes_down status) state.old state.new marks.old marks.new }
-    ensures outbox { state.new.border.outbox ≡ state.old.border.outbox }
+    ensures { PostsNone 2 1 (goes_down status) state.old state.new marks.old marks.new }
 {
     state.print(Mark::ShutdownHook(status), marks);
     state.go_down();

@@ -2,10 +2,7 @@
 -- makes the cases of a table itself: the first clause is only there to begin them.
 use Rattle.std.proofs.Common.{◌≡◌, nat_lt, true, Some, IfSome}
 use Rattle.std.proofs.lemmas.Bool.{and_parts}
-use Rattle.osbase.specs.declared.statuses.ServiceId.{ServiceId}
-use Rattle.osbase.specs.declared.references.Runner.{Runner}
-use Rattle.osbase.specs.declared.messages.RemoteCall.{RemoteCall}
-use Rattle.osbase.specs.declared.limits.TheConstants.{CORES}
+use Rattle.osbase.specs.{declared.statuses.ServiceId.ServiceId, declared.references.Runner.Runner, declared.messages.RemoteCall.RemoteCall, declared.limits.TheConstants.CORES}
 use Rattle.oscript.specs.declared.Op.{Op}
 use Rattle.osservice.proofs.Called.{IsAllowed}
 use Rattle.osservice.proofs.Kept.{AreAllowed, IsNamed, Leave, crosses-ok, is_within}

@@ -1,17 +1,12 @@
 -- ChainTask: the caller's job ends, and a job of a task begins, which may stand on another core.
 use Rattle.std.specs.Prelude.{◌&&◌, Bool, true, false, not, ℤ, Option, Some, None, [], ◌∷◌}
-use Rattle.osbase.specs.declared.statuses.Status.{Status}
+use Rattle.osbase.specs.{declared.statuses.Status.Status, declared.statuses.ServiceId.ServiceId, declared.references.TaskRef.TaskRef, declared.references.Runner.Runner, History.same_runner}
 use Rattle.osbase.specs.declared.statuses.Status.TheVariants.{EOk, EOsCore, EOsId, EOsLimit}
-use Rattle.osbase.specs.declared.statuses.ServiceId.{ServiceId}
 use Rattle.osbase.specs.declared.statuses.ServiceId.TheVariants as Service
-use Rattle.osbase.specs.declared.references.TaskRef.{TaskRef}
-use Rattle.osbase.specs.declared.references.Runner.{Runner}
 use Rattle.osbase.specs.declared.messages.RemoteCall.TheVariants as Remote
-use Rattle.osbase.specs.History.{same_runner}
 use Rattle.oscript.specs.declared.Op.{Op}
 use Rattle.osacts.specs.Acts.{Acts, both, if_started, look, when}
-use Rattle.osservice.specs.Callers.{by_task, holding_checks}
-use Rattle.osservice.specs.Returning.{answers, asks, returns}
+use Rattle.osservice.specs.{Callers.by_task, Callers.holding_checks, Returning.answers, Returning.asks, Returning.returns}
 use Rattle.osacts.specs.Seen.{Seen, is_at_limit, is_this_core}
 use Rattle.osservice_tasks.specs.Tasks.{activates, ends}
 

@@ -1,16 +1,13 @@
 //! ChainTask.
 
 ghost use Rattle.std.specs.Prelude.{◌≡◌, ◌<◌, IsTrue, false};
-ghost use Rattle.osbase.specs.declared.limits.TheConstants.{CORES};
-ghost use Rattle.osbase.specs.Objects.{task_object};
-ghost use Rattle.osbase.specs.Phases.{is_before_live};
+ghost use Rattle.osbase.specs.{declared.limits.TheConstants.CORES, Objects.task_object, Phases.is_before_live};
 ghost use Rattle.osplan.specs.Objects.{may_name};
 ghost use Rattle.osjobs.specs.Priorities.{is_own_runner};
 ghost use Rattle.osstate.specs.Does.{service_entries, service_marks};
 ghost use Rattle.osservice.specs.Terms.{MayAct, MayOperate, MayServe, Offered};
 ghost use Rattle.oschain.specs.Chaining.{chain_acts, chains, chains_across, chains_here, chains_if, chains_to, ends_caller, exceeds_limit, resumes};
-ghost use Rattle.osacts.specs.Runs.{seen_in};
-ghost use Rattle.osacts.specs.Steps.{Steps};
+ghost use Rattle.osacts.specs.{Runs.seen_in, Steps.Steps};
 
 use osbase::{Mark, RemoteCall, Runner, ServiceId, Status, TaskRef};
 use oscript::Op;

@@ -2,26 +2,14 @@
 use Rattle.std.proofs.Common.{◌≡◌, ℕ, true, Option, Some, None, is_some, option_map, filter, List, [], ◌∷◌, get_or, refl, ap, sym, ◌∙◌}
 use Rattle.std.specs.Option.{option_map_or}
 use Rattle.std.proofs.lemmas.Bool.{false≢true}
-use Rattle.osbase.specs.declared.references.AlarmRef.{AlarmRef}
-use Rattle.osbase.specs.declared.references.CounterRef.{CounterRef}
-use Rattle.osbase.specs.History.{History, Entry}
+use Rattle.osbase.specs.{declared.references.AlarmRef.AlarmRef, declared.references.CounterRef.CounterRef, History.History, History.Entry, Objects.alarm_object, Objects.counter_object}
 use Rattle.osbase.specs.Counting.{alarm_of, counts_of, counts_to, is_due, is_in_use, left_of, one_count_more}
-use Rattle.osbase.specs.Objects.{alarm_object, counter_object}
-use Rattle.osplan.specs.declared.plans.Alarm.{Alarm as AlarmValue}
-use Rattle.osplan.specs.declared.plans.Core.{Core}
-use Rattle.osplan.specs.Clocked.{are_clocks_within}
-use Rattle.osplan.specs.Objects.{is_own_object}
-use Rattle.osplan.specs.View.{own_alarm}
-use Rattle.oscount.specs.declared.alarms.Alarm.{Alarm}
-use Rattle.oscount.specs.declared.counters.Counter.{Counter}
-use Rattle.oscount.specs.Clocks.{counts_until, is_due_next}
+use Rattle.osplan.specs.{declared.plans.Alarm.Alarm as AlarmValue, declared.plans.Core.Core, Clocked.are_clocks_within, Objects.is_own_object, View.own_alarm}
+use Rattle.oscount.specs.{declared.alarms.Alarm.Alarm, declared.counters.Counter.Counter, Clocks.counts_until, Clocks.is_due_next}
 use Rattle.oscount.proofs.Expiries.{in-use, left-is, next-due}
 use Rattle.osclock.specs.Clocks.{AreClocks, ClockState, alarm_in, alarm_refs, are_settings_granted, clocks_by, clocks_of, counter_for, counter_in, counts_to_by, counts_to_in, counts_to_value_by, counts_to_value_in, due_by, due_in, is_attached, is_due_by, is_due_in, is_in_use_by, is_used, left_by, left_in, max_of, no_counter, unset, value_by}
 use Rattle.osattached.proofs.Members.{kept-same}
-use Rattle.osclock.proofs.Attached.{attached-counter, attached-own}
-use Rattle.osclock.proofs.Bounds.{list-at}
-use Rattle.osclock.proofs.Places.{alarm-some}
-use Rattle.osclock.proofs.Granted.{granted}
+use Rattle.osclock.proofs.{Attached.attached-counter, Attached.attached-own, Bounds.list-at, Places.alarm-some, Granted.granted}
 use Rattle.osclock.proofs.Law.{after, alarm-at, attached, counter-at, read}
 
 -- The clocks after an entry are clocks again.

@@ -1,18 +1,11 @@
 -- What holds of the alarms of a counter.
 use Rattle.std.proofs.Common.{◌≡◌, Bool, true, All, Option, filter, length, ap, sym, ◌∙◌}
-use Rattle.std.specs.List.{list_all}
-use Rattle.std.specs.Option.{option_map_or}
-use Rattle.osbase.specs.declared.references.AlarmRef.{AlarmRef}
-use Rattle.osbase.specs.declared.references.CounterRef.{CounterRef}
-use Rattle.osbase.specs.Objects.{alarm_object}
-use Rattle.osplan.specs.declared.plans.Alarm.{Alarm as AlarmValue}
-use Rattle.osplan.specs.declared.plans.Core.{Core}
-use Rattle.osplan.specs.Objects.{is_own_object}
+use Rattle.std.specs.{List.list_all, Option.option_map_or}
+use Rattle.osbase.specs.{declared.references.AlarmRef.AlarmRef, declared.references.CounterRef.CounterRef, Objects.alarm_object}
+use Rattle.osplan.specs.{declared.plans.Alarm.Alarm as AlarmValue, declared.plans.Core.Core, Objects.is_own_object}
 use Rattle.osplan.proofs.Tests.{all-filter}
-use Rattle.osattached.proofs.Members.{kept-all, kept-passes, stands}
-use Rattle.osattached.proofs.Own.{goes-own}
+use Rattle.osattached.proofs.{Members.kept-all, Members.kept-passes, Members.stands, Own.goes-own, Ranges.length-table}
 use Rattle.osclock.proofs.Places.{placed}
-use Rattle.osattached.proofs.Ranges.{length-table}
 use Rattle.osclock.specs.Clocks.{ClockState, alarm_family, alarm_ref, alarm_refs, attached_to, counter_for, counter_in, is_attached, max_for, max_of, no_counter}
 
 pub attached-own : (core : Core) (c : CounterRef) (a : AlarmRef) → is_attached core c a ≡ true → is_own_object core (alarm_object a) ≡ true

@@ -1,20 +1,12 @@
 -- The clocks of a core that counted nothing yet.
 use Rattle.std.proofs.Common.{◌≡◌, ℕ, ◌+◌, Option, Some, None, List, [], length, map, replicate, refl, ap, sym, ◌∙◌, arith}
-use Rattle.std.specs.List.{slice_get}
-use Rattle.std.specs.Option.{option_map_or}
+use Rattle.std.specs.{List.slice_get, Option.option_map_or}
 use Rattle.std.proofs.lemmas.Bool.{cond-true}
-use Rattle.osbase.specs.declared.references.AlarmRef.{AlarmRef}
-use Rattle.osbase.specs.History.{same_core}
+use Rattle.osbase.specs.{declared.references.AlarmRef.AlarmRef, History.same_core}
 use Rattle.osbase.proofs.Same.{same_core-refl}
-use Rattle.osplan.specs.declared.plans.Alarm.{Alarm as AlarmValue}
-use Rattle.osplan.specs.declared.plans.Core.{Core}
-use Rattle.osplan.specs.declared.plans.Counter.{Counter as CounterValue}
-use Rattle.osplan.specs.View.{own_alarm}
-use Rattle.osplan.specs.Counters.{each_by}
+use Rattle.osplan.specs.{declared.plans.Alarm.Alarm as AlarmValue, declared.plans.Core.Core, declared.plans.Counter.Counter as CounterValue, View.own_alarm, Counters.each_by}
 use Rattle.osattached.proofs.Ranges.{listed, repeated}
-use Rattle.oscount.specs.declared.alarms.Alarm.{Alarm}
-use Rattle.oscount.specs.declared.counters.Counter.{Counter}
-use Rattle.oscount.specs.Clocks.{counter_at}
+use Rattle.oscount.specs.{declared.alarms.Alarm.Alarm, declared.counters.Counter.Counter, Clocks.counter_at}
 use Rattle.osclock.specs.Clocks.{ClockState, alarm_by, alarm_family, alarm_ref, alarm_refs, clocks_of, counter_by, counter_ref, unset}
 use Rattle.osclock.proofs.Law.{both, read}
 

@@ -1,35 +1,18 @@
 -- What holds of the clocks of a core within its limits.
 use Rattle.std.proofs.Common.{◌≡◌, ℕ, suc, ◌+◌, ◌-◌, ◌<◌, ◌≤◌, ◌^◌, ◌%◌, Bool, true, false, cond, ◌&&◌, nat_le, All, IfSome, Option, Some, None, List, [], length, refl, ap, sym, subst, ◌∙◌, arith, get_or}
-use Rattle.std.specs.List.{slice_get}
-use Rattle.std.specs.Option.{option_map_or}
-use Rattle.std.proofs.Math.Nat.{mod-eq_of_lt, mod-lt}
-use Rattle.std.proofs.lemmas.Bool.{and_parts, leb-true}
-use Rattle.std.proofs.lemmas.List.Elements.{All-same}
-use Rattle.osbase.specs.declared.references.AlarmRef.{AlarmRef}
-use Rattle.osbase.specs.declared.references.CounterRef.{CounterRef}
+use Rattle.std.specs.{List.slice_get, Option.option_map_or}
+use Rattle.std.proofs.{Math.Nat.mod-eq_of_lt, Math.Nat.mod-lt, lemmas.Bool.and_parts, lemmas.Bool.leb-true, lemmas.List.Elements.All-same}
+use Rattle.osbase.specs.{declared.references.AlarmRef.AlarmRef, declared.references.CounterRef.CounterRef, Objects.alarm_object, Objects.counter_object, declared.limits.TheConstants.COUNTERS}
 use Rattle.osbase.specs.Counting.{AlarmSetting, alarm_of, counts_left, counts_of, counts_to, is_in_turn, will_be_due}
-use Rattle.osbase.specs.Objects.{alarm_object, counter_object}
-use Rattle.osplan.specs.declared.plans.Alarm.{Alarm as AlarmValue}
-use Rattle.osplan.specs.declared.plans.Core.{Core}
-use Rattle.osplan.specs.declared.plans.Counter.{Counter as CounterValue}
-use Rattle.osplan.specs.Clocked.{are_clocks_within}
-use Rattle.osplan.specs.Objects.{is_own_object}
-use Rattle.osplan.specs.View.{own_alarm}
-use Rattle.osplan.proofs.Clocked.{clock-parts}
+use Rattle.osplan.specs.{declared.plans.Alarm.Alarm as AlarmValue, declared.plans.Core.Core, declared.plans.Counter.Counter as CounterValue, Clocked.are_clocks_within, Objects.is_own_object, View.own_alarm}
+use Rattle.osplan.proofs.{Clocked.clock-parts, Counters.counter-is, Counters.counter-place}
 use Rattle.osbase.proofs.Places.{passes-at}
-use Rattle.osbase.specs.declared.limits.TheConstants.{COUNTERS}
-use Rattle.osattached.proofs.Members.{list-at as own-list}
-use Rattle.osattached.proofs.Own.{own-inside, those-inside}
-use Rattle.osplan.proofs.Counters.{counter-is, counter-place}
-use Rattle.osattached.proofs.Ranges.{length-table}
-use Rattle.oscount.specs.declared.alarms.Alarm.{Alarm}
-use Rattle.oscount.specs.declared.alarms.Expiry.{Expiry}
-use Rattle.oscount.specs.declared.counters.Counter.{Counter}
-use Rattle.oscount.specs.Clocks.{advanced, counter_at, expiry_at}
-use Rattle.osclock.specs.Clocks.{AreClocks, ClockState, IsBounded, alarm_by, alarm_family, alarm_in, alarm_ref, attached_to, counter_by, counter_for, counter_in, counter_ref, max_for, max_of, no_counter, unset}
-use Rattle.osclock.proofs.Attached.{attached-all, attached-max, attached-own}
+use Rattle.osattached.proofs.{Members.list-at as own-list, Own.own-inside, Own.those-inside, Ranges.length-table}
+use Rattle.oscount.specs.{declared.alarms.Alarm.Alarm, declared.alarms.Expiry.Expiry, declared.counters.Counter.Counter}
+use Rattle.oscount.specs.Clocks.{IsExpiryOf, counter_at, expiry_at}
+use Rattle.osclock.specs.Clocks.{AreClocks, ClockState, IsBounded, IsCounterOf, IsWithinTurn, alarm_by, alarm_family, alarm_in, alarm_ref, attached_to, counter_by, counter_for, counter_in, counter_ref, max_for, max_of, no_counter, unset}
+use Rattle.osclock.proofs.{Attached.attached-all, Attached.attached-max, Attached.attached-own, Places.placed}
 use Rattle.osclock.proofs.Law.{alarm-at, attached, counter-at, read}
-use Rattle.osclock.proofs.Places.{placed}
 
 -- ---- limits
 
@@ -74,14 +57,9 @@ list-at core s c clocks own =
 
 -- ---- values
 
-pub record IsCounter (max : ℕ) (counter : Counter) : Type 0 where
-  pub is : counter.max ≡ max
-  pub few : counter.max < 2 ^ 31
-  pub value : counter.value ≤ counter.max
-
-pub counter-within : (core : Core) (s : ClockState) (c : CounterRef) → AreClocks core s → is_own_object core (counter_object c) ≡ true → IsCounter (max_of core c) (counter_in c s)
+pub counter-within : (core : Core) (s : ClockState) (c : CounterRef) → AreClocks core s → is_own_object core (counter_object c) ≡ true → IsCounterOf (max_of core c) (counter_in c s)
 counter-within core s c clocks own =
-    subst (IsCounter (max_of core c)) (sym (ap (counter_in c) clocks.is ∙ counter-at core c clocks.history own)) (record { is = refl; few = max-few core c clocks.within own; value = omega (arith, below) })
+    subst (IsCounterOf (max_of core c)) (sym (ap (counter_in c) clocks.is ∙ counter-at core c clocks.history own)) (record { max = refl; within = record { max = max-few core c clocks.within own; value = omega (arith, below) } })
   where
     below : counts_of c clocks.history % suc (max_of core c) < suc (max_of core c)
     below = mod-lt (counts_of c clocks.history) (omega arith)
@@ -92,25 +70,28 @@ turn-within max value start =
     let less : (start + max - value) % suc max < suc max = mod-lt (start + max - value) (omega arith) in
     omega (arith, less)
 
+pub counts-within : (max value start : ℕ) → IsWithinTurn max (counts_to max value start)
+counts-within max value start = record { later = omega arith; turn = turn-within max value start }
+
 -- the counter of an own alarm
-pub counter-of : (core : Core) (s : ClockState) (a : AlarmRef) → AreClocks core s → is_own_object core (alarm_object a) ≡ true → IsCounter (max_for core a) (counter_for core a s)
+pub counter-of : (core : Core) (s : ClockState) (a : AlarmRef) → AreClocks core s → is_own_object core (alarm_object a) ≡ true → IsCounterOf (max_for core a) (counter_for core a s)
 counter-of core s a clocks own = by (own_alarm core a) refl
   where
-    by : (o : Option AlarmValue) → own_alarm core a ≡ o → IsCounter (option_map_or (λ (x : AlarmValue). max_of core x.counter) o 0) (option_map_or (λ (x : AlarmValue). counter_in x.counter s) o no_counter)
-    by None e = record { is = refl; few = omega arith; value = omega arith }
+    by : (o : Option AlarmValue) → own_alarm core a ≡ o → IsCounterOf (option_map_or (λ (x : AlarmValue). max_of core x.counter) o 0) (option_map_or (λ (x : AlarmValue). counter_in x.counter s) o no_counter)
+    by None e = record { max = refl; within = record { max = omega arith; value = omega arith } }
     by (Some x) e = counter-within core s x.counter clocks (attached core a x clocks.within e)
 
-bounded-at : (max count : ℕ) (x : Option AlarmSetting) → IfSome (expiry_at max count x) (λ e. (e.value ≤ max) × (e.cycle ≤ max))
+bounded-at : (max count : ℕ) (x : Option AlarmSetting) → IfSome (expiry_at max count x) (IsExpiryOf max)
 bounded-at max count None = tt
 bounded-at max count (Some x) = by (is_in_turn max x) (will_be_due x) refl
   where
     below : (count + counts_left x) % suc max < suc max
     below = mod-lt (count + counts_left x) (omega arith)
 
-    by : (turn due : Bool) → is_in_turn max x ≡ turn → IfSome {T = Expiry} (cond (turn && due) (Some (record { value = (count + counts_left x) % suc max; cycle = x.cycle })) None) (λ e. (e.value ≤ max) × (e.cycle ≤ max))
+    by : (turn due : Bool) → is_in_turn max x ≡ turn → IfSome {T = Expiry} (cond (turn && due) (Some (record { value = (count + counts_left x) % suc max; cycle = x.cycle })) None) (IsExpiryOf max)
     by false due e = tt
     by true false e = tt
-    by true true e = (omega (arith, below), leb-true x.cycle max (and_parts _ (nat_le x.cycle max) e).1)
+    by true true e = record { value = omega (arith, below); cycle = leb-true x.cycle max (and_parts _ (nat_le x.cycle max) e).1 }
 
 -- an own alarm's expiry is within its counter's values
 pub alarm-within : (core : Core) (s : ClockState) (a : AlarmRef) → AreClocks core s → is_own_object core (alarm_object a) ≡ true → IsBounded (max_for core a) (alarm_in a s)
@@ -120,14 +101,6 @@ alarm-within core s a clocks own =
     by : (o : Option AlarmValue) → IsBounded (option_map_or (λ (x : AlarmValue). max_of core x.counter) o 0) (option_map_or (read core a clocks.history) o unset)
     by None = tt
     by (Some x) = bounded-at (max_of core x.counter) (counts_of x.counter clocks.history) (alarm_of x.counter a clocks.history)
-
--- the next value is one of the counter's own
-pub next-within : (counter : Counter) → counter.value ≤ counter.max → (advanced counter).value ≤ counter.max
-next-within counter value = by (nat_le (suc counter.value) counter.max) refl
-  where
-    by : (b : Bool) → nat_le (suc counter.value) counter.max ≡ b → cond b (suc counter.value) (suc counter.value - suc counter.max) ≤ counter.max
-    by true e = leb-true (suc counter.value) counter.max e
-    by false e = omega (arith, value)
 
 -- a counter whose value is one of its own stands for so many counts
 pub counter-stands : (counter : Counter) → counter.value ≤ counter.max → counter ≡ counter_at counter.max counter.value
@@ -147,12 +120,12 @@ attached-bounded core c t s counter list same clocks own value own_list =
     subst (λ (u : ClockState). All (λ (a : AlarmRef). IsBounded counter.max (alarm_in a u)) list) (sym same)
     (All-same (λ (a : AlarmRef). IsBounded counter.max (alarm_in a s)) list (attached_to core c) (own_list ∙ ap (λ (u : ClockState). get_or u.attached c.index []) same ∙ list-at core s c clocks own)
     (attached-all core c (λ (a : AlarmRef). IsBounded counter.max (alarm_in a s))
-    (λ a on. subst (λ (m : ℕ). IsBounded m (alarm_in a s)) (attached-max core c a on ∙ sym (ap (λ (k : Counter). k.max) value ∙ (counter-within core s c clocks own).is)) (alarm-within core s a clocks (attached-own core c a on)))))
+    (λ a on. subst (λ (m : ℕ). IsBounded m (alarm_in a s)) (attached-max core c a on ∙ sym (ap (λ (k : Counter). k.max) value ∙ (counter-within core s c clocks own).max)) (alarm-within core s a clocks (attached-own core c a on)))))
 
 -- and of a look-up of how much is left
 pub value-within : (max : ℕ) (alarm : Alarm) → IsBounded max alarm → IfSome alarm.expiry (λ x. x.value ≤ max)
 value-within max alarm bounded = by alarm.expiry bounded
   where
-    by : (o : Option Expiry) → IfSome o (λ x. (x.value ≤ max) × (x.cycle ≤ max)) → IfSome o (λ x. x.value ≤ max)
+    by : (o : Option Expiry) → IfSome o (IsExpiryOf max) → IfSome o (λ x. x.value ≤ max)
     by None h = tt
-    by (Some x) h = h.0
+    by (Some x) h = h.value

@@ -6,9 +6,7 @@ use Rattle.osbase.specs.declared.references.AlarmRef.{AlarmRef}
 use Rattle.osbase.specs.History.{History, Entry, Noted, CounterIncremented, AlarmSet, AlarmCancelled}
 use Rattle.osbase.specs.Counting.{AlarmSetting, alarm_after, alarm_of, is_granted, is_in_turn, one_count_more, same_alarm, same_counter}
 use Rattle.osbase.proofs.Same.{same_alarm-true}
-use Rattle.osplan.specs.declared.plans.Alarm.{Alarm as AlarmValue}
-use Rattle.osplan.specs.declared.plans.Core.{Core}
-use Rattle.osplan.specs.View.{own_alarm}
+use Rattle.osplan.specs.{declared.plans.Alarm.Alarm as AlarmValue, declared.plans.Core.Core, View.own_alarm}
 use Rattle.oscount.specs.Clocks.{setting_of}
 use Rattle.osclock.specs.Clocks.{are_settings_granted, is_setting_granted, max_for, max_of}
 

@@ -1,28 +1,17 @@
 -- What an entry does to the state is what it does to what is read off the history.
 use Rattle.std.proofs.Common.{◌≡◌, ℕ, suc, ◌<◌, ◌%◌, Bool, true, false, cond, ◌&&◌, Option, Some, None, is_some, option_map, List, ◌∷◌, length, refl, ap, sym, ◌∙◌, arith}
-use Rattle.std.specs.List.{slice_set}
-use Rattle.std.specs.Option.{option_map_or}
-use Rattle.std.proofs.Math.Nat.{mod-add-mod}
-use Rattle.std.proofs.lemmas.Bool.{cond-false, cond-true, false≢true}
-use Rattle.osbase.specs.declared.references.AlarmRef.{AlarmRef}
-use Rattle.osbase.specs.declared.references.CounterRef.{CounterRef}
+use Rattle.std.specs.{List.slice_set, Option.option_map_or}
+use Rattle.std.proofs.{Math.Nat.mod-add-mod, lemmas.Bool.cond-false, lemmas.Bool.cond-true, lemmas.Bool.false≢true}
+use Rattle.osbase.specs.{declared.references.AlarmRef.AlarmRef, declared.references.CounterRef.CounterRef, Objects.alarm_object, Objects.counter_object}
 use Rattle.osbase.specs.History.{History, Entry, Noted, CounterIncremented, AlarmSet, AlarmCancelled}
 use Rattle.osbase.specs.Counting.{AlarmSetting, alarm_of, counts_left, counts_of, is_in_turn, one_count_more, same_alarm, same_counter, will_be_due}
-use Rattle.osbase.specs.Objects.{alarm_object, counter_object}
-use Rattle.osbase.proofs.Same.{same_alarm-refl, same_counter-refl, same_counter-true}
-use Rattle.osbase.proofs.Tables.{table-at, table-set}
-use Rattle.osplan.specs.declared.plans.Alarm.{Alarm as AlarmValue}
-use Rattle.osplan.specs.declared.plans.Core.{Core}
-use Rattle.osplan.specs.Clocked.{are_clocks_within}
-use Rattle.osplan.specs.Objects.{is_own_object}
-use Rattle.osplan.specs.View.{own_alarm}
+use Rattle.osbase.proofs.{Same.same_alarm-refl, Same.same_counter-refl, Same.same_counter-true, Tables.table-at, Tables.table-set}
+use Rattle.osplan.specs.{declared.plans.Alarm.Alarm as AlarmValue, declared.plans.Core.Core, Clocked.are_clocks_within, Objects.is_own_object, View.own_alarm}
 use Rattle.osplan.proofs.Clocked.{clock-parts}
-use Rattle.osattached.proofs.Members.{stands}
+use Rattle.osattached.proofs.{Members.stands, Ranges.table-within}
 use Rattle.osattached.proofs.Own.{kept-there, none-changed, one-changed, refers, those-changed}
 use Rattle.osplan.proofs.Counters.{counter-apart, counter-other, counter-own, counter-place}
-use Rattle.osattached.proofs.Ranges.{table-within}
-use Rattle.oscount.specs.declared.counters.Counter.{Counter}
-use Rattle.oscount.specs.declared.alarms.Alarm.{Alarm}
+use Rattle.oscount.specs.{declared.counters.Counter.Counter, declared.alarms.Alarm.Alarm}
 use Rattle.oscount.specs.Clocks.{advanced, alarm_at, alarm_beyond, counter_at, setting_of}
 use Rattle.oscount.proofs.Expiries.{beyond, counted as next}
 use Rattle.osclock.specs.Clocks.{ClockState, alarm_by, alarm_family, alarm_in, alarm_ref, all_passed, clocks_by, clocks_of, counted, counter_by, counter_for, counter_in, counter_ref, due_after, is_attached, max_of, no_counter, unset, with_alarm}

@@ -1,11 +1,8 @@
 -- A core's own alarms, by place.
 use Rattle.std.proofs.Common.{◌≡◌, ℕ, ◌<◌, true, is_some, length, refl, ap}
 use Rattle.std.specs.List.{slice_get}
-use Rattle.osbase.specs.declared.references.AlarmRef.{AlarmRef}
-use Rattle.osbase.specs.Objects.{alarm_object, alarm_of, alarm_place}
-use Rattle.osplan.specs.declared.plans.Core.{Core}
-use Rattle.osplan.specs.Objects.{is_own_object}
-use Rattle.osplan.specs.View.{own_alarm}
+use Rattle.osbase.specs.{declared.references.AlarmRef.AlarmRef, Objects.alarm_object, Objects.alarm_of, Objects.alarm_place}
+use Rattle.osplan.specs.{declared.plans.Core.Core, Objects.is_own_object, View.own_alarm}
 pub use Rattle.osplan.proofs.Counters.{counter-own}
 use Rattle.osattached.proofs.Own.{Placed, own-is, own-some, own-there}
 use Rattle.osclock.specs.Clocks.{alarm_family, alarm_ref}

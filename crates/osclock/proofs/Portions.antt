@@ -1,8 +1,7 @@
 -- Each alarm is attached to at most one counter.
 use Rattle.std.proofs.Common.{◌≡◌, ℕ, ◌+◌, ◌≤◌, Bool, true, false, cond, filter, List, [], ◌∷◌, length, sum_by, refl, sym, ◌∙◌, arith}
 use Rattle.std.proofs.lemmas.List.Sums.{sum_by-cons, sum_by-le-sum_by}
-use Rattle.osbase.specs.declared.references.AlarmRef.{AlarmRef}
-use Rattle.osbase.specs.Sets.{numbers_from}
+use Rattle.osbase.specs.{declared.references.AlarmRef.AlarmRef, Sets.numbers_from}
 use Rattle.osplan.specs.declared.plans.Core.{Core}
 use Rattle.osattached.proofs.Members.{portions}
 use Rattle.osclock.specs.Clocks.{alarm_family, alarm_refs, attached_to, counter_ref}

@@ -1,30 +1,18 @@
 -- For how many counts of a counter none of its alarms is due.
 use Rattle.std.proofs.Common.{◌≡◌, ℕ, suc, ◌+◌, ◌-◌, ◌<◌, ◌≤◌, nat_eq, nat_lt, min, Bool, true, false, cond, All, IfSome, Option, Some, None, List, [], ◌∷◌, filter, length, take, get_or, refl, ap, sym, subst, ◌∙◌, arith}
-use Rattle.std.specs.List.{slice_set}
-use Rattle.std.specs.Option.{option_map_or}
-use Rattle.std.proofs.Math.Nat.{min-le_left, min-le_right}
+use Rattle.std.specs.{List.slice_set, Option.option_map_or}
+use Rattle.std.proofs.{Math.Nat.min-le_left, Math.Nat.min-le_right, lemmas.Bool.Decides.nat_tests}
 use Rattle.std.proofs.lemmas.Bool.{eq-eqb, eqb-true, false_from_ne_true, false≢true, ltb-false, ltb-true}
-use Rattle.std.proofs.lemmas.Bool.Decides.{nat_tests}
 use Rattle.std.proofs.lemmas.List.{get_or_past, get_or-set_other, get_or-set_same, set-get_or}
 use Rattle.std.proofs.lemmas.List.Elements.{All-head, All-more, All-nil, All-same, All-tail, All-weaker}
-use Rattle.osbase.specs.declared.references.AlarmRef.{AlarmRef}
-use Rattle.osbase.specs.declared.references.CounterRef.{CounterRef}
-use Rattle.osbase.specs.History.{Entry, Noted, CounterIncremented}
-use Rattle.osbase.specs.Objects.{counter_object}
-use Rattle.osplan.specs.declared.plans.Core.{Core}
-use Rattle.osplan.specs.Objects.{is_own_object}
-use Rattle.osbase.specs.declared.limits.TheConstants.{COUNTERS}
+use Rattle.osbase.specs.{declared.references.AlarmRef.AlarmRef, declared.references.CounterRef.CounterRef, History.Entry, History.Noted, History.CounterIncremented, Objects.counter_object, declared.limits.TheConstants.COUNTERS}
+use Rattle.osplan.specs.{declared.plans.Core.Core, Objects.is_own_object}
 use Rattle.osplan.proofs.Counters.{counter-other}
-use Rattle.oscount.specs.declared.alarms.Alarm.{Alarm}
-use Rattle.oscount.specs.declared.alarms.Expiry.{Expiry}
-use Rattle.oscount.specs.declared.counters.Counter.{Counter}
+use Rattle.oscount.specs.{declared.alarms.Alarm.Alarm, declared.alarms.Expiry.Expiry, declared.counters.Counter.Counter}
 use Rattle.oscount.specs.Clocks.{advanced, alarm_beyond, counts_until, due_again, expiry_beyond, is_due_next, is_next_value}
 use Rattle.osclock.specs.Clocks.{AreClocks, AreQuiet, ClockState, IsQuiet, alarm_in, all_beyond, attached_to, clocks_by, counter_in, counter_ref, is_attached, no_counter, unset}
-use Rattle.osclock.proofs.Attached.{attached-all, attached-own}
-use Rattle.osclock.proofs.Beyond.{counted-is}
+use Rattle.osclock.proofs.{Attached.attached-all, Attached.attached-own, Beyond.counted-is, Beyond.set-keeps, Law.after, Law.alarm-apart, Law.alarm-at, Places.counter-own}
 use Rattle.osclock.proofs.Bounds.{counter-few, counter-inside, list-at, lists-length}
-use Rattle.osclock.proofs.Law.{after, alarm-apart, alarm-at}
-use Rattle.osclock.proofs.Places.{counter-own}
 
 -- ---- one alarm
 
@@ -83,13 +71,22 @@ none-passed alarms counts counter [] some quiet = refl
 none-passed alarms counts counter (a ∷ list) some quiet =
     rw (not-passed counts counter (get_or alarms a.index unset) some (All-head (IsQuietIn alarms counts counter) a list quiet), set-get_or alarms a.index unset) (none-passed alarms counts counter list some (All-tail (IsQuietIn alarms counts counter) a list quiet))
 
--- one alarm more
-pub quiet-more : (alarms : List Alarm) (counts more : ℕ) (counter : Counter) (list : List AlarmRef) (i : ℕ) (none : AlarmRef) → i < length list → All (IsQuietIn alarms counts counter) (take i list) → IsQuietIn alarms more counter (get_or list i none)
-    → All (IsQuietIn alarms (min counts more) counter) (take (i + 1) list)
-quiet-more alarms counts more counter list i none inside before here =
-    All-more (IsQuietIn alarms (min counts more) counter) list i none inside
-    (All-weaker (IsQuietIn alarms counts counter) (IsQuietIn alarms (min counts more) counter) (λ a. lesser-quiet (min counts more) counts counter (get_or alarms a.index unset) (min-le_left counts more)) (take i list) before)
-    (lesser-quiet (min counts more) more counter (get_or alarms (get_or list i none).index unset) (min-le_right counts more) here)
+-- one alarm more is taken beyond the counter's value
+pub quiet-more : (alarms : List Alarm) (counts more : ℕ) (counter : Counter) (list : List AlarmRef) (i : ℕ) (none : AlarmRef) (alarm : Alarm) → i < length list → (get_or list i none).index < length alarms → All (IsQuietIn alarms counts counter) (take i list) → IsQuiet more counter alarm
+    → All (IsQuietIn (slice_set alarms (get_or list i none).index alarm) (min counts more) counter) (take (i + 1) list)
+quiet-more alarms counts more counter list i none alarm inside known before quiet =
+    All-more IsQuietThen list i none inside
+    (All-weaker (IsQuietIn alarms counts counter) IsQuietThen (λ a was. set-keeps (IsQuiet (min counts more) counter) alarms place alarm known here a.index (lesser-quiet (min counts more) counts counter (get_or alarms a.index unset) (min-le_left counts more) was)) (take i list) before)
+    (rw (get_or-set_same alarms place alarm unset known) here)
+  where
+    place : ℕ
+    place = (get_or list i none).index
+
+    IsQuietThen : AlarmRef → Type 0
+    IsQuietThen a = IsQuietIn (slice_set alarms place alarm) (min counts more) counter a
+
+    here : IsQuiet (min counts more) counter alarm
+    here = lesser-quiet (min counts more) more counter alarm (min-le_right counts more) quiet
 
 -- ---- all alarms
 

@@ -2,21 +2,12 @@
 use Rattle.std.proofs.Common.{◌≡◌, ℕ, suc, ◌<◌, ◌≤◌, true, Option, Some, None, is_some, refl, ap, sym, ◌∙◌, arith}
 use Rattle.std.specs.Option.{option_map_or}
 use Rattle.std.proofs.lemmas.Bool.{false≢true}
-use Rattle.osbase.specs.declared.references.AlarmRef.{AlarmRef}
-use Rattle.osbase.specs.History.{same_core}
-use Rattle.osplan.specs.declared.plans.Alarm.{Alarm}
-use Rattle.osplan.specs.declared.plans.AlarmStart.{AlarmStart}
-use Rattle.osplan.specs.declared.plans.Core.{Core}
-use Rattle.osplan.specs.declared.plans.Counter.{Counter}
-use Rattle.osplan.specs.Clocked.{are_clocks_within}
-use Rattle.osplan.specs.Limits.{alarm_sizes, is_alarm_within}
-use Rattle.osplan.specs.View.{own_alarm, own_counter}
-use Rattle.osplan.proofs.Clocked.{clock-parts, start-bounds}
-use Rattle.osbase.proofs.Places.{some-at}
+use Rattle.osbase.specs.{declared.references.AlarmRef.AlarmRef, History.same_core}
+use Rattle.osplan.specs.{declared.plans.Alarm.Alarm, declared.plans.AlarmStart.AlarmStart, declared.plans.Core.Core, declared.plans.Counter.Counter, Clocked.are_clocks_within, Limits.alarm_sizes, Limits.is_alarm_within, View.own_alarm, View.own_counter}
+use Rattle.osplan.proofs.{Clocked.clock-parts, Clocked.start-bounds, Counters.counter-is, Counters.counter-place}
+use Rattle.osbase.proofs.{Places.some-at, Places.own-passes}
 use Rattle.osclock.specs.Clocks.{max_for, max_of}
 use Rattle.osclock.proofs.Law.{attached}
-use Rattle.osbase.proofs.Places.{own-passes}
-use Rattle.osplan.proofs.Counters.{counter-is, counter-place}
 
 -- What setting an alarm asks of its first count and its cycle.
 pub record StartsWithin (max : ℕ) (auto : AlarmStart) : Type 0 where

@@ -1,26 +1,15 @@
 -- The counters and alarms of a core: what is read off its history, and what each entry does to it.
-use Rattle.std.specs.Prelude.{◌≡◌, ℕ, Bool, true, if◌then◌else◌, IsTrue, IfSome, ◌≤◌, ◌-◌, All, is_some, Option, Some, None, List, [], filter, length, map, option_map, slice_index_or}
-use Rattle.std.specs.List.{list_all, slice_set}
-use Rattle.std.specs.Option.{option_map_or}
-use Rattle.osbase.specs.declared.references.AlarmRef.{AlarmRef}
-use Rattle.osbase.specs.declared.references.CounterRef.{CounterRef}
+use Rattle.std.specs.Prelude.{◌≡◌, ℕ, suc, Bool, true, if◌then◌else◌, IsTrue, IfSome, ◌<◌, ◌≤◌, ◌-◌, All, is_some, Option, Some, None, List, [], filter, length, map, option_map, slice_index_or}
+use Rattle.std.specs.{List.list_all, List.slice_set, Option.option_map_or}
+use Rattle.osbase.specs.{declared.objects.Object.Object, declared.references.AlarmRef.AlarmRef, declared.references.CounterRef.CounterRef, Objects.alarm_object, Objects.counter_object, Sets.numbers_from}
 use Rattle.osbase.specs.History.{History, Entry, Noted, CounterIncremented, AlarmSet, AlarmCancelled}
 use Rattle.osbase.specs.Counting.{AlarmSetting, alarm_of, counts_of, counts_to, is_due, is_in_turn, is_in_use, left_of, one_count_more, value_after}
-use Rattle.osbase.specs.Objects.{alarm_object, counter_object}
-use Rattle.osbase.specs.Sets.{numbers_from}
-use Rattle.osplan.specs.declared.plans.Alarm.{Alarm as AlarmValue}
-use Rattle.osplan.specs.declared.plans.Core.{Core}
-use Rattle.osplan.specs.declared.plans.Counter.{Counter as CounterValue}
-use Rattle.osplan.specs.Clocked.{are_clocks_within}
-use Rattle.osplan.specs.Objects.{is_own_object}
-use Rattle.osplan.specs.View.{own_alarm, own_counter}
+use Rattle.osplan.specs.{declared.plans.Alarm.Alarm as AlarmValue, declared.plans.Core.Core, declared.plans.Counter.Counter as CounterValue, Clocked.are_clocks_within, Objects.is_own_object, View.own_alarm, View.own_counter, Counters.each_by}
 pub use Rattle.osplan.specs.Counters.{counter_ref}
 use Rattle.osattached.specs.Attached.{all_changed, each_changed}
 use Rattle.osbase.specs.Families.{Family, goes_by, refs_of, those_by}
-use Rattle.osplan.specs.Counters.{each_by}
-use Rattle.oscount.specs.declared.counters.Counter.{Counter}
-use Rattle.oscount.specs.declared.alarms.Alarm.{Alarm}
-use Rattle.oscount.specs.Clocks.{advanced, alarm_at, alarm_beyond, counter_at, counts_until, is_due_next, setting_of}
+use Rattle.oscount.specs.{declared.counters.Counter.Counter, declared.alarms.Alarm.Alarm}
+use Rattle.oscount.specs.Clocks.{IsCounter, IsExpiryOf, advanced, alarm_at, alarm_beyond, counter_at, counts_until, is_due_next, setting_of}
 
 -- The value of each counter, when each alarm is due next, and the alarms of each counter, in index order.
 pub record ClockState : Type 0 where
@@ -171,15 +160,35 @@ counts_to_value_in c start s = counts_to (counter_in c s).max (counter_in c s).v
 abbrev pub counts_to_in : Core → AlarmRef → ℕ → ClockState → ℕ
 counts_to_in core a start s = counts_to (counter_for core a s).max (counter_for core a s).value start
 
--- The value at which an alarm is due is one of its counter's, and so is its cycle.
+-- A counter of a configuration that has this greatest value.
+pub record IsCounterOf (most : ℕ) (counter : Counter) : Type 0 where
+  pub max : counter.max ≡ most
+  pub within : IsCounter counter
+
+-- If an alarm is in use, its expiry is one on a counter with this greatest value.
 abbrev pub IsBounded : ℕ → Alarm → Type 0
-IsBounded max alarm = IfSome alarm.expiry (λ x. (x.value ≤ max) × (x.cycle ≤ max))
+IsBounded max alarm = IfSome alarm.expiry (IsExpiryOf max)
+
+-- The alarms that are attached to a counter with this greatest value: each has its place, and is bounded.
+pub record AreAlarmsOf (max : ℕ) (attached : List AlarmRef) (alarms : List Alarm) : Type 0 where
+  pub places : All (λ (a : AlarmRef). a.index < length alarms) attached
+  pub bounded : All (λ (a : AlarmRef). IsBounded max (slice_index_or alarms a.index unset)) attached
+
+-- So many counts are at least one, and at most a full turn of a counter with this greatest value.
+pub record IsWithinTurn (max counts : ℕ) : Type 0 where
+  pub later : 0 < counts
+  pub turn : counts ≤ suc max
 
 -- The clocks of a core within its limits, for what was counted: so each value is at most its counter's greatest. [own]
 pub record AreClocks (core : Core) (s : ClockState) : Type 0 where
   pub within : IsTrue (are_clocks_within core)
   pub history : History
   pub is : s ≡ clocks_of core history
+
+-- The clocks of a core, and this counter or alarm is one of the core's own.
+pub record AreClocksWith (core : Core) (object : Object) (s : ClockState) : Type 0 where
+  pub clocks : AreClocks core s
+  pub own : IsTrue (is_own_object core object)
 
 -- For so many counts of its counter an alarm is not due.
 abbrev pub IsQuiet : ℕ → Counter → Alarm → Type 0

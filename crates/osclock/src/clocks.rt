@@ -1,16 +1,12 @@
 //! The counters and alarms of a core.
 
-ghost use Rattle.std.specs.Prelude.{◌≡◌, ◌<◌, ◌≤◌, ◌^◌, suc, [], All, IsTrue, filter, length, map, replicate, slice_index_or};
+ghost use Rattle.std.specs.Prelude.{◌≡◌, ◌<◌, ◌≤◌, [], All, IsTrue, filter, length, map, replicate, slice_index_or};
 ghost use Rattle.std.specs.List.{slice_set};
-ghost use Rattle.osbase.specs.declared.references.AlarmRef.{AlarmRef};
+ghost use Rattle.osbase.specs.{declared.references.AlarmRef.AlarmRef, Counting.is_in_turn, Objects.alarm_object, Objects.counter_object};
 ghost use Rattle.osbase.specs.History.{Noted, CounterIncremented, AlarmSet, AlarmCancelled};
-ghost use Rattle.osbase.specs.Objects.{alarm_object, counter_object};
-ghost use Rattle.osplan.specs.declared.plans.Counter.{Counter as CounterValue};
-ghost use Rattle.osplan.specs.Clocked.{are_clocks_within};
-ghost use Rattle.osplan.specs.Objects.{is_own_object};
-ghost use Rattle.oscount.specs.Clocks.{counter_at, is_due_next};
-ghost use Rattle.osplan.specs.Counters.{IsObject, each_by};
-ghost use Rattle.osclock.specs.Clocks.{AreClocks, IsBounded, IsQuiet, alarm_family, alarm_in, alarm_refs, all_beyond, clocks_by, clocks_of, counter_for, counter_in, counts_to_in, counts_to_value_in, due_after, due_in, is_used, left_in, max_for, max_of, unset};
+ghost use Rattle.osplan.specs.{declared.plans.Counter.Counter as CounterValue, Clocked.are_clocks_within, Counters.IsObject, Counters.each_by};
+ghost use Rattle.oscount.specs.Clocks.{IsCounter, advanced, counter_at, is_due_next, setting_of};
+ghost use Rattle.osclock.specs.Clocks.{AreAlarmsOf, AreClocksWith, IsBounded, IsCounterOf, IsQuiet, IsWithinTurn, alarm_family, alarm_in, alarm_refs, all_beyond, clocks_by, clocks_of, counter_for, counter_in, counts_to_in, counts_to_value_in, due_after, due_in, is_used, left_in, max_for, max_of, unset};
 
 use arrayvec::ArrayVec;
 use osattached::Attached;
@@ -59,8 +55,7 @@ impl Clocks {
     /// A counter of the core is incremented. Each of its alarms that expires by that expires again a cycle later, or is
     /// no longer in use (OSEK/VDX OS 2.2.3, section 9.1 and 9.2).
     pub fn count(&mut self, core: &Core, counter: CounterRef)
-        requires clocks { AreClocks core.now self.old }
-        requires own { IsTrue (is_own_object core.now (counter_object counter)) }
+        requires { AreClocksWith core.now (counter_object counter) self.old }
         ensures { self.new ≡ clocks_by core.now (Noted (CounterIncremented counter)) self.old }
     {
         let before = self.counter(counter);
@@ -73,19 +68,15 @@ impl Clocks {
             self.quiet[place] = quiet - 1;
         } else {
             let attached = self.attached.of(counter);
-            pass_alarms(&mut self.alarms, attached, before);
-            self.quiet[place] = quiet_counts(self.alarms.as_slice(), attached, after);
+            self.quiet[place] = pass_alarms(&mut self.alarms, attached, before, after);
         }
     }
 
     /// An alarm of the core is due after so many counts of its counter, at most a full turn, and again after each cycle
     /// (OSEK/VDX OS 2.2.3, section 13.6.3.3 and 13.6.3.4).
     pub fn set_alarm(&mut self, core: &Core, alarm: AlarmRef, first: u32, cycle: u32)
-        requires clocks { AreClocks core.now self.old }
-        requires own { IsTrue (is_own_object core.now (alarm_object alarm)) }
-        requires later { 0 < first }
-        requires turn { first ≤ suc (max_for core.now alarm) }
-        requires cycle { cycle ≤ max_for core.now alarm }
+        requires clocks { AreClocksWith core.now (alarm_object alarm) self.old }
+        requires granted { IsTrue (is_in_turn (max_for core.now alarm) (setting_of first cycle)) }
         ensures { self.new ≡ clocks_by core.now (Noted (AlarmSet alarm first cycle)) self.old }
     {
         let due = due_after(self.counter_for(core, alarm), first, cycle);
@@ -96,8 +87,7 @@ impl Clocks {
 
     /// An alarm of the core is not in use any longer (OSEK/VDX OS 2.2.3, section 13.6.3.5).
     pub fn cancel_alarm(&mut self, core: &Core, alarm: AlarmRef)
-        requires clocks { AreClocks core.now self.old }
-        requires own { IsTrue (is_own_object core.now (alarm_object alarm)) }
+        requires { AreClocksWith core.now (alarm_object alarm) self.old }
         ensures { self.new ≡ clocks_by core.now (Noted (AlarmCancelled alarm)) self.old }
     {
         cancel(&mut self.alarms, alarm);
@@ -122,8 +112,7 @@ impl Clocks {
     /// How many counts are left until an alarm of the core is due; none for one that is not in use
     /// (OSEK/VDX OS 2.2.3, section 13.6.3.2).
     pub fn left(&self, core: &Core, alarm: AlarmRef) -> Option<u32>
-        requires clocks { AreClocks core.now self.now }
-        requires own { IsTrue (is_own_object core.now (alarm_object alarm)) }
+        requires { AreClocksWith core.now (alarm_object alarm) self.now }
         ensures { result ≡ left_in core.now alarm self.now }
     {
         self.alarm(alarm).left(self.counter_for(core, alarm))
@@ -132,12 +121,10 @@ impl Clocks {
     /// After how many counts the counter of an alarm of the core has this value; the value that it has is a full turn away
     /// (OSEK/VDX OS 2.2.3, section 13.6.3.4).
     pub fn counts_to(&self, core: &Core, alarm: AlarmRef, start: u32) -> u32
-        requires clocks { AreClocks core.now self.now }
-        requires own { IsTrue (is_own_object core.now (alarm_object alarm)) }
+        requires clocks { AreClocksWith core.now (alarm_object alarm) self.now }
         requires turn { start ≤ max_for core.now alarm }
         ensures state { result ≡ counts_to_in core.now alarm start self.now }
-        ensures later { 0 < result }
-        ensures turn { result ≤ suc (max_for core.now alarm) }
+        ensures turn { IsWithinTurn (max_for core.now alarm) result }
     {
         oscount::counts_to(self.counter_for(core, alarm), start)
     }
@@ -145,20 +132,17 @@ impl Clocks {
     /// After how many counts a counter of the core has this value; the value that it has is a full turn away (AUTOSAR SWS
     /// OS 4.x, SWS_Os_00351).
     pub fn counts_to_value(&self, core: &Core, counter: CounterRef, start: u32) -> u32
-        requires clocks { AreClocks core.now self.now }
-        requires own { IsTrue (is_own_object core.now (counter_object counter)) }
+        requires clocks { AreClocksWith core.now (counter_object counter) self.now }
         requires turn { start ≤ max_of core.now counter }
         ensures state { result ≡ counts_to_value_in counter start self.now }
-        ensures later { 0 < result }
-        ensures turn { result ≤ suc (max_of core.now counter) }
+        ensures turn { IsWithinTurn (max_of core.now counter) result }
     {
         oscount::counts_to(self.counter(counter), start)
     }
 
     /// The alarms of a counter of the core that are due at its next count (OSEK/VDX OS 2.2.3, section 9.2).
     pub fn due_next(&self, core: &Core, counter: CounterRef) -> AlarmList
-        requires clocks { AreClocks core.now self.now }
-        requires own { IsTrue (is_own_object core.now (counter_object counter)) }
+        requires { AreClocksWith core.now (counter_object counter) self.now }
         ensures { result.items ≡ due_in core.now counter self.now }
     {
         if self.quiet[usize::from(counter.index)] > 0 {
@@ -187,12 +171,9 @@ impl Clocks {
 
     // The counter of an alarm of the core.
     fn counter_for(&self, core: &Core, alarm: AlarmRef) -> Counter
-        requires clocks { AreClocks core.now self.now }
-        requires own { IsTrue (is_own_object core.now (alarm_object alarm)) }
+        requires { AreClocksWith core.now (alarm_object alarm) self.now }
         ensures state { result ≡ counter_for core.now alarm self.now }
-        ensures max { result.max ≡ max_for core.now alarm }
-        ensures few { result.max < 2 ^ 31 }
-        ensures value { result.value ≤ result.max }
+        ensures counter { IsCounterOf (max_for core.now alarm) result }
     {
         match own::alarm_of(core, alarm) {
             Some(own) => self.counter(own.counter),
@@ -250,40 +231,31 @@ fn set_counter(counters: &mut ArrayVec<Counter, COUNTERS>, counter: CounterRef, 
     counters.as_mut_slice()[usize::from(counter.index)] = value;
 }
 
-// Takes each of a counter's alarms beyond its value.
-fn pass_alarms(alarms: &mut ArrayVec<Alarm, ALARMS>, attached: &[AlarmRef], before: Counter)
-    requires max { before.max < 2 ^ 31 }
-    requires value { before.value ≤ before.max }
-    requires places { All (λ (a : AlarmRef). a.index < length alarms.old.items) attached.now }
-    requires bounded { All (λ (a : AlarmRef). IsBounded before.max (slice_index_or alarms.old.items a.index unset)) attached.now }
+// Takes each of a counter's alarms beyond its value, and finds for how many counts none of them is due then.
+fn pass_alarms(
+    alarms: &mut ArrayVec<Alarm, ALARMS>,
+    attached: &[AlarmRef],
+    before: Counter,
+    after: Counter,
+) -> u32
+    requires counter { IsCounter before }
+    requires next { after ≡ advanced before }
+    requires alarms { AreAlarmsOf before.max attached.now alarms.old.items }
     ensures state { alarms.new.items ≡ all_beyond before attached.now alarms.old.items }
-    ensures places { length alarms.new.items ≡ length alarms.old.items }
-    ensures bounded { All (λ (a : AlarmRef). IsBounded before.max (slice_index_or alarms.new.items a.index unset)) attached.now }
-{
-    for alarm in attached {
-        alarms.as_mut_slice()[usize::from(alarm.index)].advance(before);
-    }
-}
-
-// For how many counts none of a counter's alarms is due.
-fn quiet_counts(alarms: &[Alarm], attached: &[AlarmRef], counter: Counter) -> u32
-    requires max { counter.max < 2 ^ 31 }
-    requires value { counter.value ≤ counter.max }
-    requires places { All (λ (a : AlarmRef). a.index < length alarms.now) attached.now }
-    requires bounded { All (λ (a : AlarmRef). IsBounded counter.max (slice_index_or alarms.now a.index unset)) attached.now }
-    ensures { All (λ (a : AlarmRef). IsQuiet result counter (slice_index_or alarms.now a.index unset)) attached.now }
+    ensures quiet { All (λ (a : AlarmRef). IsQuiet result after (slice_index_or alarms.new.items a.index unset)) attached.now }
 {
     let mut quiet = u32::MAX;
     for alarm in attached {
-        quiet = quiet.min(counts_before(alarms[usize::from(alarm.index)], counter));
+        let slot = &mut alarms.as_mut_slice()[usize::from(alarm.index)];
+        slot.advance(before);
+        quiet = quiet.min(counts_before(*slot, after));
     }
     quiet
 }
 
 // For how many counts of its counter an alarm is not due.
 fn counts_before(alarm: Alarm, counter: Counter) -> u32
-    requires max { counter.max < 2 ^ 31 }
-    requires value { counter.value ≤ counter.max }
+    requires counter { IsCounter counter }
     requires bounded { IsBounded counter.max alarm }
     ensures { IsQuiet result counter alarm }
 {
@@ -295,8 +267,7 @@ fn counts_before(alarm: Alarm, counter: Counter) -> u32
 
 // Those of a counter's alarms that are due at its next count.
 fn due_alarms(alarms: &[Alarm], attached: &[AlarmRef], counter: Counter) -> AlarmList
-    requires max { counter.max < 2 ^ 31 }
-    requires value { counter.value ≤ counter.max }
+    requires counter { IsCounter counter }
     requires places { All (λ (a : AlarmRef). a.index < length alarms.now) attached.now }
     requires few { length attached.now ≤ ALARMS }
     ensures { result.items ≡ filter (λ (a : AlarmRef). is_due_next counter (slice_index_or alarms.now a.index unset)) attached.now }
@@ -312,11 +283,8 @@ fn due_alarms(alarms: &[Alarm], attached: &[AlarmRef], counter: Counter) -> Alar
 
 // An alarm that is due after so many counts from the counter's value.
 fn due_after(counter: Counter, first: u32, cycle: u32) -> Alarm
-    requires max { counter.max < 2 ^ 31 }
-    requires value { counter.value ≤ counter.max }
-    requires later { 0 < first }
-    requires turn { first ≤ suc counter.max }
-    requires cycle { cycle ≤ counter.max }
+    requires counter { IsCounter counter }
+    requires granted { IsTrue (is_in_turn counter.max (setting_of first cycle)) }
     ensures { result ≡ due_after counter first cycle }
 {
     let mut alarm = Alarm::new();

@@ -5,9 +5,8 @@ use Rattle.std.specs.Str.{bytes_eq}
 use Rattle.std.proofs.lemmas.Slice.Eq.{bytes_eq-Decides}
 use Rattle.clap.specs.Words.{Row, Text, subcommand_name_of, subcommand_rows_of}
 use Rattle.clap.specs.declared.parser.matches.ArgMatches.{ArgMatches}
-use Rattle.oscommand.specs.declared.jobs.Job.{Job}
+use Rattle.oscommand.specs.{declared.jobs.Job.Job, Entries.AreChecked, Entries.SaysJob, Entries.When}
 use Rattle.oscommand.specs.CommandLine.{HasEntries, excludes, has_items_and_order, subcommand_name}
-use Rattle.oscommand.specs.Entries.{AreChecked, SaysJob, When}
 
 -- a subcommand's name and its rows
 named_rows : {X A B : Type 0} (f : X → A) (g : X → B) (o : Option X) (a : A) (b : B) → option_map f o ≡ Some a

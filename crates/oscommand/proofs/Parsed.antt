@@ -2,21 +2,12 @@
 use Rattle.std.proofs.Common.{◌≡◌, ◌∙◌, ◌&&◌, ◌==◌, ℕ, zero, suc, Bool, cond, not, true, false, true≢false, refl, sym, arith, codes, List, [], ◌∷◌, ◌++◌, drop, length, Option, Some, None, is_some}
 use Rattle.std.proofs.lemmas.Bool.{ne_eqb}
 use Rattle.std.specs.Prelude.{⊤, IfSome, IsSomeAnd, encode_utf8, find, fold, option_and_then, option_map, slice_get}
-use Rattle.std.specs.Option.{option_map_or}
-use Rattle.std.specs.Str.{bytes_eq, chars}
-use Rattle.clap.specs.Facts.{explicit_source, parser_of_value}
+use Rattle.std.specs.{Option.option_map_or, Str.bytes_eq, Str.chars}
+use Rattle.clap.specs.{Facts.explicit_source, Facts.parser_of_value, Lexer.long_of, Lexer.short_of, Takes.is_given, Takes.value_passes, declared.builder.action.ArgAction.TheVariants.Help, declared.builder.action.ArgAction.TheVariants.Set, declared.builder.action.ArgAction.TheVariants.SetTrue, declared.builder.value_parser.Reading.Reading, declared.error.kind.ErrorKind.ErrorKind, declared.error.kind.ErrorKind.TheVariants.DisplayHelp, declared.error.kind.ErrorKind.TheVariants.InvalidSubcommand, declared.error.kind.ErrorKind.TheVariants.TooManyValues, declared.parser.matches.ValueSource.ValueSource, declared.parser.matches.ValueSource.TheVariants.CommandLine, declared.parser.matches.ValueSource.TheVariants.DefaultValue}
 use Rattle.clap.specs.Faults.{built_fault, bundle_fault, bundle_step_fault, check_fault, defaults_fault, entered_fault, flags_fault, flag_word_fault, level_fault, long_fault, option_fault, other_fault, positional_fault, react_fault, settle_fault, short_fault, step_fault, stray_fault, turn_fault, use_fault, walk_fault, word_fault}
 use Rattle.clap.specs.Kinds.{Kinds, check_kinds, or_else, value_kinds}
-use Rattle.clap.specs.Lexer.{long_of, short_of}
 use Rattle.clap.specs.Simple.{App, Shape, entered, label_of, names_of, rows_at}
-use Rattle.clap.specs.Takes.{is_given, value_passes}
 use Rattle.clap.specs.Walk.{Held, Names, Outcome, Row, Rule, Step, Text, Waiting, Walk, after_flag, after_step, answers_to, arg_by_id, arg_by_index, arg_by_long, arg_by_short, attached_value, bundle, bundle_met, bundle_step, done, finished, first_of, flag_met, has_long, has_row, has_short, idle, is_pending, long_met, long_or_other, more_values, next, nothing_held, option, option_met, option_word, plain, plain_word, positional, positional_held, reacted, reading_by, refused, rows_after, settled, settled_rows, short_met, short_or_plain, stop_after, subcommand, subcommand_met, subcommand_or_other, takes_several, takes_values, to_positional, trailing, used, used_by_id, value, waits, walk, walk_from, walked, walked_from, with_default, with_values, without, word_met}
-use Rattle.clap.specs.declared.builder.action.ArgAction.TheVariants.{Help, Set, SetTrue}
-use Rattle.clap.specs.declared.builder.value_parser.Reading.{Reading}
-use Rattle.clap.specs.declared.error.kind.ErrorKind.{ErrorKind}
-use Rattle.clap.specs.declared.error.kind.ErrorKind.TheVariants.{DisplayHelp, InvalidSubcommand, TooManyValues}
-use Rattle.clap.specs.declared.parser.matches.ValueSource.{ValueSource}
-use Rattle.clap.specs.declared.parser.matches.ValueSource.TheVariants.{CommandLine, DefaultValue}
 
 some_kind : (k : ErrorKind) (ks : Kinds) → k ∷ ks ≡ [] → ⊥
 some_kind k ks e = cc

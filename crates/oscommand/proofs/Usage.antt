@@ -1,17 +1,11 @@
 -- What the words of the program's command line give, where they have no fault.
 use Rattle.std.proofs.Common.{◌≡◌, ◌∙◌, ◌||◌, Bool, cond, not, true, false, true≢false, refl, ap, sym, inl, inr, codes, List, [], ◌∷◌, map}
-use Rattle.std.specs.Borrow.{Bor}
-use Rattle.std.specs.List.{list_any}
+use Rattle.std.specs.{Borrow.Bor, List.list_any, Str.bytes_eq}
 use Rattle.std.specs.Prelude.{⊤, IsSome, IsSomeAnd, Option, None, Some}
-use Rattle.std.specs.Str.{bytes_eq}
 use Rattle.std.proofs.lemmas.Slice.Eq.{bytes_eq-Decides}
-use Rattle.clap.specs.Faults.{check_fault, level_fault}
+use Rattle.clap.specs.{Faults.check_fault, Faults.level_fault, Takes.is_given, Walk.nothing_held, declared.error.kind.ErrorKind.ErrorKind, declared.builder.ValueParser.TheVariants.Unsigned}
 use Rattle.clap.specs.Simple.{Shape, built, built_leaf, filled, help_rule, rows_at, with_index}
-use Rattle.clap.specs.Takes.{is_given}
-use Rattle.clap.specs.Walk.{nothing_held}
 use Rattle.clap.specs.Words.{IsUnsignedIn, Row, Rule, Text, fault_of, same_text, subcommand_of}
-use Rattle.clap.specs.declared.error.kind.ErrorKind.{ErrorKind}
-use Rattle.clap.specs.declared.builder.ValueParser.TheVariants.{Unsigned}
 use Rattle.clap.proofs.ValueTestLemmas.{accepts-Accepts}
 use Rattle.oscommand.specs.CommandLine.{AreMailKinds, IsMailName, MailKinds, check_command, command_line, config_rule, core_rule, cut_command, group_command, groups_command, items_rule, log_rule, mail_rule, order_rule, replay_command, run_command, schedule_rule, stimuli_rule, threads_command, turns_rule}
 use Rattle.oscommand.specs.declared.jobs.TheConstants.{MOST_TURNS}

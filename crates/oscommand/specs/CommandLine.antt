@@ -1,23 +1,11 @@
 -- The program's command line, in the terms of `clap`. [own]
-use Rattle.std.specs.Borrow.{Bor}
+use Rattle.std.specs.{Borrow.Bor, Str.bytes_eq, Str.Parse.digits_value, Str.Parse.without_leading_plus}
 use Rattle.std.specs.Prelude.{◌≡◌, ◌⊎◌, ◌&&◌, ℕ, Bool, true, false, Option, Some, None, Result, List, [], ◌∷◌, codes, if◌then◌else◌, is_some, map}
-use Rattle.std.specs.Str.{bytes_eq}
-use Rattle.std.specs.Str.Parse.{digits_value, without_leading_plus}
-use Rattle.clap.specs.Kinds.{or_else}
+use Rattle.clap.specs.{Kinds.or_else, declared.error.Error.Error, declared.error.kind.ErrorKind.TheVariants.ArgumentConflict, declared.builder.ArgAction.TheVariants.Set, declared.builder.ArgAction.TheVariants.SetTrue, declared.builder.ValueParser.TheVariants.Names, declared.builder.ValueParser.TheVariants.Unsigned}
 use Rattle.clap.specs.Words.{App, FailsBy, Kinds, Row, Rule, fault_of, first_of, new_app, new_rule, subcommand_of, with_rule, with_subcommand}
-use Rattle.clap.specs.declared.error.Error.{Error}
-use Rattle.clap.specs.declared.error.kind.ErrorKind.TheVariants.{ArgumentConflict}
-use Rattle.clap.specs.declared.builder.ArgAction.TheVariants.{Set, SetTrue}
-use Rattle.clap.specs.declared.builder.ValueParser.TheVariants.{Names, Unsigned}
-use Rattle.osbase.specs.declared.messages.MailKind.{MailKind}
-use Rattle.osbase.specs.declared.messages.MailKind.TheVariants.{Ring, Locked}
-use Rattle.osbase.specs.declared.references.CoreId.{CoreId}
-use Rattle.oscommand.specs.declared.jobs.Job.{Job}
+use Rattle.osbase.specs.{declared.messages.MailKind.MailKind, declared.messages.MailKind.TheVariants.Ring, declared.messages.MailKind.TheVariants.Locked, declared.references.CoreId.CoreId}
+use Rattle.oscommand.specs.{declared.jobs.Job.Job, declared.jobs.Print.Print, declared.jobs.Print.TheVariants.Trace, declared.jobs.Print.TheVariants.Log, declared.jobs.Print.TheVariants.Order, declared.jobs.TheConstants.DEFAULT_TURNS, declared.jobs.TheConstants.MOST_TURNS, Jobs.path_in}
 use Rattle.oscommand.specs.declared.jobs.Job.TheVariants.{Run, Check, Cut, Groups, Group, Replay, Threads}
-use Rattle.oscommand.specs.declared.jobs.Print.{Print}
-use Rattle.oscommand.specs.declared.jobs.Print.TheVariants.{Trace, Log, Order}
-use Rattle.oscommand.specs.declared.jobs.TheConstants.{DEFAULT_TURNS, MOST_TURNS}
-use Rattle.oscommand.specs.Jobs.{path_in}
 
 abbrev pub config_rule : Rule
 config_rule = record (new_rule (codes "CFG")) { required = true }

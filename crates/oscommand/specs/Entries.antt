@@ -3,8 +3,7 @@ use Rattle.std.specs.Prelude.{◌≡◌, ℕ, Bool, true, false, Option, Some, N
 use Rattle.std.specs.Str.{bytes_eq}
 use Rattle.clap.specs.Words.{IsUnsignedIn, Row, first_of}
 use Rattle.oscommand.specs.CommandLine.{HasEntries, IsMailName, excludes, subcommand_name}
-use Rattle.oscommand.specs.declared.jobs.Job.{Job}
-use Rattle.oscommand.specs.declared.jobs.TheConstants.{MOST_TURNS}
+use Rattle.oscommand.specs.{declared.jobs.Job.Job, declared.jobs.TheConstants.MOST_TURNS}
 
 pub record HasRun (rows : List Row) : Type 0 where
   pub config : IsSome (first_of (codes "CFG") rows)

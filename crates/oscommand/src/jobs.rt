@@ -6,8 +6,7 @@ ghost use Rattle.clap.specs.Words.{IsUnsignedIn, app_of, first_of, found_of, kin
 ghost use Rattle.clap.specs.declared.error.kind.ErrorKind.TheVariants.{ArgumentConflict};
 ghost use Rattle.oscommand.specs.CommandLine.{AsksFor, FailsByWords, HasEntries, IsMailName, SaysCore, SaysMail, SaysNumber, SaysPrint, SaysTurns, check_command, command_line, config_rule, core_rule, cut_command, group_command, groups_command, has_items_and_order, is_set, items_rule, mail_name, mail_rule, order_rule, replay_command, run_command, schedule_rule, stimuli_rule, subcommand_name, threads_command, turns_rule};
 ghost use Rattle.oscommand.specs.Entries.{AreChecked, HasConfig, HasConfigAndCore, HasReplay, HasRun, HasThreads, SaysJob};
-ghost use Rattle.oscommand.specs.declared.jobs.TheConstants.{MOST_TURNS};
-ghost use Rattle.oscommand.specs.Jobs.{paths_of};
+ghost use Rattle.oscommand.specs.{declared.jobs.TheConstants.MOST_TURNS, Jobs.paths_of};
 
 use clap::builder::ValueParser;
 use clap::error::ErrorKind;

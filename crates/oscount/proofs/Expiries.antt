@@ -2,11 +2,9 @@
 use Rattle.std.proofs.Common.{◌≡◌, ℕ, zero, suc, ◌+◌, ◌-◌, ◌<◌, ◌≤◌, ◌%◌, nat_eq, nat_le, nat_lt, Bool, true, false, true≢false, cond, ◌&&◌, ◌||◌, Option, Some, None, is_some, option_map, refl, sym, ap, ◌∙◌, arith}
 use Rattle.std.specs.Option.{option_map_or}
 use Rattle.std.proofs.Math.Nat.{mod-lt}
-use Rattle.std.proofs.lemmas.Bool.{and_parts, false≢true, eqb-true, leb-true, leb-false, le-leb, lt-ltb, ltb-false, ltb-true, or_right}
+use Rattle.std.proofs.lemmas.Bool.{and_parts, false≢true, eqb-true, leb-true, leb-false, lt-ltb, ltb-false, ltb-true, or_right}
 use Rattle.osbase.specs.Counting.{AlarmSetting, counts_left, counts_to, is_due, is_due_count, is_granted, is_in_turn, is_in_use, left_of, one_count_more, will_be_due}
-use Rattle.oscount.specs.declared.counters.Counter.{Counter}
-use Rattle.oscount.specs.declared.alarms.Expiry.{Expiry}
-use Rattle.oscount.specs.declared.alarms.Alarm.{Alarm}
+use Rattle.oscount.specs.{declared.counters.Counter.Counter, declared.alarms.Expiry.Expiry, declared.alarms.Alarm.Alarm}
 use Rattle.oscount.specs.Clocks.{advanced, alarm_at, counter_at, counts_until, due_again, expiry_at, expiry_beyond, is_due_next, is_next_value, setting_of, wrapped}
 use Rattle.oscount.proofs.Turns.{further-mod, next-alone, wrapped-mod}
 use Rattle.oscount.proofs.Settings.{cycle-then, due-then, left-least, left-most, left-then, over-then, spent}
@@ -141,19 +139,14 @@ left-is max count (Some x) granted = by (is_in_turn max x) (will_be_due x) grant
         ap (λ v. Some (cond (nat_lt (count % suc max) v) (v - count % suc max) (suc max + v - count % suc max))) (sym (further-mod max count (counts_left x) most))
         ∙ ap Some (until (count % suc max) (counts_left x) (omega (arith, below)) (left-least x f) most)
 
--- what is asked of a setting grants it
-pub in-turn : (max first cycle : ℕ) → 0 < first → first ≤ suc max → cycle ≤ max → is_in_turn max (setting_of first cycle) ≡ true
-in-turn max first cycle later most within =
-    ap (λ b. b && nat_le first (suc max) && nat_le cycle max) (lt-ltb 0 first later) ∙ (ap (λ b. b && nat_le cycle max) (le-leb first (suc max) most) ∙ le-leb cycle max within)
-
 -- an alarm that is set
-pub as-set : (max count first cycle : ℕ) → 0 < first → first ≤ suc max → cycle ≤ max → expiry_at max count (Some (setting_of first cycle)) ≡ Some (record { value = (count + first) % suc max; cycle = cycle })
-as-set max count first cycle later most within =
-    ap (λ b. cond (b && will_be_due (setting_of first cycle)) (value-of max count (setting_of first cycle)) None) (in-turn max first cycle later most within)
+pub as-set : (max count first cycle : ℕ) → is_in_turn max (setting_of first cycle) ≡ true → expiry_at max count (Some (setting_of first cycle)) ≡ Some (record { value = (count + first) % suc max; cycle = cycle })
+as-set max count first cycle granted =
+    ap (λ b. cond (b && will_be_due (setting_of first cycle)) (value-of max count (setting_of first cycle)) None) granted
     ∙ (ap (λ b. cond b (value-of max count (setting_of first cycle)) None) due ∙ ap (λ n. Some (record { value = (count + n) % suc max; cycle = cycle })) left)
   where
     less : nat_lt 0 first ≡ true
-    less = lt-ltb 0 first later
+    less = lt-ltb 0 first (turn-of max (setting_of first cycle) granted).later
 
     due : will_be_due (setting_of first cycle) ≡ true
     due = or_right (nat_lt 0 cycle) (nat_lt 0 first) less
@@ -223,16 +216,12 @@ left-by counter alarm expiry count x granted is at some =
     ap (option_map (counts_until counter)) (sym some ∙ ap (λ (a : Alarm). a.expiry) at)
     ∙ (ap (λ c. option_map (counts_until c) (expiry_at counter.max count x)) is ∙ left-is counter.max count x granted)
 
-pub set-by : (counter : Counter) (count first cycle value : ℕ) → counter ≡ counter_at counter.max count → 0 < first → first ≤ suc counter.max → cycle ≤ counter.max
-    → value ≡ (count + first) % suc counter.max → record { expiry = Some (record { value = value; cycle = cycle }) } ≡ alarm_at counter.max count (Some (setting_of first cycle))
-set-by counter count first cycle value is later most within same =
-    ap (λ v. record { expiry = Some (record { value = v; cycle = cycle }) }) same ∙ ap (λ e. record { expiry = e }) (sym (as-set counter.max count first cycle later most within))
-
-pub relative-by : (counter : Counter) (count first cycle value : ℕ) → counter ≡ counter_at counter.max count → 0 < first → first ≤ suc counter.max → cycle ≤ counter.max
+pub relative-by : (counter : Counter) (count first cycle value : ℕ) → counter ≡ counter_at counter.max count → is_in_turn counter.max (setting_of first cycle) ≡ true
     → value ≡ wrapped counter.max (counter.value + first) → record { expiry = Some (record { value = value; cycle = cycle }) } ≡ alarm_at counter.max count (Some (setting_of first cycle))
-relative-by counter count first cycle value is later most within same =
-    set-by counter count first cycle value is later most within
-    (same ∙ (ap (λ v. wrapped counter.max (v + first)) (value-is counter count is) ∙ further-mod counter.max count first most))
+relative-by counter count first cycle value is granted same =
+    ap (λ v. record { expiry = Some (record { value = v; cycle = cycle }) })
+    (same ∙ (ap (λ v. wrapped counter.max (v + first)) (value-is counter count is) ∙ further-mod counter.max count first (turn-of counter.max (setting_of first cycle) granted).first))
+    ∙ ap (λ e. record { expiry = e }) (sym (as-set counter.max count first cycle granted))
 
 -- so many counts lead to the value
 pub reached-by : (counter : Counter) (count start left : ℕ) → counter ≡ counter_at counter.max count → start ≤ counter.max → left ≡ counts_to counter.max counter.value start

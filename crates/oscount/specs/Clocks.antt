@@ -1,10 +1,8 @@
 -- What the code keeps of counters and alarms: a value, and the value at which an alarm is due next, each for what was counted.
-use Rattle.std.specs.Prelude.{ℕ, suc, ◌+◌, ◌-◌, ◌%◌, ◌==◌, ◌&&◌, nat_le, nat_lt, Bool, false, if◌then◌else◌, Option, Some, None}
+use Rattle.std.specs.Prelude.{ℕ, suc, ◌+◌, ◌-◌, ◌<◌, ◌≤◌, ◌^◌, ◌%◌, ◌==◌, ◌&&◌, nat_le, nat_lt, Bool, false, if◌then◌else◌, Option, Some, None}
 use Rattle.std.specs.Option.{option_map_or}
 use Rattle.osbase.specs.Counting.{AlarmSetting, counts_left, is_in_turn, value_after, will_be_due}
-use Rattle.oscount.specs.declared.counters.Counter.{Counter}
-use Rattle.oscount.specs.declared.alarms.Expiry.{Expiry}
-use Rattle.oscount.specs.declared.alarms.Alarm.{Alarm}
+use Rattle.oscount.specs.{declared.counters.Counter.Counter, declared.alarms.Expiry.Expiry, declared.alarms.Alarm.Alarm}
 
 -- ---- for what was counted
 
@@ -25,6 +23,19 @@ alarm_at max count setting = record { expiry = expiry_at max count setting }
 -- As it is set.
 abbrev pub setting_of : ℕ → ℕ → AlarmSetting
 setting_of first cycle = record { first = first; cycle = cycle; counts = 0 }
+
+-- ---- what the code asks for
+
+-- A counter of a configuration: its greatest value is below 2^31, so that a turn beyond it can still be counted, and its value is at
+-- most the greatest. [own]
+pub record IsCounter (counter : Counter) : Type 0 where
+  pub max : counter.max < 2 ^ 31
+  pub value : counter.value ≤ counter.max
+
+-- An expiry on a counter with this greatest value: the alarm is due at one of its values, and its cycle is at most the greatest.
+pub record IsExpiryOf (max : ℕ) (expiry : Expiry) : Type 0 where
+  pub value : expiry.value ≤ max
+  pub cycle : expiry.cycle ≤ max
 
 -- ---- what the code does
 

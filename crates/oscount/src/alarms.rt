@@ -1,8 +1,8 @@
 //! When an alarm is due.
 
 ghost use Rattle.std.specs.Prelude.{◌≡◌, ◌+◌, ◌<◌, ◌≤◌, ◌^◌, ℕ, suc, Some, None, IfSome, IsTrue, Option, is_some, option_map};
-ghost use Rattle.osbase.specs.Counting.{AlarmSetting, is_due, is_granted, is_in_use, left_of, one_count_more};
-ghost use Rattle.oscount.specs.Clocks.{advanced, alarm_at, alarm_beyond, alarm_due, counter_at, counts_until, due_again, expiry_beyond, is_due_next, setting_of, wrapped};
+ghost use Rattle.osbase.specs.Counting.{AlarmSetting, is_due, is_granted, is_in_turn, is_in_use, left_of, one_count_more};
+ghost use Rattle.oscount.specs.Clocks.{IsCounter, IsExpiryOf, advanced, alarm_at, alarm_beyond, alarm_due, counter_at, counts_until, due_again, expiry_beyond, is_due_next, setting_of, wrapped};
 
 use crate::counters::{self, Counter};
 
@@ -32,11 +32,8 @@ impl Alarm {
     /// The alarm is due after so many counts, at most a full turn, and again after each cycle (OSEK/VDX OS 2.2.3,
     /// section 13.6.3.3; the full turn: own).
     pub fn set_rel(&mut self, counter: Counter, increment: u32, cycle: u32)
-        requires max { counter.max < 2 ^ 31 }
-        requires value { counter.value ≤ counter.max }
-        requires later { 0 < increment }
-        requires turn { increment ≤ suc counter.max }
-        requires cycle { cycle ≤ counter.max }
+        requires counter { IsCounter counter }
+        requires granted { IsTrue (is_in_turn counter.max (setting_of increment cycle)) }
         ensures state { self.new ≡ alarm_due (wrapped counter.max (counter.value + increment)) cycle }
         ensures counts { (count : ℕ) → counter ≡ counter_at counter.max count → self.new ≡ alarm_at counter.max count (Some (setting_of increment cycle)) }
     {
@@ -64,8 +61,7 @@ impl Alarm {
 
     /// Whether it is due at the next count of its counter.
     pub fn is_due_next(self, counter: Counter) -> bool
-        requires max { counter.max < 2 ^ 31 }
-        requires value { counter.value ≤ counter.max }
+        requires counter { IsCounter counter }
         ensures state { result ≡ is_due_next counter self }
         ensures counts { (count : ℕ) (setting : Option AlarmSetting) → IsTrue (is_granted counter.max setting) → counter ≡ counter_at counter.max count → self ≡ alarm_at counter.max count setting → result ≡ is_due (option_map one_count_more setting) }
     {
@@ -77,8 +73,7 @@ impl Alarm {
 
     /// How many counts are left until it is due; none for an alarm that is not in use (OSEK/VDX OS 2.2.3, section 13.6.3.2).
     pub fn left(self, counter: Counter) -> Option<u32>
-        requires max { counter.max < 2 ^ 31 }
-        requires value { counter.value ≤ counter.max }
+        requires counter { IsCounter counter }
         requires expiry { IfSome self.expiry (λ x. x.value ≤ counter.max) }
         ensures state { result ≡ option_map (counts_until counter) self.expiry }
         ensures counts { (count : ℕ) (setting : Option AlarmSetting) → IsTrue (is_granted counter.max setting) → counter ≡ counter_at counter.max count → self ≡ alarm_at counter.max count setting → result ≡ left_of setting }
@@ -92,9 +87,8 @@ impl Alarm {
     /// Its counter is about to be incremented. If the alarm expires by that, it expires again a cycle later; without a
     /// cycle it is no longer in use (OSEK/VDX OS 2.2.3, section 9.2).
     pub fn advance(&mut self, counter: Counter)
-        requires max { counter.max < 2 ^ 31 }
-        requires value { counter.value ≤ counter.max }
-        requires cycle { IfSome self.old.expiry (λ x. (x.value ≤ counter.max) × (x.cycle ≤ counter.max)) }
+        requires counter { IsCounter counter }
+        requires expiry { IfSome self.old.expiry (IsExpiryOf counter.max) }
         ensures state { self.new ≡ alarm_beyond counter self.old }
         ensures counts { (count : ℕ) (setting : Option AlarmSetting) → counter ≡ counter_at counter.max count → self.old ≡ alarm_at counter.max count setting → self.new ≡ alarm_at counter.max (suc count) (option_map one_count_more setting) }
     {
@@ -114,8 +108,7 @@ impl Default for Alarm {
 
 // The value that the counter has after one count more.
 fn next_value(counter: Counter) -> u32
-    requires max { counter.max < 2 ^ 31 }
-    requires value { counter.value ≤ counter.max }
+    requires { IsCounter counter }
     ensures { result ≡ (advanced counter).value }
 {
     let mut next = counter;
@@ -125,8 +118,7 @@ fn next_value(counter: Counter) -> u32
 
 // How many counts lead from the counter's value to the alarm's.
 fn until(counter: Counter, expiry: Expiry) -> u32
-    requires max { counter.max < 2 ^ 31 }
-    requires value { counter.value ≤ counter.max }
+    requires counter { IsCounter counter }
     requires expiry { expiry.value ≤ counter.max }
     ensures { result ≡ counts_until counter expiry }
 {
@@ -139,10 +131,8 @@ fn until(counter: Counter, expiry: Expiry) -> u32
 
 // When an alarm is due that was due at this value, once the counter has gone on.
 fn beyond(counter: Counter, expiry: Expiry) -> Option<Expiry>
-    requires max { counter.max < 2 ^ 31 }
-    requires value { counter.value ≤ counter.max }
-    requires turn { expiry.value ≤ counter.max }
-    requires cycle { expiry.cycle ≤ counter.max }
+    requires counter { IsCounter counter }
+    requires expiry { IsExpiryOf counter.max expiry }
     ensures { result ≡ expiry_beyond counter (Some expiry) }
 {
     if expiry.value == next_value(counter) {
@@ -154,8 +144,7 @@ fn beyond(counter: Counter, expiry: Expiry) -> Option<Expiry>
 
 fn again(counter: Counter, expiry: Expiry) -> Option<Expiry>
     requires max { counter.max < 2 ^ 31 }
-    requires turn { expiry.value ≤ counter.max }
-    requires cycle { expiry.cycle ≤ counter.max }
+    requires expiry { IsExpiryOf counter.max expiry }
     ensures { result ≡ due_again counter expiry }
 {
     if expiry.cycle == 0 {

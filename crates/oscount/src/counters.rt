@@ -2,7 +2,7 @@
 
 ghost use Rattle.std.specs.Prelude.{◌≡◌, ◌+◌, ◌<◌, ◌≤◌, ◌^◌, ℕ, suc};
 ghost use Rattle.osbase.specs.Counting.{counts_to, value_after};
-ghost use Rattle.oscount.specs.Clocks.{advanced, counter_at, wrapped};
+ghost use Rattle.oscount.specs.Clocks.{IsCounter, advanced, counter_at, wrapped};
 
 /// A counter (OSEK/VDX OS 2.2.3, section 9.1): its value goes from 0 to its greatest, and then to 0 again.
 #[derive(Clone, Copy, Default, PartialEq, Eq)]
@@ -27,8 +27,7 @@ pub fn wrapped(max: u32, value: u32) -> u32
 /// From a counter's value, how many counts lead to this one; the value that it has is a full turn away (OSEK/VDX OS 2.2.3,
 /// section 13.6.3.4).
 pub fn counts_to(counter: Counter, start: u32) -> u32
-    requires max { counter.max < 2 ^ 31 }
-    requires value { counter.value ≤ counter.max }
+    requires counter { IsCounter counter }
     requires turn { start ≤ counter.max }
     ensures state { result ≡ counts_to counter.max counter.value start }
     ensures reached { (count : ℕ) → counter ≡ counter_at counter.max count → value_after counter.max (count + result) ≡ start }
@@ -46,8 +45,7 @@ impl Counter {
 
     /// The counter is incremented, and after its greatest value it is 0 (OSEK/VDX OS 2.2.3, section 9.1).
     pub fn advance(&mut self)
-        requires max { self.old.max < 2 ^ 31 }
-        requires value { self.old.value ≤ self.old.max }
+        requires { IsCounter self.old }
         ensures state { self.new ≡ advanced self.old }
         ensures counts { (count : ℕ) → self.old ≡ counter_at self.old.max count → self.new ≡ counter_at self.old.max (suc count) }
     {

@@ -2,11 +2,9 @@
 -- line here; where a clause for Op.Work stands, it is only there to make these cases.
 use native.Mathlib.Omega.{arith}
 use Rattle.std.proofs.Common.{◌≡◌, true, Some, option_and_then, [], ◌∷◌, refl, ap, ◌∙◌}
-use Rattle.osbase.specs.declared.messages.RemoteCall.{RemoteCall}
-use Rattle.osbase.specs.Objects.{object_of_call}
-use Rattle.oscript.specs.declared.Op.{Op}
+use Rattle.osbase.specs.{declared.messages.RemoteCall.RemoteCall, Objects.object_of_call}
+use Rattle.oscript.specs.{declared.Op.Op, Rows.objects_of}
 use Rattle.oscript.specs.Calls.{action_of_op, if_action, is_action, named_call, op_of_call}
-use Rattle.oscript.specs.Rows.{objects_of}
 
 -- The operation of a call names the call's object and no other.
 pub call-objects : (call : RemoteCall) → objects_of (op_of_call call) ≡ object_of_call call ∷ []

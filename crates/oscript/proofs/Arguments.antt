@@ -2,10 +2,8 @@
 use native.Mathlib.Omega.{arith}
 use Rattle.std.proofs.Common.{◌≡◌, Bool, true, List, ◌∷◌}
 use Rattle.std.specs.List.{list_all}
-use Rattle.osbase.specs.declared.objects.Place.{Place}
-use Rattle.osbase.specs.declared.objects.Object.{Object}
-use Rattle.oscript.specs.declared.rows.Arg.{Arg}
-use Rattle.oscript.specs.Rows.{objects_in}
+use Rattle.osbase.specs.{declared.objects.Place.Place, declared.objects.Object.Object}
+use Rattle.oscript.specs.{declared.rows.Arg.Arg, Rows.objects_in}
 
 -- the objects of the later arguments
 pub rest-pass : (p : Object → Bool) (arg : Arg Place) (args : List (Arg Place)) → list_all p (objects_in (arg ∷ args)) ≡ true → list_all p (objects_in args) ≡ true

@@ -1,15 +1,10 @@
 -- Where the objects of arguments stand. What all cores have in common stands under nobody, whatever place it was found at.
-use Rattle.std.proofs.Common.{◌≡◌, Bool, true, Option, Some, None, option_map, List, [], ◌∷◌, map, refl}
+use Rattle.std.proofs.Common.{◌≡◌, Bool, true, Some, None, option_map, List, [], ◌∷◌, map, refl}
 use Rattle.std.specs.List.{list_all}
 use Rattle.std.proofs.lemmas.Bool.{and_parts}
 use Rattle.osbase.specs.Objects.{mode_of, mode_place, spinlock_of, spinlock_place}
-use Rattle.osbase.specs.declared.objects.Object.{Object as Named}
-use Rattle.osbase.specs.declared.objects.ObjectKind.{ObjectKind}
-use Rattle.osbase.specs.declared.objects.ObjectKind.TheVariants.{Mode, Spinlock}
-use Rattle.osbase.specs.declared.objects.Place.{Place}
-use Rattle.oscript.specs.declared.rows.Arg.{Arg}
-use Rattle.oscript.specs.declared.rows.Arg.TheVariants.{Object}
-use Rattle.oscript.specs.Rows.{objects_in}
+use Rattle.osbase.specs.{declared.objects.Object.Object as Named, declared.objects.ObjectKind.ObjectKind, declared.objects.ObjectKind.TheVariants.Mode, declared.objects.ObjectKind.TheVariants.Spinlock, declared.objects.Place.Place}
+use Rattle.oscript.specs.{declared.rows.Arg.Arg, declared.rows.Arg.TheVariants.Object, Rows.objects_in}
 use Rattle.oscript.proofs.Arguments.{rest-pass}
 
 -- The place of the reference to the object of a kind at a place.

@@ -1,7 +1,6 @@
 -- Tests of the objects that there are, in a list with gaps.
 use Rattle.std.proofs.Common.{◌≡◌, Bool, true, false, ◌&&◌, ◌||◌, List, [], ◌∷◌, Option, Some, None, refl, ap}
-use Rattle.std.specs.List.{list_all, list_any, filter_map}
-use Rattle.std.specs.Option.{option_map_or}
+use Rattle.std.specs.{List.list_all, List.list_any, List.filter_map, Option.option_map_or}
 
 pub any_present : {X : Type 0} (p : X → Bool) (xs : List (Option X)) → list_any (λ o. option_map_or p o false) xs ≡ list_any p (filter_map (λ o. o) xs)
 any_present p [] = refl

@@ -1,12 +1,8 @@
 -- The operations that call a service for an object of any core, beside the calls that cross between cores. This table is the one place
 -- where both are known together. And which calls an alarm or a schedule table may make.
 use Rattle.std.specs.Prelude.{Bool, true, false, if◌then◌else◌, Option, Some, None, option_and_then, option_map}
-use Rattle.osbase.specs.Objects.{place_on, task_of}
-use Rattle.osbase.specs.declared.messages.RemoteCall.{RemoteCall}
+use Rattle.osbase.specs.{Objects.place_on, Objects.task_of, declared.messages.RemoteCall.RemoteCall, declared.references.AlarmRef.AlarmRef, declared.references.TaskRef.TaskRef, declared.statuses.ServiceId.ServiceId}
 use Rattle.osbase.specs.declared.messages.RemoteCall.TheVariants as Call
-use Rattle.osbase.specs.declared.references.AlarmRef.{AlarmRef}
-use Rattle.osbase.specs.declared.references.TaskRef.{TaskRef}
-use Rattle.osbase.specs.declared.statuses.ServiceId.{ServiceId}
 use Rattle.osbase.specs.declared.statuses.ServiceId.TheVariants as Service
 use Rattle.oscript.specs.declared.Op.{Op}
 

@@ -1,16 +1,8 @@
 -- Where a job stands in its script, and what one operation does to that.
 use Rattle.std.specs.Prelude.{ℕ, ◌+◌, ◌==◌, ℤ, pos, negsuc, Bool, false, if◌then◌else◌, Option, Some, None, is_some, List, [], ◌∷◌, slice_get, slice_index_or, slice_set}
 use Rattle.std.specs.Option.{option_map_or}
-use Rattle.osbase.specs.declared.statuses.Status.{Status}
-use Rattle.osbase.specs.declared.statuses.Status.TheVariants.{EOk}
-use Rattle.osbase.specs.declared.statuses.ServiceId.{ServiceId}
-use Rattle.osbase.specs.declared.references.Variable.{Variable}
-use Rattle.oscript.specs.declared.Op.{Op}
-use Rattle.oscript.specs.declared.Frame.{Frame}
-use Rattle.oscript.specs.declared.Action.{Action}
-use Rattle.oscript.specs.declared.Action.TheVariants.{Perform, End}
-use Rattle.oscript.specs.Rows.{service_of}
-use Rattle.oscript.specs.Rows.{parsed_op_of}
+use Rattle.osbase.specs.{declared.statuses.Status.Status, declared.statuses.Status.TheVariants.EOk, declared.statuses.ServiceId.ServiceId, declared.references.Variable.Variable}
+use Rattle.oscript.specs.{declared.Op.Op, declared.Frame.Frame, declared.Action.Action, declared.Action.TheVariants.Perform, declared.Action.TheVariants.End, Rows.service_of, Rows.parsed_op_of}
 
 -- The service that an operation calls. An operation that calls one answers a status; another does not. [own]
 abbrev pub service_of_op : Op → Option ServiceId

@@ -1,35 +1,14 @@
 -- The grammar of operations: a row for each. An operation as its verb and its arguments, and the objects that it names.
 use Rattle.std.specs.Prelude.{ℕ, ◌&&◌, nat_le, ℤ, pos, negsuc, Bool, true, false, if◌then◌else◌, Option, Some, None, is_some, List, [], ◌∷◌, codes, option_map, filter_map, slice_get, unwrap_or}
-use Rattle.std.specs.List.{list_all}
-use Rattle.std.specs.Option.{option_map_or}
+use Rattle.std.specs.{List.list_all, Option.option_map_or}
 use Rattle.osbase.specs.Objects.{alarm_of, alarm_place, counter_of, counter_place, resource_of, resource_place, same_kind, spinlock_of, spinlock_place, table_of, table_place, task_of, task_place}
-use Rattle.osbase.specs.Words.{service_name, status_number, status_numbered}
-use Rattle.osbase.specs.declared.objects.Object.{Object as Named}
-use Rattle.osbase.specs.declared.objects.ObjectKind.{ObjectKind}
+use Rattle.osbase.specs.{Words.service_name, Words.status_number, Words.status_numbered, declared.objects.Object.Object as Named, declared.objects.ObjectKind.ObjectKind, declared.objects.Place.Place, declared.references.AlarmRef.AlarmRef, declared.references.CoreId.CoreId, declared.references.CounterRef.CounterRef, declared.references.ResourceRef.ResourceRef, declared.references.SpinlockId.SpinlockId, declared.references.TableRef.TableRef, declared.references.TaskRef.TaskRef, declared.references.Variable.Variable as VariableRef, declared.statuses.ServiceId.ServiceId, declared.statuses.Status.Status, declared.statuses.Status.TheVariants.EOk}
 use Rattle.osbase.specs.declared.objects.ObjectKind.TheVariants.{Task, Resource, Counter, Alarm, Table, Spinlock}
-use Rattle.osbase.specs.declared.objects.Place.{Place}
-use Rattle.osbase.specs.declared.references.AlarmRef.{AlarmRef}
-use Rattle.osbase.specs.declared.references.CoreId.{CoreId}
-use Rattle.osbase.specs.declared.references.CounterRef.{CounterRef}
-use Rattle.osbase.specs.declared.references.ResourceRef.{ResourceRef}
-use Rattle.osbase.specs.declared.references.SpinlockId.{SpinlockId}
-use Rattle.osbase.specs.declared.references.TableRef.{TableRef}
-use Rattle.osbase.specs.declared.references.TaskRef.{TaskRef}
-use Rattle.osbase.specs.declared.references.Variable.{Variable as VariableRef}
 use Rattle.osbase.specs.declared.statuses.ServiceId.TheVariants as Service
-use Rattle.osbase.specs.declared.statuses.ServiceId.{ServiceId}
-use Rattle.osbase.specs.declared.statuses.Status.{Status}
-use Rattle.osbase.specs.declared.statuses.Status.TheVariants.{EOk}
-use Rattle.oscript.specs.declared.Op.{Op}
+use Rattle.oscript.specs.{declared.Op.Op, declared.rows.Arg.Arg, declared.rows.Args.Args, declared.rows.ParsedOp.ParsedOp, declared.rows.Kind.Kind, declared.rows.Row.Row, declared.rows.Verb.Verb}
 use Rattle.oscript.specs.declared.rows.Arg.TheVariants.{Core, Object, Mask, Number, Int, Variable}
-use Rattle.oscript.specs.declared.rows.Arg.{Arg}
 use Rattle.oscript.specs.declared.rows.Args.TheVariants.{Zero, One, Two, Three}
-use Rattle.oscript.specs.declared.rows.Args.{Args}
-use Rattle.oscript.specs.declared.rows.ParsedOp.{ParsedOp}
-use Rattle.oscript.specs.declared.rows.Kind.{Kind}
-use Rattle.oscript.specs.declared.rows.Row.{Row}
 use Rattle.oscript.specs.declared.rows.TheConstants.{ALARM, COUNTER, POSITION, RESOURCE, SPINLOCK, STATUS, TABLE, TASK, TICKS}
-use Rattle.oscript.specs.declared.rows.Verb.{Verb}
 
 -- The arguments, from the left.
 abbrev pub items : {A : Type 0} → Args A → List A

@@ -3,16 +3,10 @@
 -- Of a runner's live jobs the oldest alone holds anything and has begun, so a runner has one row. A new reading of a runner is one
 -- more field, and a line for each entry that changes it.
 use Rattle.std.specs.Prelude.{ℕ, suc, if◌then◌else◌, Option, Some, None, List, [], ◌∷◌, map, replicate, slice_set}
-use Rattle.osbase.specs.declared.limits.TheConstants.{RESOURCES}
-use Rattle.osbase.specs.declared.references.Runner.{Runner}
-use Rattle.osbase.specs.declared.histories.HeldResource.{HeldResource}
-use Rattle.osbase.specs.declared.histories.TaskEvents.{TaskEvents}
-use Rattle.osbase.specs.declared.marks.Mark.{Mark}
+use Rattle.osbase.specs.{declared.limits.TheConstants.RESOURCES, declared.references.Runner.Runner, declared.histories.HeldResource.HeldResource, declared.histories.TaskEvents.TaskEvents, declared.marks.Mark.Mark}
 use Rattle.osbase.specs.History.{History, Entry, Printed, Noted, ResourceOccupied, ResourceReleased, InterruptsSuspended, InterruptsResumed, Done, no_events, same_runner, with_awaited, with_cleared, with_none_set, with_set, without_resource}
 use Rattle.osbase.specs.Interrupts.{deeper, running_job, runner_of_job, shallower}
-use Rattle.oscript.specs.declared.Op.{Op}
-use Rattle.oscript.specs.declared.Frame.{Frame}
-use Rattle.oscript.specs.Frames.{completed, new_frame, rewound}
+use Rattle.oscript.specs.{declared.Op.Op, declared.Frame.Frame, Frames.completed, Frames.new_frame, Frames.rewound}
 
 -- The resources that the oldest live job of the runner holds, the newest first; the events of its task; where that job
 -- stands in its script, or its next job will begin; how often that job has suspended interrupts; how many ticks of its execution

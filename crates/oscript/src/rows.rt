@@ -1,7 +1,7 @@
 //! The grammar of operations: a row for each. An operation as its verb and its arguments, and the objects
 //! that it names.
 
-ghost use Rattle.std.specs.Prelude.{◌≡◌, List, [], ◌∷◌, filter_map, option_map, slice_get};
+ghost use Rattle.std.specs.Prelude.{◌≡◌, [], ◌∷◌, filter_map, slice_get};
 ghost use Rattle.oscript.specs.Rows.{alarm_argument, asks_shared, core_at, parsed_op_of, form_view, halts_all, has_masks, int_at, items, mask_at, refers_to_own_only, number_at, object_in, objects_of, op_of, place_at, plain_row, ref_argument, ref_at, row_of, row_view, service_row, status_argument, status_at, uses_resource, variable_at};
 
 use crate::Op;

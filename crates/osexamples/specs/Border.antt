@@ -1,20 +1,13 @@
 -- Two cores: task A of core 0 calls for a task or an alarm of core 1.
 use Rattle.std.specs.Prelude.{Some, None, ℕ, pos, List, [], ◌∷◌, ◌++◌, codes}
-use Rattle.osbase.specs.declared.statuses.Status.{Status}
+use Rattle.osbase.specs.{declared.statuses.Status.Status, declared.statuses.ServiceId.ServiceId, declared.messages.RemoteCall.RemoteCall, declared.items.Item.Item, declared.marks.Mark.Mark, declared.references.TaskRef.TaskRef, declared.references.Variable.Variable}
 use Rattle.osbase.specs.declared.statuses.Status.TheVariants.{EOk, EOsCore, EOsId, EOsLimit}
-use Rattle.osbase.specs.declared.statuses.ServiceId.{ServiceId}
 use Rattle.osbase.specs.declared.statuses.ServiceId.TheVariants as Service
-use Rattle.osbase.specs.declared.messages.RemoteCall.{RemoteCall}
 use Rattle.osbase.specs.declared.messages.RemoteCall.TheVariants as Remote
 use Rattle.osbase.specs.declared.items.Stimulus.TheVariants as Stimulus
-use Rattle.osbase.specs.declared.items.Item.{Item}
-use Rattle.osbase.specs.declared.marks.Mark.{Mark}
-use Rattle.osbase.specs.declared.references.TaskRef.{TaskRef}
-use Rattle.osbase.specs.declared.references.Variable.{Variable}
 use Rattle.oscript.specs.declared.Op.{Op as Operation}
 use Rattle.oscript.specs.declared.Op.TheVariants as Op
-use Rattle.osplan.specs.declared.plans.Core.{Core}
-use Rattle.osplan.specs.declared.plans.Task.{Task}
+use Rattle.osplan.specs.{declared.plans.Core.Core, declared.plans.Task.Task}
 use Rattle.osexamples.specs.Example.{Block, Example, core}
 use Rattle.osexamples.specs.Parts.{alarm_at, alarm_for, alone, auto_task, awaited, begun, both, core_of, counter, end, ended, failed, gates, given_to, operations, plan_of, replied, replied_with, requested, returned, returned_with, run_to_end, short_task, taken, task_at, with_clocks, with_events}
 

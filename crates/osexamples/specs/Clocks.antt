@@ -1,12 +1,7 @@
 -- Counters, alarms and schedule tables of one core.
 use Rattle.std.specs.Prelude.{ℕ, true, false, None, Some, List, [], ◌∷◌, ◌++◌, codes, replicate}
-use Rattle.osbase.specs.declared.statuses.Status.TheVariants.{EOk, EOsValue}
+use Rattle.osbase.specs.{declared.statuses.Status.TheVariants.EOk, declared.statuses.Status.TheVariants.EOsValue, declared.references.AlarmRef.AlarmRef, declared.references.TableRef.TableRef, declared.references.TaskRef.TaskRef, declared.marks.Mark.Mark, declared.messages.RemoteCall.RemoteCall}
 use Rattle.osbase.specs.declared.statuses.ServiceId.TheVariants as Service
-use Rattle.osbase.specs.declared.references.AlarmRef.{AlarmRef}
-use Rattle.osbase.specs.declared.references.TableRef.{TableRef}
-use Rattle.osbase.specs.declared.references.TaskRef.{TaskRef}
-use Rattle.osbase.specs.declared.marks.Mark.{Mark}
-use Rattle.osbase.specs.declared.messages.RemoteCall.{RemoteCall}
 use Rattle.osbase.specs.declared.messages.RemoteCall.TheVariants as Remote
 use Rattle.oscript.specs.declared.Op.TheVariants as Op
 use Rattle.osplan.specs.declared.plans.Table.{Table}

@@ -1,15 +1,9 @@
 -- What a worked example is, and what is proved of each.
 use Rattle.std.specs.Prelude.{◌≡◌, ℕ, suc, not, IsTrue, Option, Some, None, option_map, List, [], ◌∷◌, slice_get}
-use Rattle.osbase.specs.declared.references.CoreId.{CoreId}
-use Rattle.osbase.specs.declared.items.Item.{Item}
-use Rattle.osbase.specs.declared.marks.Mark.{Mark}
-use Rattle.osbase.specs.declared.turns.CoreStimuli.{CoreStimuli}
-use Rattle.osbase.specs.History.{marks_of}
-use Rattle.osplan.specs.declared.plans.Plan.{Plan}
-use Rattle.osplan.specs.View.{view_of}
+use Rattle.osbase.specs.{declared.references.CoreId.CoreId, declared.items.Item.Item, declared.marks.Mark.Mark, declared.turns.CoreStimuli.CoreStimuli, History.marks_of}
+use Rattle.osplan.specs.{declared.plans.Plan.Plan, View.view_of}
 use Rattle.oskernel.specs.Step.{solo}
-use Rattle.osworld.specs.Runs.{default_turns, is_default, is_over}
-use Rattle.osworld.specs.World.{world}
+use Rattle.osworld.specs.{Runs.default_turns, Runs.is_default, Runs.is_over, World.world}
 
 -- What is said of one core: the items that it takes, and the marks that it prints.
 pub record Block : Type 0 where

@@ -1,15 +1,8 @@
 -- Two cores that call each other beside two that refer to neither, and the same two where the others have no objects.
 use Rattle.std.specs.Prelude.{◌≡◌, Some, true, false, List, [], ◌∷◌, ◌++◌, codes, map, replicate}
-use Rattle.osbase.specs.declared.items.CoreSet.{CoreSet}
-use Rattle.osbase.specs.declared.items.Item.{Item}
-use Rattle.osbase.specs.declared.marks.Mark.{Mark}
-use Rattle.osbase.specs.declared.messages.RemoteCall.{RemoteCall}
+use Rattle.osbase.specs.{declared.items.CoreSet.CoreSet, declared.items.Item.Item, declared.marks.Mark.Mark, declared.messages.RemoteCall.RemoteCall, declared.references.CoreId.CoreId, declared.references.TaskRef.TaskRef, declared.statuses.Status.TheVariants.EOk, Sets.core_ids}
 use Rattle.osbase.specs.declared.messages.RemoteCall.TheVariants as Remote
-use Rattle.osbase.specs.declared.references.CoreId.{CoreId}
-use Rattle.osbase.specs.declared.references.TaskRef.{TaskRef}
 use Rattle.osbase.specs.declared.statuses.ServiceId.TheVariants as Service
-use Rattle.osbase.specs.declared.statuses.Status.TheVariants.{EOk}
-use Rattle.osbase.specs.Sets.{core_ids}
 use Rattle.oscript.specs.declared.Op.TheVariants as Op
 use Rattle.osgroup.specs.Groups.{group_of, is_in_least_group}
 use Rattle.osplan.specs.declared.plans.Plan.{Plan}

@@ -1,15 +1,11 @@
 -- Interrupts, and execution budgets.
 use Rattle.std.specs.Prelude.{ℕ, Some, List, [], ◌∷◌, ◌++◌, codes}
-use Rattle.osbase.specs.declared.references.IsrRef.{IsrRef}
+use Rattle.osbase.specs.{declared.references.IsrRef.IsrRef, declared.marks.Mark.Mark, declared.statuses.Status.TheVariants.EOk, declared.statuses.Status.TheVariants.EOsDisabledint, declared.statuses.Status.TheVariants.EOsProtectionTime}
 use Rattle.osbase.specs.declared.references.Runner.TheVariants as Runner
 use Rattle.osbase.specs.declared.items.Stimulus.TheVariants as Stimulus
-use Rattle.osbase.specs.declared.marks.Mark.{Mark}
 use Rattle.osbase.specs.declared.statuses.ServiceId.TheVariants as Service
-use Rattle.osbase.specs.declared.statuses.Status.TheVariants.{EOk, EOsDisabledint, EOsProtectionTime}
 use Rattle.oscript.specs.declared.Op.{Op}
-use Rattle.osplan.specs.declared.plans.Core.{Core}
-use Rattle.osplan.specs.declared.plans.Isr.{Isr}
-use Rattle.osplan.specs.declared.protection.Protection.{Protection}
+use Rattle.osplan.specs.{declared.plans.Core.Core, declared.plans.Isr.Isr, declared.protection.Protection.Protection}
 use Rattle.osexamples.specs.Example.{Example, core}
 use Rattle.osexamples.specs.Parts.{OneCore, auto_task, awaited, begun, core_of, ended, failed, first_resource, of_one_core, operations, returned, run_to_end, short_task, task_at, ticks, with_events, with_priority, with_resource}
 

@@ -1,10 +1,8 @@
 -- What holds of every history, and of every operation.
 use Rattle.std.specs.Prelude.{Bool, true, false, ◌&&◌, ◌||◌, nat_lt, not, is_some, List, [], ◌∷◌}
 use Rattle.std.specs.List.{list_all}
-use Rattle.osbase.specs.declared.histories.Job.{Job}
-use Rattle.osbase.specs.declared.references.Runner.{Runner}
-use Rattle.oscript.specs.declared.Op.{Op}
-use Rattle.oscript.specs.Calls.{call_of_op}
+use Rattle.osbase.specs.{declared.histories.Job.Job, declared.references.Runner.Runner}
+use Rattle.oscript.specs.{declared.Op.Op, Calls.call_of_op}
 use Rattle.osacts.specs.Acts.{Acts, nothing}
 use Rattle.oskernel.specs.Operations.{acts_alone}
 

@@ -1,36 +1,13 @@
 -- What the worked examples are made of.
 use Rattle.std.specs.Prelude.{ℕ, pos, true, false, None, List, [], ◌∷◌, ◌++◌, codes, map, replicate}
-use Rattle.osbase.specs.declared.references.AlarmRef.{AlarmRef}
-use Rattle.osbase.specs.declared.references.CoreId.{CoreId}
-use Rattle.osbase.specs.declared.references.CounterRef.{CounterRef}
-use Rattle.osbase.specs.declared.references.ResourceRef.{ResourceRef}
+use Rattle.osbase.specs.{declared.references.AlarmRef.AlarmRef, declared.references.CoreId.CoreId, declared.references.CounterRef.CounterRef, declared.references.ResourceRef.ResourceRef, declared.references.TaskRef.TaskRef, declared.references.ModeId.ModeId, declared.items.CoreSet.CoreSet, declared.items.Item.Item, declared.items.Stimulus.Stimulus as Word, declared.marks.Mark.Mark, declared.messages.Message.Message, declared.messages.RemoteCall.RemoteCall, declared.statuses.ServiceId.ServiceId, declared.statuses.Status.Status, declared.statuses.Status.TheVariants.EOk, declared.turns.CoreStimuli.CoreStimuli, declared.items.CoreMode.TheVariants.Named}
 use Rattle.osbase.specs.declared.references.Runner.TheVariants as Runner
-use Rattle.osbase.specs.declared.references.TaskRef.{TaskRef}
-use Rattle.osbase.specs.declared.references.ModeId.{ModeId}
-use Rattle.osbase.specs.declared.items.CoreSet.{CoreSet}
 use Rattle.osbase.specs.declared.items.Agreement.TheVariants as Agreement
-use Rattle.osbase.specs.declared.items.Item.{Item}
-use Rattle.osbase.specs.declared.items.Stimulus.{Stimulus as Word}
 use Rattle.osbase.specs.declared.items.Stimulus.TheVariants as Stimulus
-use Rattle.osbase.specs.declared.marks.Mark.{Mark}
-use Rattle.osbase.specs.declared.messages.Message.{Message}
-use Rattle.osbase.specs.declared.messages.RemoteCall.{RemoteCall}
 use Rattle.osbase.specs.declared.messages.RemoteCall.TheVariants as Remote
-use Rattle.osbase.specs.declared.statuses.ServiceId.{ServiceId}
 use Rattle.osbase.specs.declared.statuses.ServiceId.TheVariants as Service
-use Rattle.osbase.specs.declared.statuses.Status.{Status}
-use Rattle.osbase.specs.declared.statuses.Status.TheVariants.{EOk}
-use Rattle.osbase.specs.declared.turns.CoreStimuli.{CoreStimuli}
-use Rattle.oscript.specs.declared.Op.{Op}
-use Rattle.oscript.specs.declared.Op.TheVariants.{TerminateTask}
-use Rattle.osplan.specs.declared.plans.Alarm.{Alarm}
-use Rattle.osplan.specs.declared.plans.Counter.{Counter}
-use Rattle.osplan.specs.declared.plans.Plan.{Plan}
-use Rattle.osplan.specs.declared.plans.Core.{Core}
-use Rattle.osplan.specs.declared.plans.Table.{Table}
-use Rattle.osplan.specs.declared.plans.Task.{Task}
-use Rattle.osplan.specs.declared.protection.Protection.{Protection}
-use Rattle.osbase.specs.declared.items.CoreMode.TheVariants.{Named}
+use Rattle.oscript.specs.{declared.Op.Op, declared.Op.TheVariants.TerminateTask}
+use Rattle.osplan.specs.{declared.plans.Alarm.Alarm, declared.plans.Counter.Counter, declared.plans.Plan.Plan, declared.plans.Core.Core, declared.plans.Table.Table, declared.plans.Task.Task, declared.protection.Protection.Protection}
 use Rattle.osexamples.specs.Example.{Example, core}
 
 -- ---- the configuration

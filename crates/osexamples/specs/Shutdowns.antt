@@ -1,13 +1,9 @@
 -- Modes that conflict, and shutdowns of one core and of all.
 use Rattle.std.specs.Prelude.{ℕ, Some, List, [], ◌∷◌, ◌++◌, codes}
 use Rattle.osbase.specs.declared.items.Agreement.TheVariants as Agreement
-use Rattle.osbase.specs.declared.items.CoreMode.TheVariants.{Named}
-use Rattle.osbase.specs.declared.items.Item.{Item}
-use Rattle.osbase.specs.declared.marks.Mark.{Mark}
+use Rattle.osbase.specs.{declared.items.CoreMode.TheVariants.Named, declared.items.Item.Item, declared.marks.Mark.Mark, declared.statuses.Status.Status, declared.statuses.Status.TheVariants.EOk, declared.statuses.Status.TheVariants.EOsCore, declared.statuses.Status.TheVariants.EOsId}
 use Rattle.osbase.specs.declared.messages.RemoteCall.TheVariants as Remote
 use Rattle.osbase.specs.declared.statuses.ServiceId.TheVariants as Service
-use Rattle.osbase.specs.declared.statuses.Status.{Status}
-use Rattle.osbase.specs.declared.statuses.Status.TheVariants.{EOk, EOsCore, EOsId}
 use Rattle.oscript.specs.declared.Op.TheVariants as Op
 use Rattle.osexamples.specs.Border.{a_begun, called, caller, first_gates, op_to_end, posted, queued, second_gates, task_a, task_b}
 use Rattle.osexamples.specs.Example.{Example, core}

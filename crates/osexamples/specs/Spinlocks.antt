@@ -1,16 +1,12 @@
 -- Spinlocks that two cores share.
 use Rattle.std.specs.Prelude.{ℕ, false, Some, None, List, [], ◌∷◌, ◌++◌, codes}
-use Rattle.osbase.specs.declared.items.Item.{Item}
+use Rattle.osbase.specs.{declared.items.Item.Item, declared.marks.Mark.Mark, declared.references.SpinlockId.SpinlockId, declared.references.Variable.Variable}
 use Rattle.osbase.specs.declared.items.Stimulus.TheVariants as Stimulus
-use Rattle.osbase.specs.declared.marks.Mark.{Mark}
-use Rattle.osbase.specs.declared.references.SpinlockId.{SpinlockId}
-use Rattle.osbase.specs.declared.references.Variable.{Variable}
 use Rattle.osbase.specs.declared.statuses.ServiceId.TheVariants as Service
 use Rattle.osbase.specs.declared.statuses.Status.TheVariants.{EOk, EOsInterferenceDeadlock, EOsMissingend, EOsNestingDeadlock, EOsSpinlock}
 use Rattle.oscript.specs.declared.Op.{Op as Operation}
 use Rattle.oscript.specs.declared.Op.TheVariants as Op
-use Rattle.osplan.specs.declared.plans.Plan.{Plan}
-use Rattle.osplan.specs.declared.plans.Spinlock.{Spinlock}
+use Rattle.osplan.specs.{declared.plans.Plan.Plan, declared.plans.Spinlock.Spinlock}
 use Rattle.osexamples.specs.Border.{a_begun, called, caller, first_gates, second_gates, task_a, task_b}
 use Rattle.osexamples.specs.Example.{Example}
 use Rattle.osexamples.specs.Parts.{auto_task, begun, end, ended, failed, given_to, operations, plan_of, returned, returned_with, taken}

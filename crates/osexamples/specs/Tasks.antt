@@ -1,10 +1,8 @@
 -- Tasks of one core: which job runs, and what a task's script does.
 use Rattle.std.specs.Prelude.{pos, Some, [], ◌∷◌, ◌++◌, codes}
-use Rattle.osbase.specs.declared.statuses.Status.TheVariants.{EOk, EOsLimit}
+use Rattle.osbase.specs.{declared.statuses.Status.TheVariants.EOk, declared.statuses.Status.TheVariants.EOsLimit, declared.references.Variable.Variable, declared.marks.Mark.Mark}
 use Rattle.osbase.specs.declared.statuses.ServiceId.TheVariants as Service
 use Rattle.osbase.specs.declared.references.Runner.TheVariants as Runner
-use Rattle.osbase.specs.declared.references.Variable.{Variable}
-use Rattle.osbase.specs.declared.marks.Mark.{Mark}
 use Rattle.oscript.specs.declared.Op.TheVariants as Op
 use Rattle.osexamples.specs.Example.{Example}
 use Rattle.osexamples.specs.Parts.{activated_by, auto_task, awaited, begun, core_of, ended, failed, of_one_core, operations, returned, run_to_end, short_task, task, task_at, with_events, with_priority, without_preemption}

@@ -1,7 +1,6 @@
 //! Counters, alarms and schedule tables: what the core prints for its items, and that the default schedule gives these items.
 
-ghost use Rattle.osexamples.specs.Clocks.{ending, present, wrap};
-ghost use Rattle.osexamples.specs.Example.{HasRounds, Prints, TakesItems};
+ghost use Rattle.osexamples.specs.{Clocks.ending, Clocks.present, Clocks.wrap, Example.HasRounds, Example.Prints, Example.TakesItems};
 
 /// An alarm that is due at the value that its counter has.
 pub fn present_prints_its_block()

@@ -4,8 +4,7 @@ ghost use Rattle.std.specs.Prelude.{◌≡◌, IsTrue};
 ghost use Rattle.osgroup.specs.Groups.{is_group};
 ghost use Rattle.osrun.specs.Groups.{part_lists};
 ghost use Rattle.osexamples.specs.Example.{HasRounds, Prints, TakesItems, core, items_from};
-ghost use Rattle.osexamples.specs.Groups.{IsLeastOf, four, pair};
-ghost use Rattle.osexamples.specs.Parts.{both};
+ghost use Rattle.osexamples.specs.{Groups.IsLeastOf, Groups.four, Groups.pair, Parts.both};
 
 /// Cores 0 and 1 are a group, and the least one of each of the two.
 pub fn the_pair_is_the_least_group_of_its_cores()

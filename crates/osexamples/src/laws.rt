@@ -1,8 +1,7 @@
 //! What holds of every history, and of every operation.
 
 ghost use Rattle.std.specs.Prelude.{IsTrue};
-ghost use Rattle.osbase.specs.History.{History, live_jobs};
-ghost use Rattle.osbase.specs.declared.references.Runner.{Runner};
+ghost use Rattle.osbase.specs.{History.History, History.live_jobs, declared.references.Runner.Runner};
 ghost use Rattle.oscript.specs.declared.Op.{Op};
 ghost use Rattle.osexamples.specs.Laws.{are_ascending, does_something};
 

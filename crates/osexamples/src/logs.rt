@@ -1,7 +1,6 @@
 //! Logs: the items of a core's log.
 
-ghost use Rattle.osexamples.specs.Border.{activation};
-ghost use Rattle.osexamples.specs.Logs.{SaysItems, activation_log};
+ghost use Rattle.osexamples.specs.{Border.activation, Logs.SaysItems, Logs.activation_log};
 
 /// One activation across the border: the log of the core that asks for it says the items that the core takes.
 pub fn activation_log_says_its_items()

@@ -1,7 +1,6 @@
 //! Modes that conflict, and shutdowns: what each core prints for its own items, and that the default schedule gives these items.
 
-ghost use Rattle.osexamples.specs.Example.{HasRounds, Prints, TakesItems};
-ghost use Rattle.osexamples.specs.Shutdowns.{all_down, conflict, one_down};
+ghost use Rattle.osexamples.specs.{Example.HasRounds, Example.Prints, Example.TakesItems, Shutdowns.all_down, Shutdowns.conflict, Shutdowns.one_down};
 
 /// Two cores that name different modes.
 pub fn conflict_prints_each_block()

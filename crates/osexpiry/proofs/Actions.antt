@@ -2,22 +2,12 @@
 use Rattle.std.proofs.Common.{◌≡◌, ◌≤◌, ◌&&◌, ◌==◌, ℕ, zero, suc, nat_le, nat_lt, Bool, true, false, cond, Option, Some, None, IfSome, IsTrue, List, [], ◌∷◌, flat_map, length, map, refl, ap, sym, ◌∙◌, arith}
 use Rattle.std.specs.List.{list_all, slice_get}
 use Rattle.std.proofs.lemmas.Bool.{and_from, and_parts, ltb-false, ltb-true}
-use Rattle.std.proofs.lemmas.List.Folds.{list_all-append, list_all-map}
-use Rattle.std.proofs.lemmas.Option.{cond_some, option_and_then_some}
-use Rattle.osbase.specs.declared.references.AlarmRef.{AlarmRef}
-use Rattle.osbase.specs.declared.references.TableRef.{TableRef}
-use Rattle.osbase.specs.declared.messages.RemoteCall.{RemoteCall}
-use Rattle.osbase.specs.History.{greater, same_core}
-use Rattle.osplan.specs.declared.plans.Alarm.{Alarm}
-use Rattle.osplan.specs.declared.plans.Core.{Core}
-use Rattle.osplan.specs.declared.plans.ExpiryPoint.{ExpiryPoint}
-use Rattle.osplan.specs.declared.plans.Table.{Table}
-use Rattle.osplan.specs.Clocked.{are_clocks_within}
+use Rattle.std.proofs.{lemmas.List.Folds.list_all-append, lemmas.List.Folds.list_all-map, lemmas.Option.cond_some, lemmas.Option.option_and_then_some}
+use Rattle.osbase.specs.{declared.references.AlarmRef.AlarmRef, declared.references.TableRef.TableRef, declared.messages.RemoteCall.RemoteCall, History.greater, History.same_core}
+use Rattle.osplan.specs.{declared.plans.Alarm.Alarm, declared.plans.Core.Core, declared.plans.ExpiryPoint.ExpiryPoint, declared.plans.Table.Table, Clocked.are_clocks_within, View.own_alarm, View.own_table}
 use Rattle.osplan.specs.Objects.{core_actions, greatest_of, may_act, posted_at, table_actions}
-use Rattle.osplan.specs.View.{own_alarm, own_table}
-use Rattle.osplan.proofs.Tests.{each-flat}
+use Rattle.osplan.proofs.{Tests.each-flat, Timing.own-table-timed, Timing.own-table-within, Timing.table-parts}
 use Rattle.osbase.proofs.Places.{passes-at}
-use Rattle.osplan.proofs.Timing.{own-table-timed, own-table-within, table-parts}
 use Rattle.osaction.specs.Points.{is_known_point}
 use Rattle.osexpiry.specs.ExpiryPoints.{first_point, if_at_once, point_of}
 

@@ -1,37 +1,22 @@
 -- A count of a counter, and the service that counts, act on the own core and on cores that may be asked, where the core's alarms and
 -- schedule tables do.
 use Rattle.std.proofs.Common.{◌≡◌, Bool, true, false, Option, Some, IfSome, None, refl, sym, subst}
-use Rattle.std.specs.List.{list_all}
-use Rattle.std.specs.Option.{option_map_or}
-use Rattle.std.proofs.lemmas.Bool.{and_from, and_parts}
-use Rattle.std.proofs.lemmas.Option.{option_and_then_some}
-use Rattle.osbase.specs.declared.references.AlarmRef.{AlarmRef}
-use Rattle.osbase.specs.declared.references.CoreId.{CoreId}
-use Rattle.osbase.specs.declared.references.CounterRef.{CounterRef}
-use Rattle.osbase.specs.declared.references.TableRef.{TableRef}
-use Rattle.osbase.specs.declared.references.Runner.{Runner}
-use Rattle.osbase.specs.declared.messages.RemoteCall.{RemoteCall}
-use Rattle.osbase.specs.History.{same_core}
-use Rattle.osbase.specs.Objects.{table_object}
+use Rattle.std.specs.{List.list_all, Option.option_map_or}
+use Rattle.std.proofs.{lemmas.Bool.and_from, lemmas.Bool.and_parts, lemmas.Option.option_and_then_some}
+use Rattle.osbase.specs.{declared.references.AlarmRef.AlarmRef, declared.references.CoreId.CoreId, declared.references.CounterRef.CounterRef, declared.references.TableRef.TableRef, declared.references.Runner.Runner, declared.messages.RemoteCall.RemoteCall, History.same_core, Objects.table_object}
 use Rattle.osbase.proofs.Same.{same_core-true}
 use Rattle.oscript.specs.declared.Op.{Op}
-use Rattle.osplan.specs.declared.plans.Alarm.{Alarm}
-use Rattle.osplan.specs.declared.plans.ExpiryPoint.{ExpiryPoint}
-use Rattle.osplan.specs.Objects.{core_actions, has_index, is_own_object}
-use Rattle.osplan.specs.View.{View, own_alarm}
+use Rattle.osplan.specs.{declared.plans.Alarm.Alarm, declared.plans.ExpiryPoint.ExpiryPoint, Objects.core_actions, Objects.has_index, Objects.is_own_object, View.View, View.own_alarm}
 use Rattle.osplan.proofs.Tests.{all-filter}
-use Rattle.ostable.specs.declared.tables.DueTable.{DueTable}
-use Rattle.ostable.specs.Waiting.{are_own}
+use Rattle.ostable.specs.{declared.tables.DueTable.DueTable, Waiting.are_own}
 use Rattle.osacts.specs.Acts.{Acts}
 use Rattle.osservice.proofs.Kept.{AreAllowed, IsNamed, Leave, each-ok, elsewhere, for_each-ok, found-ok, is_within}
 use Rattle.osservice.proofs.Partners.{Partner}
 use Rattle.oscall.specs.Border.{core_of_call}
 use Rattle.oscall.proofs.Allowed.{service-ok}
-use Rattle.osexpiry.specs.Advancing.{counts}
+use Rattle.osexpiry.specs.{Advancing.counts, Expiring.expires, Expiring.expires_by, Incrementing.increment_acts}
 use Rattle.osaction.specs.Actions.{acts}
 use Rattle.osaction.specs.Points.{acts_each, does_point, is_of_kind, of_kind}
-use Rattle.osexpiry.specs.Expiring.{expires, expires_by}
-use Rattle.osexpiry.specs.Incrementing.{increment_acts}
 use Rattle.osexpiry.specs.ExpiryPoints.{begins_period, due_point, ends, first_point, processes_table, point_of, processes_point}
 use Rattle.osexpiry.proofs.Actions.{alarm-passes, first-there, if-found, point-passes}
 

@@ -1,15 +1,9 @@
 -- What is known of an alarm of the core, and how many there are.
 use Rattle.std.proofs.Common.{◌≡◌, ◌≤◌, true, Option, Some, None, option_map, length, ap, arith}
 use Rattle.std.specs.Option.{option_map_or}
-use Rattle.osbase.specs.declared.references.AlarmRef.{AlarmRef}
-use Rattle.osbase.specs.declared.references.CounterRef.{CounterRef}
-use Rattle.osplan.specs.declared.plans.Alarm.{Alarm}
-use Rattle.osplan.specs.declared.plans.Core.{Core}
-use Rattle.osbase.specs.declared.messages.RemoteCall.{RemoteCall}
-use Rattle.osplan.specs.Clocked.{are_clocks_within}
-use Rattle.osplan.specs.View.{own_alarm}
-use Rattle.osplan.proofs.Clocked.{clock-parts}
-use Rattle.osplan.proofs.Tests.{length-filter-le}
+use Rattle.osbase.specs.{declared.references.AlarmRef.AlarmRef, declared.references.CounterRef.CounterRef, declared.messages.RemoteCall.RemoteCall}
+use Rattle.osplan.specs.{declared.plans.Alarm.Alarm, declared.plans.Core.Core, Clocked.are_clocks_within, View.own_alarm}
+use Rattle.osplan.proofs.{Clocked.clock-parts, Tests.length-filter-le}
 use Rattle.osclock.specs.Clocks.{alarm_refs, attached_to, is_attached}
 use Rattle.osclock.proofs.Attached.{alarm-refs-length}
 

@@ -1,32 +1,15 @@
 -- How many letters join the outbox at a count: no more than the counter's alarms and tables may add to it.
 use Rattle.std.proofs.Common.{◌≡◌, ◌≤◌, ◌+◌, ◌&&◌, ◌||◌, ℕ, suc, Bool, true, false, not, cond, count_by, Option, Some, None, is_none, option_and_then, List, [], ◌∷◌, filter, length, map, sum_by, refl, ap, sym, ◌∙◌, arith}
-use Rattle.std.specs.List.{list_all, slice_get}
-use Rattle.std.specs.Option.{option_map_or}
-use Rattle.std.proofs.lemmas.Bool.{and_parts, cond-true, false≢true}
-use Rattle.std.proofs.lemmas.List.Filters.{sum_by-filter_both}
-use Rattle.std.proofs.lemmas.List.Sums.{sum_by-cons}
-use Rattle.std.proofs.lemmas.Option.{option_and_then_some}
-use Rattle.osbase.specs.declared.references.AlarmRef.{AlarmRef}
-use Rattle.osbase.specs.declared.references.CounterRef.{CounterRef}
-use Rattle.osbase.specs.declared.references.TableRef.{TableRef}
-use Rattle.osbase.specs.Sets.{numbers_from}
+use Rattle.std.specs.{List.list_all, List.slice_get, Option.option_map_or}
+use Rattle.std.proofs.{lemmas.Bool.and_parts, lemmas.Bool.cond-true, lemmas.Bool.false≢true, lemmas.List.Filters.sum_by-filter_both, lemmas.List.Sums.sum_by-cons, lemmas.Option.option_and_then_some}
+use Rattle.osbase.specs.{declared.references.AlarmRef.AlarmRef, declared.references.CounterRef.CounterRef, declared.references.TableRef.TableRef, Sets.numbers_from, History.same_core}
 use Rattle.osbase.proofs.Same.{same_core-refl}
-use Rattle.osplan.specs.declared.plans.Alarm.{Alarm}
-use Rattle.osplan.specs.declared.plans.Core.{Core}
-use Rattle.osplan.specs.declared.plans.ExpiryPoint.{ExpiryPoint}
-use Rattle.osplan.specs.declared.plans.Table.{Table}
-use Rattle.osbase.specs.History.{same_core}
-use Rattle.osplan.specs.Clocked.{are_clocks_within}
+use Rattle.osplan.specs.{declared.plans.Alarm.Alarm, declared.plans.Core.Core, declared.plans.ExpiryPoint.ExpiryPoint, declared.plans.Table.Table, Clocked.are_clocks_within, View.own_alarm, View.own_table}
 use Rattle.osplan.specs.Objects.{most_posts_of_table, is_posting, posted_at, most_posts_per_tick}
-use Rattle.osplan.specs.View.{own_alarm, own_table}
-use Rattle.osplan.proofs.Clocked.{clock-parts}
-use Rattle.osplan.proofs.Tests.{length-filter-le}
+use Rattle.osplan.proofs.{Clocked.clock-parts, Tests.length-filter-le}
 use Rattle.osclock.specs.Clocks.{ClockState, alarm_ref, alarm_refs, attached_to, due_in, is_attached, is_due_in}
-use Rattle.ostable.specs.Tables.{is_timed_by, table_refs, timed_by}
-use Rattle.ostable.proofs.Listed.{table-refs-length}
-use Rattle.ostable.proofs.Portions.{sum-of-plans}
-use Rattle.ostable.specs.declared.tables.DueTable.{DueTable}
-use Rattle.ostable.specs.Waiting.{ends_alone, repeats, with_next}
+use Rattle.ostable.specs.{Tables.is_timed_by, Tables.table_refs, Tables.timed_by, declared.tables.DueTable.DueTable, Waiting.ends_alone, Waiting.repeats, Waiting.with_next}
+use Rattle.ostable.proofs.{Listed.table-refs-length, Portions.sum-of-plans}
 use Rattle.osexpiry.specs.Advancing.{posted_at_point, posted_by, posted_for}
 use Rattle.osexpiry.specs.ExpiryPoints.{due_point, first_point, point_of, posted_by_end, posted_by_point, posted_by_table}
 use Rattle.osexpiry.proofs.Actions.{first-there, posted-within}

@@ -1,19 +1,12 @@
 -- What follows from one count of a counter, and how many letters join the outbox by it at most.
 use Rattle.std.specs.Prelude.{ℕ, ◌+◌, ◌*◌, if◌then◌else◌, Bool, false, length, suc, sum_by}
 use Rattle.std.specs.Option.{option_map_or}
-use Rattle.osbase.specs.declared.references.AlarmRef.{AlarmRef}
-use Rattle.osbase.specs.declared.references.CounterRef.{CounterRef}
-use Rattle.osbase.specs.declared.references.TableRef.{TableRef}
-use Rattle.osbase.specs.History.{CounterIncremented}
-use Rattle.osplan.specs.declared.plans.Alarm.{Alarm}
-use Rattle.osplan.specs.declared.plans.Core.{Core}
-use Rattle.osplan.specs.Objects.{most_posts_of_table, is_posting}
-use Rattle.osplan.specs.View.{own_alarm, own_table}
+use Rattle.osbase.specs.{declared.references.AlarmRef.AlarmRef, declared.references.CounterRef.CounterRef, declared.references.TableRef.TableRef, History.CounterIncremented}
+use Rattle.osplan.specs.{declared.plans.Alarm.Alarm, declared.plans.Core.Core, Objects.most_posts_of_table, Objects.is_posting, View.own_alarm, View.own_table}
 use Rattle.osclock.specs.Clocks.{attached_to}
 use Rattle.ostable.specs.Tables.{timed_by}
 use Rattle.osacts.specs.Acts.{Acts, Notes, both, look, one_then}
-use Rattle.osexpiry.specs.Expiring.{expire_each}
-use Rattle.osexpiry.specs.ExpiryPoints.{process_tables}
+use Rattle.osexpiry.specs.{Expiring.expire_each, ExpiryPoints.process_tables}
 
 -- The counter is incremented; then each of its alarms acts that expires at this count, in index order, and then each of its schedule
 -- tables that was running before it. [OSEK/VDX OS 2.2.3, section 9.1 and 9.2; AUTOSAR SWS OS 4.x, section 7.3; the order: own]

@@ -1,11 +1,8 @@
 -- What an alarm does when it is due.
-use Rattle.std.specs.Prelude.{List}
-use Rattle.std.specs.Option.{option_map_or}
-use Rattle.osbase.specs.declared.references.AlarmRef.{AlarmRef}
-use Rattle.osbase.specs.declared.messages.RemoteCall.{RemoteCall}
+use Rattle.std.specs.{Prelude.List, Option.option_map_or}
+use Rattle.osbase.specs.{declared.references.AlarmRef.AlarmRef, declared.messages.RemoteCall.RemoteCall}
 use Rattle.osbase.specs.declared.marks.Mark.TheVariants as Mark
-use Rattle.osplan.specs.declared.plans.Alarm.{Alarm}
-use Rattle.osplan.specs.View.{own_alarm}
+use Rattle.osplan.specs.{declared.plans.Alarm.Alarm, View.own_alarm}
 use Rattle.osacts.specs.Acts.{Acts, Prints, for_each, look, nothing, one_then}
 use Rattle.osaction.specs.Actions.{acts}
 

@@ -1,16 +1,10 @@
 -- What a schedule table does at a count.
 use Rattle.std.specs.Prelude.{ℕ, ◌+◌, ◌==◌, if◌then◌else◌, Option, Some, None, List, slice_get}
 use Rattle.std.specs.Option.{option_and_then, option_map_or}
-use Rattle.osbase.specs.declared.references.TableRef.{TableRef}
+use Rattle.osbase.specs.{declared.references.TableRef.TableRef, History.TableStopped, History.TableStarted}
 use Rattle.osbase.specs.declared.marks.Mark.TheVariants as Mark
-use Rattle.osbase.specs.History.{TableStopped, TableStarted}
-use Rattle.osplan.specs.declared.plans.Core.{Core}
-use Rattle.osplan.specs.declared.plans.ExpiryPoint.{ExpiryPoint}
-use Rattle.osplan.specs.declared.plans.Table.{Table}
-use Rattle.osplan.specs.Objects.{posted_at}
-use Rattle.osplan.specs.View.{own_table}
-use Rattle.ostable.specs.declared.tables.DueTable.{DueTable}
-use Rattle.ostable.specs.Waiting.{repeats}
+use Rattle.osplan.specs.{declared.plans.Core.Core, declared.plans.ExpiryPoint.ExpiryPoint, declared.plans.Table.Table, Objects.posted_at, View.own_table}
+use Rattle.ostable.specs.{declared.tables.DueTable.DueTable, Waiting.repeats}
 use Rattle.osacts.specs.Acts.{Acts, Notes, Prints, both, for_each, look, nothing, notes, one_then, when}
 use Rattle.osaction.specs.Points.{does_point}
 

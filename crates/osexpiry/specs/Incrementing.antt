@@ -1,17 +1,12 @@
 -- The service that advances a counter.
 use Rattle.std.specs.Prelude.{true, false, not, Bool, Option, Some, None, List, [], ◌∷◌}
 use Rattle.std.specs.Option.{option_map_or}
-use Rattle.osbase.specs.declared.statuses.Status.TheVariants.{EOk, EOsCore, EOsId}
+use Rattle.osbase.specs.{declared.statuses.Status.TheVariants.EOk, declared.statuses.Status.TheVariants.EOsCore, declared.statuses.Status.TheVariants.EOsId, declared.references.CounterRef.CounterRef, declared.references.Runner.Runner}
 use Rattle.osbase.specs.declared.statuses.ServiceId.TheVariants as ServiceId
-use Rattle.osbase.specs.declared.references.CounterRef.{CounterRef}
-use Rattle.osbase.specs.declared.references.Runner.{Runner}
 use Rattle.oscript.specs.declared.Op.{Op}
-use Rattle.osplan.specs.declared.plans.Core.{Core}
-use Rattle.osplan.specs.declared.plans.Counter.{Counter}
-use Rattle.osplan.specs.View.{own_counter}
+use Rattle.osplan.specs.{declared.plans.Core.Core, declared.plans.Counter.Counter, View.own_counter}
 use Rattle.osacts.specs.Acts.{Acts, both, look, nothing}
-use Rattle.osservice.specs.Checks.{Check}
-use Rattle.osservice.specs.Returning.{answers, returns}
+use Rattle.osservice.specs.{Checks.Check, Returning.answers, Returning.returns}
 use Rattle.osacts.specs.Seen.{Seen, is_this_core}
 use Rattle.osexpiry.specs.Advancing.{counts}
 

@@ -1,6 +1,6 @@
 //! What a schedule table does at a count.
 
-ghost use Rattle.std.specs.Prelude.{◌≡◌, ◌≤◌, ◌+◌, IfSome, IsTrue, length, option_copied, slice_get};
+ghost use Rattle.std.specs.Prelude.{◌≡◌, IfSome, IsTrue, option_copied, slice_get};
 ghost use Rattle.osbase.specs.Objects.{table_object};
 ghost use Rattle.osplan.specs.Objects.{is_own_object};
 ghost use Rattle.ostable.specs.Waiting.{are_own, repeats};
@@ -8,7 +8,7 @@ ghost use Rattle.osstate.specs.Does.{HasRoom};
 ghost use Rattle.osservice.specs.Terms.{MayPost};
 ghost use Rattle.osaction.specs.Points.{is_known_point};
 ghost use Rattle.osexpiry.specs.ExpiryPoints.{begins, due_point, ends, first_point, processes_table, posted_by_end, posted_by_point, posted_by_table, processes_point, stops};
-ghost use Rattle.osacts.specs.Steps.{Steps};
+ghost use Rattle.osacts.specs.Steps.{Posts, StepsWithin};
 
 use osaction::do_point;
 use osbase::{Mark, TableRef};
@@ -24,8 +24,7 @@ pub(crate) fn process_table<const P: usize, const J: usize, const OUT: usize>(
 )
     requires own { IsTrue (are_own state.old.view.own due) }
     requires posts { MayPost (posted_by_table state.old.view.own due) OUT 38 36 state.old marks.old }
-    ensures steps { Steps 38 36 (processes_table due) state.old state.new marks.old marks.new }
-    ensures outbox { length state.new.border.outbox ≤ length state.old.border.outbox + posted_by_table state.old.view.own due }
+    ensures { Posts (posted_by_table state.old.view.own due) 38 36 (processes_table due) state.old state.new marks.old marks.new }
 {
     let point = due_point(state, due);
     process_point(state, due.table, point, marks);
@@ -44,8 +43,7 @@ fn end<const P: usize, const J: usize, const OUT: usize>(
     requires own { IsTrue (is_own_object state.old.view.own (table_object table)) }
     requires next { IfSome next (λ u. IsTrue (is_own_object state.old.view.own (table_object u))) }
     requires posts { MayPost (posted_by_end state.old.view.own table next) OUT 21 19 state.old marks.old }
-    ensures steps { Steps 21 19 (ends table next) state.old state.new marks.old marks.new }
-    ensures outbox { length state.new.border.outbox ≤ length state.old.border.outbox + posted_by_end state.old.view.own table next }
+    ensures { Posts (posted_by_end state.old.view.own table next) 21 19 (ends table next) state.old state.new marks.old marks.new }
 {
     if let Some(next) = next {
         stop(state, table, marks);
@@ -77,8 +75,7 @@ fn stop<const P: usize, const J: usize, const OUT: usize>(
 )
     requires own { IsTrue (is_own_object state.old.view.own (table_object table)) }
     requires room { HasRoom 2 1 state.old marks.old }
-    ensures steps { Steps 2 1 (stops table) state.old state.new marks.old marks.new }
-    ensures border { state.new.border ≡ state.old.border }
+    ensures { StepsWithin 2 1 (stops table) state.old state.new marks.old marks.new }
 {
     state.print(Mark::TableStopped(table), marks);
     state.stop_table(table);
@@ -91,8 +88,7 @@ fn begin<const P: usize, const J: usize, const OUT: usize>(
 )
     requires own { IsTrue (is_own_object state.old.view.own (table_object table)) }
     requires posts { MayPost (posted_by_point state.old.view.own (first_point state.old.view.own table)) OUT 19 18 state.old marks.old }
-    ensures steps { Steps 19 18 (begins table) state.old state.new marks.old marks.new }
-    ensures outbox { length state.new.border.outbox ≤ length state.old.border.outbox + posted_by_point state.old.view.own (first_point state.old.view.own table) }
+    ensures { Posts (posted_by_point state.old.view.own (first_point state.old.view.own table)) 19 18 (begins table) state.old state.new marks.old marks.new }
 {
     state.print(Mark::TableBegun(table), marks);
     state.start_table(table, 0);
@@ -144,8 +140,7 @@ fn process_point<const P: usize, const J: usize, const OUT: usize>(
 )
     requires known { IfSome (option_copied point) (λ x. IsTrue (is_known_point state.old.view.own x)) }
     requires posts { MayPost (posted_by_point state.old.view.own (option_copied point)) OUT 17 17 state.old marks.old }
-    ensures steps { Steps 17 17 (processes_point table (option_copied point.entry)) state.old state.new marks.old marks.new }
-    ensures outbox { length state.new.border.outbox ≤ length state.old.border.outbox + posted_by_point state.old.view.own (option_copied point.entry) }
+    ensures { Posts (posted_by_point state.old.view.own (option_copied point.entry)) 17 17 (processes_point table (option_copied point.entry)) state.old state.new marks.old marks.new }
 {
     if let Some(point) = point {
         do_point(state, table, point, marks);

@@ -1,8 +1,7 @@
 //! The service that advances a counter.
 
 ghost use Rattle.std.specs.Prelude.{◌≡◌, Some, IsTrue};
-ghost use Rattle.osplan.specs.Clocked.{are_clocks_within};
-ghost use Rattle.osplan.specs.Objects.{most_posts_per_tick};
+ghost use Rattle.osplan.specs.{Clocked.are_clocks_within, Objects.most_posts_per_tick};
 ghost use Rattle.osstate.specs.Does.{service_entries, service_marks};
 ghost use Rattle.osservice.specs.Terms.{MayOperate, Offered};
 ghost use Rattle.osexpiry.specs.Incrementing.{increment_acts, increments, is_hardware};

@@ -1,11 +1,7 @@
 -- Whether a kernel is large enough for a core.
 use Rattle.std.specs.Prelude.{ℕ, ◌&&◌, nat_le, nat_lt, Bool, false, Option, sum_by}
-use Rattle.std.specs.List.{list_all}
-use Rattle.std.specs.Option.{option_map_or}
-use Rattle.osplan.specs.declared.plans.Core.{Core}
-use Rattle.osplan.specs.declared.plans.Resource.{Resource}
-use Rattle.osplan.specs.declared.plans.Task.{Task}
-use Rattle.osplan.specs.Objects.{outbox_needed}
+use Rattle.std.specs.{List.list_all, Option.option_map_or}
+use Rattle.osplan.specs.{declared.plans.Core.Core, declared.plans.Resource.Resource, declared.plans.Task.Task, Objects.outbox_needed}
 
 -- The core's priorities and ceilings are below this bound; there is room for as many jobs as its tasks may have, and for as many letters
 -- as its outbox needs. [own]

@@ -3,12 +3,9 @@
 ghost use Rattle.std.specs.Prelude.{◌≡◌, ◌<◌, ◌≤◌, ◌^◌, count_by, nat_lt, sum_by};
 ghost use Rattle.std.specs.List.{list_all};
 ghost use Rattle.osbase.specs.declared.limits.TheConstants.{JOBS, POSTED};
-ghost use Rattle.osplan.specs.declared.plans.Alarm.{Alarm as AlarmValue};
-ghost use Rattle.osplan.specs.declared.plans.Resource.{Resource as ResourceValue};
-ghost use Rattle.osplan.specs.declared.plans.Task.{Task as TaskValue};
+ghost use Rattle.osplan.specs.{declared.plans.Alarm.Alarm as AlarmValue, declared.plans.Resource.Resource as ResourceValue, declared.plans.Task.Task as TaskValue, View.core_of};
 ghost use Rattle.osfit.specs.Fits.{fits_core, fits_in};
 ghost use Rattle.osplan.specs.Objects.{most_posts_of_table, is_posting, outbox_needed, posted_at, most_posts_per_tick};
-ghost use Rattle.osplan.specs.View.{core_of};
 
 use osbase::{CALLS_AT_ONCE, CoreId, RemoteCall};
 use osplan::{Config, Core, ExpiryPoint, Table, Task};

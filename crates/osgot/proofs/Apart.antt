@@ -1,13 +1,9 @@
 -- None of the spinlocks that a core got is among them twice, so there is room for all; and so it stays.
 use Rattle.std.proofs.Common.{◌≡◌, ◌&&◌, ◌||◌, ℕ, zero, suc, ◌≤◌, ◌<◌, nat_eq, nat_lt, Bool, true, false, cond, not, IfSome, Some, option_map, List, [], ◌∷◌, ◌++◌, length, map, take, drop, get_or, refl, ap, sym, subst, ◌∙◌, arith, add-one, drop-cons, ◌+◌}
 use Rattle.std.specs.List.{find, refill, remove, slice_set}
-use Rattle.std.proofs.Math.Seq.{take-append_seam}
-use Rattle.std.proofs.lemmas.List.{length-map}
+use Rattle.std.proofs.{Math.Seq.take-append_seam, lemmas.List.length-map}
 use Rattle.std.proofs.lemmas.Bool.{and_from, and_parts, eqb-true, lt-ltb, ltb-true, not-true, not_from_false, or_from, or_parts}
-use Rattle.osbase.specs.declared.references.Runner.{Runner}
-use Rattle.osbase.specs.declared.references.SpinlockId.{SpinlockId}
-use Rattle.osbase.specs.declared.histories.GotSpinlock.{GotSpinlock}
-use Rattle.osbase.specs.declared.limits.TheConstants.{SPINLOCKS}
+use Rattle.osbase.specs.{declared.references.Runner.Runner, declared.references.SpinlockId.SpinlockId, declared.histories.GotSpinlock.GotSpinlock, declared.limits.TheConstants.SPINLOCKS}
 use Rattle.osbase.specs.Spins.{all_owed, has_spinlock, is_got_by, is_owed, newest_owed, owed, owed_by, same_spinlock, without_spinlock}
 use Rattle.osbase.proofs.Few.{few, number_count}
 use Rattle.osgot.specs.Grants.{are_apart}

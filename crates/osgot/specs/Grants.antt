@@ -1,11 +1,7 @@
 -- Whose spinlocks those are that a core got, and what holds of all of them.
 use Rattle.std.specs.Prelude.{nat_lt, Bool, true, ◌&&◌, not, List, [], ◌∷◌}
 use Rattle.std.specs.List.{list_any}
-use Rattle.osbase.specs.declared.references.Runner.{Runner}
-use Rattle.osbase.specs.declared.references.SpinlockId.{SpinlockId}
-use Rattle.osbase.specs.declared.histories.GotSpinlock.{GotSpinlock}
-use Rattle.osbase.specs.declared.limits.TheConstants.{SPINLOCKS}
-use Rattle.osbase.specs.Spins.{has_spinlock, is_got_by, same_spinlock}
+use Rattle.osbase.specs.{declared.references.Runner.Runner, declared.references.SpinlockId.SpinlockId, declared.histories.GotSpinlock.GotSpinlock, declared.limits.TheConstants.SPINLOCKS, Spins.has_spinlock, Spins.is_got_by, Spins.same_spinlock}
 
 -- The runner's job has the spinlock. [AUTOSAR SWS OS 4.x, ReleaseSpinlock, E_OS_STATE]
 abbrev pub is_held_by : Runner → SpinlockId → List GotSpinlock → Bool

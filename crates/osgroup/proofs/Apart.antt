@@ -3,12 +3,10 @@ use Rattle.std.proofs.Common.{◌≡◌, ◌⊎◌, ℕ, ◌<◌, Bool, true, fa
 use Rattle.std.specs.{List.list_all, List.position_or_len, Option.option_map_or}
 use Rattle.std.proofs.{lemmas.List.length-map, lemmas.List.Folds.find_at}
 use Rattle.std.proofs.lemmas.Bool.{and_parts, and_from, eq-eqb, false≢true, ltb-true, not-true, not_from_false, or_parts}
-use Rattle.osbase.specs.{declared.references.CoreId.CoreId, declared.items.CoreSet.CoreSet, declared.objects.Object.Object, declared.objects.ObjectKind.ObjectKind, declared.objects.TheConstants.NOBODY}
-use Rattle.osbase.specs.{declared.references.SpinlockId.SpinlockId, History.same_core, Objects.same_kind, Objects.spinlock_of, Sets.has_core}
+use Rattle.osbase.specs.{declared.references.CoreId.CoreId, declared.items.CoreSet.CoreSet, declared.objects.Object.Object, declared.objects.ObjectKind.ObjectKind, declared.objects.TheConstants.NOBODY, declared.references.SpinlockId.SpinlockId, History.same_core, Objects.same_kind, Objects.spinlock_of, Sets.has_core}
 use Rattle.osbase.proofs.{Places.passes-at, Same.same_core-true, Same.same_kind-true, Same.same_core-refl}
 use Rattle.oscript.specs.Rows.{halts_all}
-use Rattle.osplan.specs.{declared.plans.Plan.Plan, declared.plans.Core.Core, declared.plans.Spinlock.Spinlock, View.core_of}
-use Rattle.osplan.specs.Limits.{is_core_known, is_object, is_within_limits}
+use Rattle.osplan.specs.{declared.plans.Plan.Plan, declared.plans.Core.Core, declared.plans.Spinlock.Spinlock, View.core_of, Limits.is_core_known, Limits.is_object, Limits.is_within_limits}
 use Rattle.osplan.specs.Naming.{has_operation, is_on, is_that_spinlock, names_object, op_names}
 use Rattle.osplan.specs.Objects.{common_names, core_scripts, has_index, is_common, object_count}
 use Rattle.osplan.proofs.{Tests.find-holds, Within.limit-parts}

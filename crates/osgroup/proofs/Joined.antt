@@ -5,19 +5,15 @@ use Rattle.std.proofs.lemmas.Bool.{and_parts, and_from, false≢true, not_from_f
 use Rattle.osbase.specs.{declared.references.CoreId.CoreId, declared.items.CoreSet.CoreSet, declared.objects.Object.Object, declared.objects.TheConstants.NOBODY, declared.references.SpinlockId.SpinlockId, History.same_core, Sets.has_core}
 use Rattle.osbase.proofs.{Places.passes-at, Same.same_core-refl, Same.same_core-true}
 use Rattle.oscript.specs.Rows.{halts_all}
-use Rattle.osplan.specs.{declared.plans.Plan.Plan, declared.plans.Core.Core, View.core_of}
-use Rattle.osplan.specs.Limits.{is_object, is_within_limits}
+use Rattle.osplan.specs.{declared.plans.Plan.Plan, declared.plans.Core.Core, View.core_of, Limits.is_object, Limits.is_within_limits, Objects.core_scripts, Limits.is_core_known}
 use Rattle.osplan.specs.Naming.{has_operation, is_off, is_on, is_that_spinlock, names_object}
-use Rattle.osplan.specs.Objects.{core_scripts}
 use Rattle.osplan.proofs.{Found.IsFound, Found.each-found, Numbered.configured-low, Tests.any-find, Tests.fails-at, Within.limit-parts}
-use Rattle.osplan.specs.Limits.{is_core_known}
 use Rattle.osseparate.specs.Separate.{is_separate, is_separate_core}
 use Rattle.osseparate.proofs.Separating.{SeparateParts, separate-parts}
 use Rattle.osgroup.specs.Groups.{has_say, is_group, names_spinlock}
 use Rattle.osgroup.specs.Laws.{HasAll, HasOne, IsIntersection, IsUnion}
 use Rattle.osgroup.proofs.Among.{any-one, falls, no-number, one-any, recursion-at}
-use Rattle.osgroup.proofs.Apart.{spinlock-common}
-use Rattle.osgroup.proofs.Members.{GroupParts, group-from, group-parts}
+use Rattle.osgroup.proofs.{Apart.spinlock-common, Members.GroupParts, Members.group-from, Members.group-parts}
 use Rattle.osgroup.proofs.Named.{known-scripts, named_objects, names-any, script_objects, scripts-any}
 
 -- a core at a place is configured

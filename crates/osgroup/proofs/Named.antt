@@ -4,9 +4,8 @@ use Rattle.std.specs.{List.list_all, List.list_any}
 use Rattle.std.proofs.{lemmas.Bool.and_parts, lemmas.List.Folds.list_all-map, lemmas.List.Folds.list_any-append}
 use Rattle.osbase.specs.{declared.objects.Object.Object, declared.messages.RemoteCall.RemoteCall, Objects.counter_object, Objects.object_of_call}
 use Rattle.oscript.specs.{declared.Op.Op, Calls.is_action, Rows.objects_of}
-use Rattle.osplan.specs.{declared.plans.Plan.Plan, declared.plans.Alarm.Alarm, declared.plans.Core.Core, declared.plans.Table.Table}
+use Rattle.osplan.specs.{declared.plans.Plan.Plan, declared.plans.Alarm.Alarm, declared.plans.Core.Core, declared.plans.Table.Table, Naming.acts_on, Naming.names_object, Naming.op_names}
 use Rattle.osplan.specs.Limits.{is_action_known, is_alarm_known, is_core_known, is_core_mode, is_mode, is_object, is_script_known, is_table_known, is_task_known}
-use Rattle.osplan.specs.Naming.{acts_on, names_object, op_names}
 use Rattle.osplan.specs.Objects.{alarm_modes, core_actions, core_scripts, table_actions, table_modes}
 use Rattle.osplan.proofs.Tests.{all-append, all-flat, all-weaker, any-flat, any-mapped}
 

@@ -1,8 +1,7 @@
 -- One row more.
 use Rattle.std.proofs.Common.{◌≡◌, ◌≢◌, ℕ, ◌+◌, ◌<◌, false, Option, List, length, get_or, set, sym, ap, ◌∙◌, below_more, arith}
 use Rattle.std.specs.Option.{option_map_or}
-use Rattle.std.proofs.lemmas.Option.{slice_get-get_or}
-use Rattle.std.proofs.lemmas.List.{length-set, get_or-set_other, get_or-set_same}
+use Rattle.std.proofs.{lemmas.Option.slice_get-get_or, lemmas.List.length-set, lemmas.List.get_or-set_other, lemmas.List.get_or-set_same}
 use Rattle.osbase.specs.{declared.references.CoreId.CoreId, declared.items.CoreSet.CoreSet, Sets.has_core}
 use Rattle.osplan.specs.declared.plans.Plan.{Plan}
 use Rattle.osgroup.specs.Least.{IsRow, is_in_row, has_say_at}

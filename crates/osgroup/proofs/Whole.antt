@@ -3,24 +3,21 @@ use Rattle.std.proofs.Common.{◌≡◌, ◌-◌, ◌<◌, Bool, true, false, no
 use Rattle.std.specs.{List.list_all, List.list_any, Option.option_map_or}
 use Rattle.std.proofs.{lemmas.List.append_assoc, lemmas.List.Folds.list_all-map, lemmas.List.Folds.list_any-append}
 use Rattle.std.proofs.lemmas.Bool.{and_parts, and_from, or_parts, not-true, not-false}
-use Rattle.osbase.specs.{declared.references.CoreId.CoreId, declared.items.CoreSet.CoreSet, declared.references.CounterRef.CounterRef, declared.objects.Object.Object, declared.objects.ObjectKind.ObjectKind, declared.objects.TheConstants.NOBODY}
-use Rattle.osbase.specs.{declared.messages.RemoteCall.RemoteCall, History.same_core, Objects.counter_object, Objects.object_of_call, Sets.has_core}
+use Rattle.osbase.specs.{declared.references.CoreId.CoreId, declared.items.CoreSet.CoreSet, declared.references.CounterRef.CounterRef, declared.objects.Object.Object, declared.objects.ObjectKind.ObjectKind, declared.objects.TheConstants.NOBODY, declared.messages.RemoteCall.RemoteCall, History.same_core, Objects.counter_object, Objects.object_of_call, Sets.has_core}
 use Rattle.osbase.proofs.Same.{same_core-true}
 use Rattle.oscript.specs.{declared.Op.Op, Calls.is_action, Rows.objects_of}
-use Rattle.osplan.specs.{declared.plans.Plan.Plan, declared.plans.Core.Core, declared.plans.Alarm.Alarm, declared.plans.Table.Table}
+use Rattle.osplan.specs.{declared.plans.Plan.Plan, declared.plans.Core.Core, declared.plans.Alarm.Alarm, declared.plans.Table.Table, View.core_of, View.counter_in}
 use Rattle.osplan.specs.Representable.{all_common_names, are_distinct, is_core_representable, is_representable, object_names}
 use Rattle.osplan.specs.Limits.{CoreSizes, StartSizes, TableSizes, alarm_sizes, cores_by, core_sizes, is_action_known, is_alarm_known, is_alarm_local, is_by, is_core_known, is_core_mode, has_local_references, is_core_timed, is_core_within, is_mode, is_object, is_op_known, is_script_known, is_table_known, is_table_local, is_table_timed, is_task_known, is_versioned, is_within, is_within_limits, are_numbers_distinct, numbers_of, number_of, sizes_of, table_sizes, is_between, most_cores}
 use Rattle.osplan.specs.Objects.{alarm_modes, core_scripts, common_names, has_index, is_common, table_actions, table_modes}
 use Rattle.osplan.specs.Naming.{acts_on, has_operation, is_on, names_object, op_names}
-use Rattle.osplan.specs.View.{core_of, counter_in}
 use Rattle.osplan.proofs.{Acting.any-acting, Numbered.configured-low}
 use Rattle.osplan.proofs.Tests.{all-both, all-weaker, all-without, map-where}
 use Rattle.osplan.proofs.Within.{LimitParts, NearParts, TextParts, limit-parts, near-parts, text-parts}
 use Rattle.osseparate.proofs.Distinct.{distinct-back, distinct-kept}
 use Rattle.osgroup.specs.Apart.{is_outside}
 use Rattle.osgroup.specs.Groups.{bare_core, group_of, is_group, part_of}
-use Rattle.osgroup.proofs.Apart.{named-inside}
-use Rattle.osgroup.proofs.Seeing.{core-inside, core-part, part-id}
+use Rattle.osgroup.proofs.{Apart.named-inside, Seeing.core-inside, Seeing.core-part, Seeing.part-id}
 
 module _ (plan : Plan) (group : CoreSet) (limits : IsTrue (is_within_limits plan)) where
   abbrev alone : Plan

@@ -1,18 +1,9 @@
 -- What cores in a group and outside do not name, core by core.
 use Rattle.std.specs.Prelude.{◌&&◌, not, if◌then◌else◌, Bool}
 use Rattle.std.specs.List.{list_any}
-use Rattle.osbase.specs.declared.references.SpinlockId.{SpinlockId}
-use Rattle.osbase.specs.declared.items.CoreSet.{CoreSet}
-use Rattle.osbase.specs.declared.objects.Object.{Object}
-use Rattle.osbase.specs.declared.objects.ObjectKind.TheVariants.{Spinlock}
-use Rattle.osbase.specs.declared.objects.TheConstants.{NOBODY}
-use Rattle.osbase.specs.History.{same_core}
-use Rattle.osbase.specs.Objects.{same_kind, spinlock_of}
-use Rattle.osbase.specs.Sets.{has_core}
+use Rattle.osbase.specs.{declared.references.SpinlockId.SpinlockId, declared.items.CoreSet.CoreSet, declared.objects.Object.Object, declared.objects.ObjectKind.TheVariants.Spinlock, declared.objects.TheConstants.NOBODY, History.same_core, Objects.same_kind, Objects.spinlock_of, Sets.has_core}
 use Rattle.oscript.specs.Rows.{halts_all}
-use Rattle.osplan.specs.declared.plans.Plan.{Plan}
-use Rattle.osplan.specs.declared.plans.Core.{Core}
-use Rattle.osplan.specs.Naming.{has_operation, names_object, op_names}
+use Rattle.osplan.specs.{declared.plans.Plan.Plan, declared.plans.Core.Core, Naming.has_operation, Naming.names_object, Naming.op_names}
 use Rattle.osgroup.specs.Groups.{names_spinlock}
 
 -- The object stands on a core of the group.

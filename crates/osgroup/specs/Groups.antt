@@ -1,16 +1,10 @@
 -- Groups of cores in which no other core has a say, the least group of a core, and the configuration of a group alone.
 use Rattle.std.specs.Prelude.{ℕ, zero, suc, ◌&&◌, ◌||◌, not, Bool, if◌then◌else◌, is_some, List, length, map}
 use Rattle.std.specs.List.{list_all, list_any}
-use Rattle.osbase.specs.declared.references.CoreId.{CoreId}
-use Rattle.osbase.specs.declared.references.SpinlockId.{SpinlockId}
-use Rattle.osbase.specs.declared.items.CoreSet.{CoreSet}
-use Rattle.osbase.specs.History.{same_core}
-use Rattle.osbase.specs.Sets.{core_ids, has_core, numbers_from}
+use Rattle.osbase.specs.{declared.references.CoreId.CoreId, declared.references.SpinlockId.SpinlockId, declared.items.CoreSet.CoreSet, History.same_core, Sets.core_ids, Sets.has_core, Sets.numbers_from}
 use Rattle.oscript.specs.Rows.{halts_all}
-use Rattle.osplan.specs.declared.plans.Plan.{Plan}
-use Rattle.osplan.specs.declared.plans.Core.{Core}
+use Rattle.osplan.specs.{declared.plans.Plan.Plan, declared.plans.Core.Core, View.core_of, View.no_core}
 use Rattle.osplan.specs.Naming.{has_operation, is_on, is_that_spinlock, names_object, op_names}
-use Rattle.osplan.specs.View.{core_of, no_core}
 
 -- ---- who has a say in what a core does
 

@@ -1,11 +1,7 @@
 -- Sets of cores that are made of others.
 use Rattle.std.specs.Prelude.{◌≡◌, ◌&&◌, ◌||◌, is_some}
-use Rattle.osbase.specs.declared.references.CoreId.{CoreId}
-use Rattle.osbase.specs.declared.items.CoreSet.{CoreSet}
-use Rattle.osbase.specs.History.{same_core}
-use Rattle.osbase.specs.Sets.{has_core}
-use Rattle.osplan.specs.declared.plans.Plan.{Plan}
-use Rattle.osplan.specs.View.{core_of}
+use Rattle.osbase.specs.{declared.references.CoreId.CoreId, declared.items.CoreSet.CoreSet, History.same_core, Sets.has_core}
+use Rattle.osplan.specs.{declared.plans.Plan.Plan, View.core_of}
 
 -- All configured cores are in the set, and no others.
 abbrev pub HasAll : Plan → CoreSet → Type 0

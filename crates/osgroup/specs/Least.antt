@@ -1,14 +1,8 @@
 -- The least group of a core as the code finds it: a row for each core, of the cores that have a say in what it does.
 use Rattle.std.specs.Prelude.{◌≡◌, ◌<◌, ◌&&◌, ◌||◌, Bool, false, true, IsTrue, List, slice_get}
-use Rattle.std.specs.List.{list_any}
-use Rattle.std.specs.Option.{option_map_or}
-use Rattle.osbase.specs.declared.limits.TheConstants.{CORES}
-use Rattle.osbase.specs.declared.references.CoreId.{CoreId}
-use Rattle.osbase.specs.declared.items.CoreSet.{CoreSet}
-use Rattle.osbase.specs.History.{same_core}
-use Rattle.osbase.specs.Sets.{has_core}
-use Rattle.osplan.specs.declared.plans.Plan.{Plan}
-use Rattle.osplan.specs.declared.plans.Core.{Core}
+use Rattle.std.specs.{List.list_any, Option.option_map_or}
+use Rattle.osbase.specs.{declared.limits.TheConstants.CORES, declared.references.CoreId.CoreId, declared.items.CoreSet.CoreSet, History.same_core, Sets.has_core}
+use Rattle.osplan.specs.{declared.plans.Plan.Plan, declared.plans.Core.Core}
 use Rattle.osgroup.specs.Groups.{has_say, is_group}
 
 -- The set lies in each group of the core.

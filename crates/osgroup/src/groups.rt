@@ -2,13 +2,8 @@
 
 ghost use Rattle.std.specs.Prelude.{◌≡◌, ◌<◌, ◌&&◌, ◌||◌, not, IsTrue, is_some, true};
 ghost use Rattle.std.specs.List.{list_all};
-ghost use Rattle.osbase.specs.History.{same_core};
-ghost use Rattle.osbase.specs.Sets.{has_core};
-ghost use Rattle.osbase.specs.declared.limits.TheConstants.{CORES};
-ghost use Rattle.osbase.specs.declared.references.CoreId.{CoreId as IdValue};
-ghost use Rattle.osplan.specs.declared.plans.Core.{Core as CoreValue};
-ghost use Rattle.osplan.specs.Limits.{is_within_limits};
-ghost use Rattle.osplan.specs.View.{core_of};
+ghost use Rattle.osbase.specs.{History.same_core, Sets.has_core, declared.limits.TheConstants.CORES, declared.references.CoreId.CoreId as IdValue};
+ghost use Rattle.osplan.specs.{declared.plans.Core.Core as CoreValue, Limits.is_within_limits, View.core_of};
 ghost use Rattle.osgroup.specs.Groups.{are_configured, belongs_within, has_say, is_apart, is_group, is_in_least_group, names_spinlock, share_spinlock};
 ghost use Rattle.osgroup.specs.Least.{AreRows, IsLeast, IsRow, is_in_one_row, is_in_row, is_next, has_say_at, has_say_in};
 

@@ -1,16 +1,10 @@
 //! What holds of groups.
 
-ghost use Rattle.std.specs.Prelude.{◌≡◌, IsTrue, true};
-ghost use Rattle.std.specs.List.{list_all};
-ghost use Rattle.osbase.specs.declared.references.CoreId.{CoreId};
-ghost use Rattle.osbase.specs.declared.items.CoreSet.{CoreSet};
-ghost use Rattle.osbase.specs.Sets.{has_core};
-ghost use Rattle.osplan.specs.declared.plans.Plan.{Plan};
-ghost use Rattle.osplan.specs.Limits.{is_within_limits};
-ghost use Rattle.osplan.specs.View.{view_of};
+ghost use Rattle.std.specs.{Prelude.◌≡◌, Prelude.IsTrue, Prelude.true, List.list_all};
+ghost use Rattle.osbase.specs.{declared.references.CoreId.CoreId, declared.items.CoreSet.CoreSet, Sets.has_core};
+ghost use Rattle.osplan.specs.{declared.plans.Plan.Plan, Limits.is_within_limits, View.view_of};
 ghost use Rattle.osseparate.specs.Separate.{is_separate};
-ghost use Rattle.osgroup.specs.Apart.{keeps_apart};
-ghost use Rattle.osgroup.specs.Groups.{group_of, is_group};
+ghost use Rattle.osgroup.specs.{Apart.keeps_apart, Groups.group_of, Groups.is_group};
 ghost use Rattle.osgroup.specs.Laws.{HasAll, HasOne, IsIntersection, IsUnion};
 
 /// All configured cores together are a group.

@@ -1,8 +1,7 @@
 -- The ISRs of a core, one after the other.
 use Rattle.std.proofs.Common.{◌≡◌, ℕ, suc, ◌+◌, ◌-◌, ◌<◌, ◌≤◌, true, false, List, ◌∷◌, map, Some, None, refl, ap, ◌∙◌, arith}
 use Rattle.std.specs.Prelude.{find}
-use Rattle.osbase.specs.Sets.{numbers_from}
-use Rattle.osbase.specs.declared.references.IsrRef.{IsrRef}
+use Rattle.osbase.specs.{Sets.numbers_from, declared.references.IsrRef.IsrRef}
 use Rattle.osplan.specs.declared.plans.Core.{Core}
 use Rattle.osinput.specs.Given.{is_isr_named}
 

@@ -1,32 +1,18 @@
 -- The stimuli that are read are such as their cores know, and of each core not too many.
 use Rattle.std.proofs.Common.{◌≡◌, ℕ, ◌≤◌, ◌^◌, Bool, true, false, nat_le, cond, Option, Some, None, option_map, List, [], ◌∷◌, length, refl, sym, ap, subst, ◌∙◌, arith}
-use Rattle.std.specs.List.{list_all}
-use Rattle.std.specs.Option.{option_map_or}
+use Rattle.std.specs.{List.list_all, Option.option_map_or, Str.bytes_eq}
 use Rattle.std.specs.Prelude.{codes, drop, find, is_some, take, unwrap_or}
-use Rattle.std.specs.Str.{bytes_eq}
-use Rattle.std.proofs.lemmas.Bool.{and_parts, leb-true}
-use Rattle.std.proofs.lemmas.Option.{option_and_then_some, same_Some}
-use Rattle.osbase.specs.declared.references.CoreId.{CoreId}
-use Rattle.osbase.specs.declared.references.IsrRef.{IsrRef}
-use Rattle.osbase.specs.declared.items.Stimulus.{Stimulus}
-use Rattle.osbase.specs.declared.items.Stimulus.TheVariants.{Irq, Op, Tick}
-use Rattle.osbase.specs.declared.turns.CoreStimuli.{CoreStimuli}
-use Rattle.osbase.specs.History.{same_core}
-use Rattle.osbase.specs.Runs.{stimuli_of}
+use Rattle.std.proofs.{lemmas.Bool.and_parts, lemmas.Bool.leb-true, lemmas.Option.option_and_then_some, lemmas.Option.same_Some}
+use Rattle.osbase.specs.{declared.references.CoreId.CoreId, declared.references.IsrRef.IsrRef, declared.items.Stimulus.Stimulus, declared.items.Stimulus.TheVariants.Irq, declared.items.Stimulus.TheVariants.Op, declared.items.Stimulus.TheVariants.Tick, declared.turns.CoreStimuli.CoreStimuli, History.same_core, Runs.stimuli_of}
 use Rattle.osbase.proofs.Same.{same_core-true}
-use Rattle.osplan.specs.declared.plans.Core.{Core}
-use Rattle.osplan.specs.declared.plans.Isr.{Isr}
-use Rattle.osplan.specs.declared.plans.Plan.{Plan}
-use Rattle.osplan.specs.Stimuli.{AreKnown, knows_stimulus}
+use Rattle.osplan.specs.{declared.plans.Core.Core, declared.plans.Isr.Isr, declared.plans.Plan.Plan, Stimuli.AreKnown, Stimuli.knows_stimulus}
 use Rattle.osplan.specs.View.{core_of, no_core, own_isr, view_of}
 use Rattle.osplan.proofs.Tests.{find-holds}
-use Rattle.serde_json.specs.Data.{Data}
-use Rattle.serde_json.specs.Find.{as_str, as_object}
+use Rattle.serde_json.specs.{Data.Data, Find.as_str, Find.as_object}
 use Rattle.osinput.specs.Given.{are_stimuli_within, core_named, core_stimuli_of, has_words_within, is_isr_named, isr_named, stimuli_of_data, stimuli_of_words, stimulus_of}
 use Rattle.osinput.specs.Word.{core_number}
 use Rattle.osinput.proofs.Interrupts.{refs_from}
-use Rattle.osjson.specs.Reading.{each, parts_of}
-use Rattle.osjson.specs.Json.{entries}
+use Rattle.osjson.specs.{Reading.each, Reading.parts_of, Json.entries}
 
 -- each element was read
 each-parts : {X Y P : Type 0} (f : X → Option Y) (x : X) (xs : List X) (ys : List Y) → each f (x ∷ xs) ≡ Some ys → ((z : Y) (zs : List Y) → f x ≡ Some z → each f xs ≡ Some zs → ys ≡ z ∷ zs → P) → P

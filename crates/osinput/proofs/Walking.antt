@@ -1,9 +1,7 @@
 -- A step of a walk over a text by its words.
 use Rattle.std.proofs.Common.{◌≡◌, ℕ, ◌==◌, ◌+◌, nat_lt, cond, Bool, true, false, List, length, length-drop, take, drop, Option, Some, None, option_map, refl, arith}
 use Rattle.std.specs.List.{position_or_len}
-use Rattle.std.proofs.lemmas.Bool.{ltb-true, ltb-false}
-use Rattle.std.proofs.lemmas.List.Splits.{slice_split_first, slice_split_none}
-use Rattle.std.proofs.lemmas.List.Sums.{fails_before_first}
+use Rattle.std.proofs.{lemmas.Bool.ltb-true, lemmas.Bool.ltb-false, lemmas.List.Splits.slice_split_first, lemmas.List.Splits.slice_split_none, lemmas.List.Sums.fails_before_first}
 use Rattle.osinput.specs.Walk.{IsStep, cut_at_space}
 
 -- The first word of a text is what stands before its first space.

@@ -1,32 +1,12 @@
 -- The stimuli and the schedule that texts mean for a configuration, and the faults that they have. [own]
 use Rattle.std.specs.Prelude.{ℕ, ◌==◌, nat_le, Bool, true, not, is_some, Option, Some, None, option_and_then, unwrap_or, if◌then◌else◌, false, List, [], ◌∷◌, length, map, find, option_map, take, drop, position, codes}
-use Rattle.std.specs.Char.{is_ascii_digit}
-use Rattle.std.specs.Option.{option_map_or}
-use Rattle.std.specs.List.{list_all}
-use Rattle.std.specs.Str.{bytes_eq}
-use Rattle.osbase.specs.Sets.{numbers_from}
-use Rattle.osbase.specs.declared.limits.TheConstants.{ISRS}
-use Rattle.osbase.specs.declared.references.CoreId.{CoreId}
-use Rattle.osbase.specs.declared.references.IsrRef.{IsrRef}
-use Rattle.osbase.specs.declared.items.Stimulus.{Stimulus}
-use Rattle.osbase.specs.declared.items.Stimulus.TheVariants.{Op, Tick, Irq}
-use Rattle.osbase.specs.declared.turns.CoreStimuli.{CoreStimuli}
-use Rattle.osbase.specs.declared.turns.Choice.{Choice}
-use Rattle.osbase.specs.declared.turns.Choice.TheVariants.{Own, Serve, Look}
-use Rattle.osplan.specs.declared.plans.Core.{Core}
-use Rattle.osplan.specs.declared.plans.Isr.{Isr}
-use Rattle.osplan.specs.declared.plans.Plan.{Plan}
-use Rattle.osplan.specs.View.{core_of, own_isr}
-use Rattle.serde_json.specs.Data.{Data}
-use Rattle.serde_json.specs.Read.{read}
-use Rattle.serde_json.specs.Find.{as_str, as_object}
-use Rattle.osplan.specs.declared.faults.ConfFault.{ConfFault}
+use Rattle.std.specs.{Char.is_ascii_digit, Option.option_map_or, List.list_all, Str.bytes_eq}
+use Rattle.osbase.specs.{Sets.numbers_from, declared.limits.TheConstants.ISRS, declared.references.CoreId.CoreId, declared.references.IsrRef.IsrRef, declared.items.Stimulus.Stimulus, declared.items.Stimulus.TheVariants.Op, declared.items.Stimulus.TheVariants.Tick, declared.items.Stimulus.TheVariants.Irq, declared.turns.CoreStimuli.CoreStimuli, declared.turns.Choice.Choice, declared.turns.Choice.TheVariants.Own, declared.turns.Choice.TheVariants.Serve, declared.turns.Choice.TheVariants.Look}
+use Rattle.osplan.specs.{declared.plans.Core.Core, declared.plans.Isr.Isr, declared.plans.Plan.Plan, View.core_of, View.own_isr, declared.faults.ConfFault.ConfFault, Fault.Tests, Fault.failing, Fault.if_faultless}
+use Rattle.serde_json.specs.{Data.Data, Read.read, Find.as_str, Find.as_object}
 use Rattle.osplan.specs.declared.faults.ConfFault.TheVariants.{NotJson, Limit, BadStimulus, BadSchedule}
-use Rattle.osplan.specs.Fault.{Tests, failing}
 use Rattle.osinput.specs.Word.{core_number}
-use Rattle.osjson.specs.Reading.{◌>>=◌, each, parts_of}
-use Rattle.osjson.specs.Json.{entries}
-use Rattle.osplan.specs.Fault.{if_faultless}
+use Rattle.osjson.specs.{Reading.◌>>=◌, Reading.each, Reading.parts_of, Json.entries}
 
 -- The configured core that these digits name.
 abbrev pub core_named : Plan → List ℕ → Option Core

@@ -1,22 +1,13 @@
 //! Reading what a run is given: stimuli and turns.
 
 ghost use Rattle.std.specs.Prelude.{◌≡◌, ◌≢◌, ◌≤◌, ◌<◌, not, length, position, IfOk, IfErr, IfSome, Option, Some, option_copied, option_map, ℕ, List};
-ghost use Rattle.std.specs.Char.{is_ascii_digit};
-ghost use Rattle.std.specs.List.{list_all};
-ghost use Rattle.std.specs.Borrow.{Bor};
-ghost use Rattle.std.specs.BTreeMap.{values};
-ghost use Rattle.serde_json.specs.declared.value.Value.{Value};
-ghost use Rattle.osbase.specs.declared.items.Stimulus.{Stimulus as Word};
-ghost use Rattle.osbase.specs.declared.references.CoreId.{CoreId};
-ghost use Rattle.osbase.specs.declared.turns.Choice.{Choice};
-ghost use Rattle.osplan.specs.Stimuli.{AreKnown};
-ghost use Rattle.osjson.specs.Reading.{Gives, each};
-ghost use Rattle.osjson.specs.Json.{entries};
-ghost use Rattle.osplan.specs.Fault.{GivesOr, IsLeast};
+ghost use Rattle.std.specs.{Char.is_ascii_digit, List.list_all, Borrow.Bor, BTreeMap.values};
+ghost use Rattle.serde_json.specs.{declared.value.Value.Value, Read.read, View.view, View.members_view};
+ghost use Rattle.osbase.specs.{declared.items.Stimulus.Stimulus as Word, declared.references.CoreId.CoreId, declared.turns.Choice.Choice};
+ghost use Rattle.osplan.specs.{Stimuli.AreKnown, Fault.GivesOr, Fault.IsLeast};
+ghost use Rattle.osjson.specs.{Reading.Gives, Reading.each, Json.entries};
 ghost use Rattle.osinput.specs.Given.{core_named, is_isr_named, isr_named, stimulus_of, core_stimuli_of, stimuli_of_data, has_words_within, are_stimuli_within, schedule_of_data, digits_in, served, choice_of, turn_of, stimuli_of_text, stimuli_faults, schedule_of_text, schedule_faults};
 ghost use Rattle.osinput.specs.Walk.{IsStep};
-ghost use Rattle.serde_json.specs.Read.{read};
-ghost use Rattle.serde_json.specs.View.{view, members_view};
 
 use crate::walks::{WordReader, cut_at_space, read_words};
 use crate::words::core_number;

@@ -1,8 +1,7 @@
 -- The line of a core's least group, and its parts.
 use Rattle.std.proofs.Common.{◌≡◌, ◌∙◌, ◌++◌, Bool, cond, List, [], ◌∷◌, codes, refl, ap, ap₂, sym, append_assoc, filter, map}
 use Rattle.std.specs.List.{flat_map}
-use Rattle.osbase.specs.declared.references.CoreId.{CoreId}
-use Rattle.osbase.specs.Sets.{core_ids}
+use Rattle.osbase.specs.{declared.references.CoreId.CoreId, Sets.core_ids}
 use Rattle.osplan.specs.declared.plans.Plan.{Plan}
 use Rattle.osgroup.specs.Groups.{is_in_least_group}
 use Rattle.ostrace_text.specs.Trace.{led, line_end}

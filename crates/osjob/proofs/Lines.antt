@@ -1,11 +1,8 @@
 -- The lines or words of the cores that pass a test, as far as they are written.
 use Rattle.std.proofs.Common.{◌≡◌, ◌∙◌, ◌+◌, ◌<◌, ◌++◌, ℕ, Bool, true, false, cond, if◌then◌else◌, List, [], ◌∷◌, Option, Result, Ok, Err, refl, ap, sym, append-nil, append_assoc, take, drop, filter, take-append-drop}
-use Rattle.std.specs.List.{flat_map}
-use Rattle.std.specs.Result.{IsErr}
-use Rattle.std.proofs.lemmas.Grind.{flat_map-append}
-use Rattle.std.proofs.lemmas.List.Elements.{filter-append}
-use Rattle.osbase.specs.declared.references.CoreId.{CoreId}
-use Rattle.osbase.specs.Sets.{core_ids}
+use Rattle.std.specs.{List.flat_map, Result.IsErr}
+use Rattle.std.proofs.{lemmas.Grind.flat_map-append, lemmas.List.Elements.filter-append}
+use Rattle.osbase.specs.{declared.references.CoreId.CoreId, Sets.core_ids}
 use Rattle.ostrace.specs.Taken.{Writes}
 use Rattle.ostrace.proofs.Writing.{Writes-broken, Wrote, Wrote-all, Wrote-then}
 use Rattle.osrun.proofs.Configured.{id_at, one_more_id}

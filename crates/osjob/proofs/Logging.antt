@@ -1,19 +1,12 @@
 -- A run whose reports are printed.
 use Rattle.std.proofs.Common.{◌≡◌, ◌≢◌, ◌∙◌, ℕ, true, List, Option, None, Result, Ok, Err, refl, sym}
 use Rattle.std.specs.Prelude.{IfErr}
-use Rattle.osbase.specs.declared.references.CoreId.{CoreId}
-use Rattle.osbase.specs.declared.turns.Choice.{Choice}
-use Rattle.osbase.specs.declared.turns.CoreStimuli.{CoreStimuli}
-use Rattle.osbase.specs.declared.turns.Report.{Report}
+use Rattle.osbase.specs.{declared.references.CoreId.CoreId, declared.turns.Choice.Choice, declared.turns.CoreStimuli.CoreStimuli, declared.turns.Report.Report}
 use Rattle.osplan.specs.declared.plans.Plan.{Plan}
 use Rattle.oscommand.specs.declared.jobs.Print.TheVariants.{Order}
 use Rattle.ostrace.specs.declared.sinks.WriteFailed.{WriteFailed as SinkFailed}
-use Rattle.osjob.specs.declared.faults.Fault.{Fault}
-use Rattle.osjob.specs.declared.faults.Fault.TheVariants.{NoMemoryToRun, Unreadable}
-use Rattle.osjob.specs.declared.outcomes.Outcome.{Outcome}
+use Rattle.osjob.specs.{declared.faults.Fault.Fault, declared.faults.Fault.TheVariants.NoMemoryToRun, declared.faults.Fault.TheVariants.Unreadable, declared.outcomes.Outcome.Outcome, Runs.IsInput, Runs.IsThreaded, Runs.are_items_known, Texts.File, Texts.IsAsked}
 use Rattle.osjob.specs.Performs.{BreaksThreads, PrintsOrFaults, HasNoReports, IsOrderPrinted, IsReportOutput, IsReported, IsThreadsOutput, NoFault, PrintsFrom, broken_off, fails, prints, unless_refused}
-use Rattle.osjob.specs.Runs.{IsInput, IsThreaded, are_items_known}
-use Rattle.osjob.specs.Texts.{File, IsAsked}
 
 -- A text that was printed up to a refused write names no file, and no more does what was to come.
 pub written-asked : (written : Result Unit SinkFailed) (ending result : Result Outcome Fault) (count : ℕ) (files : List File) → IfErr ending (λ fault. fault ≢ Unreadable)

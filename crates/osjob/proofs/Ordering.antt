@@ -1,10 +1,7 @@
 -- The line of what was found where one order of a run's turns was sought.
 use Rattle.std.proofs.Common.{List, Option, Some, None, inl, inr, map, refl}
 use Rattle.std.specs.Prelude.{IfSome}
-use Rattle.osbase.specs.declared.references.CoreId.{CoreId}
-use Rattle.osbase.specs.declared.turns.Choice.{Choice}
-use Rattle.osbase.specs.declared.turns.CoreStimuli.{CoreStimuli}
-use Rattle.osbase.specs.declared.turns.Report.{Report}
+use Rattle.osbase.specs.{declared.references.CoreId.CoreId, declared.turns.Choice.Choice, declared.turns.CoreStimuli.CoreStimuli, declared.turns.Report.Report}
 use Rattle.osplan.specs.declared.plans.Plan.{Plan}
 use Rattle.osrun.specs.Sound.{unclocked}
 use Rattle.osworld.specs.Runs.{AreReports}

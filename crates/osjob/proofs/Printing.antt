@@ -3,12 +3,8 @@ use Rattle.std.proofs.Common.{◌≡◌, ◌∙◌, ℕ, List, [], ◌∷◌, Op
 use Rattle.osbase.specs.declared.turns.Report.{Report}
 use Rattle.osplan.specs.declared.plans.Plan.{Plan}
 use Rattle.ostrace_text.specs.Trace.{block_of, text_of}
-use Rattle.ostrace.specs.declared.sinks.WriteFailed.{WriteFailed as SinkFailed}
-use Rattle.ostrace.specs.Taken.{Writes}
-use Rattle.osjob.specs.declared.faults.Fault.{Fault}
-use Rattle.osjob.specs.declared.faults.Fault.TheVariants.{WriteFailed}
-use Rattle.osjob.specs.declared.outcomes.Outcome.{Outcome}
-use Rattle.osjob.specs.Performs.{Prints}
+use Rattle.ostrace.specs.{declared.sinks.WriteFailed.WriteFailed as SinkFailed, Taken.Writes}
+use Rattle.osjob.specs.{declared.faults.Fault.Fault, declared.faults.Fault.TheVariants.WriteFailed, declared.outcomes.Outcome.Outcome, Performs.Prints}
 
 module _ {S : Type 0} (taken : S → Option (List ℕ)) (failed : S → ℕ) (old new : S) (text : List ℕ) (ending : Result Outcome Fault) where
   pub Prints-ok : (done : Unit {0}) → Writes {E = SinkFailed} taken failed old new text (Ok done) → Prints taken failed old new text ending ending

@@ -1,19 +1,12 @@
 -- What was read of a job's files, and what stays of it.
 use Rattle.std.proofs.Common.{◌≡◌, ◌≢◌, ◌⊎◌, ◌+◌, ◌<◌, ◌≤◌, ◌∙◌, inl, inr, ap, arith, refl, ℕ, List, Option, Some, None, Result, Ok, Vec, length, get_or, option_map, option_and_then, slice_get}
-use Rattle.std.specs.List.{Contains}
-use Rattle.std.proofs.lemmas.Bool.{cases_lt}
-use Rattle.std.proofs.lemmas.Option.{slice_get-get_or, slice_get_within}
-use Rattle.std.specs.declared.alloc.Global.{Global}
+use Rattle.std.specs.{List.Contains, declared.alloc.Global.Global}
+use Rattle.std.proofs.{lemmas.Bool.cases_lt, lemmas.Option.slice_get-get_or, lemmas.Option.slice_get_within}
 use Rattle.osbase.specs.declared.turns.CoreStimuli.{CoreStimuli}
-use Rattle.osplan.specs.declared.plans.Plan.{Plan}
-use Rattle.osplan.specs.declared.faults.ConfFault.{ConfFault}
-use Rattle.osplan.specs.declared.faults.ConfFault.TheVariants.{NoMemory}
+use Rattle.osplan.specs.{declared.plans.Plan.Plan, declared.faults.ConfFault.ConfFault, declared.faults.ConfFault.TheVariants.NoMemory, Fault.IsLeast}
 use Rattle.osinput.specs.Given.{stimuli_of_text}
-use Rattle.osplan.specs.Fault.{IsLeast}
 use Rattle.osload.specs.Meaning.{config_of}
-use Rattle.osjob.specs.declared.faults.Fault.{Fault}
-use Rattle.osjob.specs.declared.faults.Fault.TheVariants.{Text}
-use Rattle.osjob.specs.Runs.{IsGiven}
+use Rattle.osjob.specs.{declared.faults.Fault.Fault, declared.faults.Fault.TheVariants.Text, Runs.IsGiven}
 use Rattle.osjob.specs.Texts.{File, IsFaultOf, KeepsBelow, Means, bytes_at, text_at, text_in}
 
 -- a reader's fault is the fault of the file

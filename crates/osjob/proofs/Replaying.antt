@@ -1,21 +1,12 @@
 -- A log as a file, and a replay of it.
 use Rattle.std.proofs.Common.{◌≡◌, ◌≢◌, ℕ, List, Option, Result, Ok, Err, refl}
 use Rattle.std.specs.Prelude.{IfErr, IsSome}
-use Rattle.osbase.specs.declared.items.Item.{Item}
-use Rattle.osbase.specs.declared.references.CoreId.{CoreId}
-use Rattle.osbase.specs.declared.turns.Report.{Report}
+use Rattle.osbase.specs.{declared.items.Item.Item, declared.references.CoreId.CoreId, declared.turns.Report.Report}
 use Rattle.osload.specs.Meaning.{config_of}
-use Rattle.oslog.specs.Logs.{IsLog}
-use Rattle.oslog.specs.declared.faults.LogFault.{LogFault}
+use Rattle.oslog.specs.{Logs.IsLog, declared.faults.LogFault.LogFault}
 use Rattle.oslog.specs.declared.faults.LogFault.TheVariants as log
-use Rattle.osplan.specs.declared.plans.Plan.{Plan}
-use Rattle.osplan.specs.View.{core_of}
-use Rattle.osjob.specs.declared.faults.Fault.{Fault}
-use Rattle.osjob.specs.declared.faults.Fault.TheVariants.{ItemRefused, NoMemoryToRun, Unreadable}
-use Rattle.osjob.specs.declared.outcomes.Outcome.{Outcome}
-use Rattle.osjob.specs.Faults.{of_log}
-use Rattle.osjob.specs.LogTexts.{IsLogFault, IsLogOf, log_at}
-use Rattle.osjob.specs.Performs.{PrintsOrFaults, fails, prints}
+use Rattle.osplan.specs.{declared.plans.Plan.Plan, View.core_of}
+use Rattle.osjob.specs.{declared.faults.Fault.Fault, declared.faults.Fault.TheVariants.ItemRefused, declared.faults.Fault.TheVariants.NoMemoryToRun, declared.faults.Fault.TheVariants.Unreadable, declared.outcomes.Outcome.Outcome, Faults.of_log, LogTexts.IsLogFault, LogTexts.IsLogOf, LogTexts.log_at, Performs.PrintsOrFaults, Performs.fails, Performs.prints}
 use Rattle.osjob.specs.Replays.{EndsAt, HasNoReplay, IsReplayOutput, Replays, broken_off}
 use Rattle.osjob.specs.Texts.{File, IsAsked, Means, text_at}
 use Rattle.osjob.proofs.Logging.{written-asked}

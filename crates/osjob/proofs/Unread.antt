@@ -3,14 +3,9 @@ use Rattle.std.proofs.Common.{◌≡◌, ◌∙◌, ℕ, List, [], Option, Err, 
 use Rattle.std.proofs.lemmas.List.{length-map}
 use Rattle.std.specs.Borrow.{Bor}
 use Rattle.osplan.specs.declared.faults.ConfFault.TheVariants.{NoMemory}
-use Rattle.osjob.specs.declared.faults.Fault.TheVariants.{Text, Unreadable}
-use Rattle.oscommand.specs.declared.jobs.Job.{Job}
+use Rattle.osjob.specs.{declared.faults.Fault.TheVariants.Text, declared.faults.Fault.TheVariants.Unreadable, Performs.HasNoOutput, Performs.fails, Program.PrintsJob, Runs.at_config, Texts.File}
+use Rattle.oscommand.specs.{declared.jobs.Job.Job, Jobs.paths_of}
 use Rattle.oscommand.specs.declared.jobs.Job.TheVariants.{Run, Check, Cut, Groups, Group, Replay, Threads}
-use Rattle.oscommand.specs.Jobs.{paths_of}
-use Rattle.osjob.specs.Performs.{HasNoOutput, fails}
-use Rattle.osjob.specs.Program.{PrintsJob}
-use Rattle.osjob.specs.Runs.{at_config}
-use Rattle.osjob.specs.Texts.{File}
 
 -- a job has as many paths as it lists
 pub listed_paths : (paths : List (Bor (List ℕ))) (job : Job) → map (λ (path : Bor (List ℕ)). path.now) paths ≡ paths_of job → length paths ≡ length (paths_of job)

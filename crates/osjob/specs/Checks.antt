@@ -1,13 +1,9 @@
 -- What `check` and `cut` print. [own]
 use Rattle.std.specs.Prelude.{ℕ, ◌++◌, if◌then◌else◌, is_some, List, [], ◌∷◌, codes}
-use Rattle.std.specs.Fmt.{decimal}
-use Rattle.std.specs.List.{flat_map}
+use Rattle.std.specs.{Fmt.decimal, List.flat_map}
 use Rattle.osbase.specs.declared.references.CoreId.{CoreId}
-use Rattle.osplan.specs.declared.plans.Plan.{Plan}
-use Rattle.osseparate.specs.declared.separate.Coupling.{Coupling}
-use Rattle.osseparate.specs.declared.separate.Coupling.TheVariants.{Separate, Bound, Off}
-use Rattle.osseparate.specs.Separate.{cut_of, coupling_of}
-use Rattle.osplan.specs.View.{core_of}
+use Rattle.osplan.specs.{declared.plans.Plan.Plan, View.core_of}
+use Rattle.osseparate.specs.{declared.separate.Coupling.Coupling, declared.separate.Coupling.TheVariants.Separate, declared.separate.Coupling.TheVariants.Bound, declared.separate.Coupling.TheVariants.Off, Separate.cut_of, Separate.coupling_of}
 use Rattle.ostrace_text.specs.Trace.{line_end, spaced}
 use Rattle.oswrite.specs.Writing.{config_text}
 use Rattle.osrun.specs.Fits.{ids_of}

@@ -1,7 +1,6 @@
 -- What is read of a file. [own]
 use Rattle.std.specs.Prelude.{◌<◌, ℕ, vec_len}
-use Rattle.osjob.specs.declared.files.Reading.{Reading}
-use Rattle.osjob.specs.declared.files.Reading.TheVariants.{Bytes, Unreadable}
+use Rattle.osjob.specs.{declared.files.Reading.Reading, declared.files.Reading.TheVariants.Bytes, declared.files.Reading.TheVariants.Unreadable}
 
 -- The file has fewer bytes than this, or could not be read.
 abbrev pub HasFewerThan : ℕ → Reading → Type 0

@@ -1,12 +1,8 @@
 -- What `groups` and `group` print. [own]
 use Rattle.std.specs.Prelude.{ℕ, ◌++◌, Bool, if◌then◌else◌, is_some, List, [], ◌∷◌, codes, filter, map}
-use Rattle.std.specs.Fmt.{decimal}
-use Rattle.std.specs.List.{flat_map}
-use Rattle.osbase.specs.declared.items.CoreSet.{CoreSet}
-use Rattle.osbase.specs.declared.references.CoreId.{CoreId}
-use Rattle.osbase.specs.Sets.{core_ids}
-use Rattle.osplan.specs.declared.plans.Plan.{Plan}
-use Rattle.osplan.specs.View.{core_of}
+use Rattle.std.specs.{Fmt.decimal, List.flat_map}
+use Rattle.osbase.specs.{declared.items.CoreSet.CoreSet, declared.references.CoreId.CoreId, Sets.core_ids}
+use Rattle.osplan.specs.{declared.plans.Plan.Plan, View.core_of}
 use Rattle.osgroup.specs.Groups.{group_of, is_in_least_group}
 use Rattle.ostrace_text.specs.Trace.{line_end, spaced}
 use Rattle.oswrite.specs.Writing.{config_text}

@@ -1,14 +1,9 @@
 -- A core's log as a file, and a core of the configuration. [own]
 use Rattle.std.specs.Prelude.{◌≡◌, ℕ, None, Result, Ok, Err, List}
-use Rattle.osbase.specs.declared.items.Item.{Item}
-use Rattle.osbase.specs.declared.references.CoreId.{CoreId}
-use Rattle.osplan.specs.declared.faults.ConfFault.TheVariants.{UnknownName}
-use Rattle.osplan.specs.declared.plans.Plan.{Plan}
-use Rattle.osplan.specs.View.{core_of}
+use Rattle.osbase.specs.{declared.items.Item.Item, declared.references.CoreId.CoreId}
+use Rattle.osplan.specs.{declared.faults.ConfFault.TheVariants.UnknownName, declared.plans.Plan.Plan, View.core_of}
 use Rattle.oslog.specs.Logs.{IsLog}
-use Rattle.osjob.specs.Texts.{File, bytes_at, text_or}
-use Rattle.osjob.specs.declared.faults.Fault.{Fault}
-use Rattle.osjob.specs.declared.faults.Fault.TheVariants.{BadLog, NoMemoryToRun, Text}
+use Rattle.osjob.specs.{Texts.File, Texts.bytes_at, Texts.text_or, declared.faults.Fault.Fault, declared.faults.Fault.TheVariants.BadLog, declared.faults.Fault.TheVariants.NoMemoryToRun, declared.faults.Fault.TheVariants.Text}
 
 -- The text of a log's file. Bytes that are not UTF-8 are no log. [own]
 abbrev pub log_at : List File → ℕ → Result (List ℕ) Fault

@@ -1,37 +1,19 @@
 -- The outcome of a job: what it prints, its status, and the fault that it reports. [own]
 use Rattle.std.specs.Prelude.{◌≡◌, ◌≢◌, ℕ, Bool, true, false, Option, Some, None, Result, Ok, Err, List, IsSome, IfErr}
 use Rattle.std.specs.Result.{IsOkAnd}
-use Rattle.osbase.specs.declared.items.CoreSet.{CoreSet}
-use Rattle.osbase.specs.declared.references.CoreId.{CoreId}
-use Rattle.osbase.specs.Sets.{has_core}
-use Rattle.osbase.specs.declared.turns.Choice.{Choice}
-use Rattle.osbase.specs.declared.turns.CoreStimuli.{CoreStimuli}
-use Rattle.osbase.specs.declared.turns.Report.{Report}
-use Rattle.osplan.specs.declared.plans.Plan.{Plan}
-use Rattle.osplan.specs.View.{core_of}
-use Rattle.osplan.specs.declared.faults.ConfFault.TheVariants.{NoMemory, NotSeparate, UnknownName}
+use Rattle.osbase.specs.{declared.items.CoreSet.CoreSet, declared.references.CoreId.CoreId, Sets.has_core, declared.turns.Choice.Choice, declared.turns.CoreStimuli.CoreStimuli, declared.turns.Report.Report}
+use Rattle.osplan.specs.{declared.plans.Plan.Plan, View.core_of, declared.faults.ConfFault.TheVariants.NoMemory, declared.faults.ConfFault.TheVariants.NotSeparate, declared.faults.ConfFault.TheVariants.UnknownName}
 use Rattle.osseparate.specs.Separate.{cut_of, is_separate}
 use Rattle.osgroup.specs.Groups.{group_of, is_in_least_group}
 use Rattle.osload.specs.Meaning.{config_of, faults_of}
 use Rattle.osinput.specs.Given.{schedule_faults, stimuli_faults}
-use Rattle.ostrace.specs.declared.sinks.WriteFailed.{WriteFailed as SinkFailed}
-use Rattle.ostrace.specs.Taken.{Writes}
+use Rattle.ostrace.specs.{declared.sinks.WriteFailed.WriteFailed as SinkFailed, Taken.Writes}
 use Rattle.osrun.specs.Ends.{have_all_ended}
-use Rattle.osjob.specs.declared.faults.Fault.{Fault}
+use Rattle.osjob.specs.{declared.faults.Fault.Fault, declared.outcomes.Outcome.Outcome, declared.outcomes.Outcome.TheVariants.Done, declared.outcomes.Outcome.TheVariants.Stalled, Checks.check_text, Checks.cut_text, Faults.fault_text, Groups.group_text, Groups.groups_text, LogTexts.IsUnknownCore, Replays.HasNoReplay, Replays.IsReplayOutput}
 use Rattle.osjob.specs.declared.faults.Fault.TheVariants.{MailBreak, NoMemoryToRun, NoThread, Text, WriteFailed}
-use Rattle.oscommand.specs.declared.jobs.Job.{Job}
+use Rattle.oscommand.specs.{declared.jobs.Job.Job, declared.jobs.Print.Print, declared.jobs.Print.TheVariants.Trace, declared.jobs.Print.TheVariants.Log, declared.jobs.Print.TheVariants.Order, Jobs.path_in}
 use Rattle.oscommand.specs.declared.jobs.Job.TheVariants.{Run, Check, Cut, Groups, Group, Replay, Threads}
-use Rattle.oscommand.specs.declared.jobs.Print.{Print}
-use Rattle.oscommand.specs.declared.jobs.Print.TheVariants.{Trace, Log, Order}
-use Rattle.osjob.specs.declared.outcomes.Outcome.{Outcome}
-use Rattle.osjob.specs.declared.outcomes.Outcome.TheVariants.{Done, Stalled}
 use Rattle.oswrite.specs.Writing.{config_text}
-use Rattle.osjob.specs.Checks.{check_text, cut_text}
-use Rattle.osjob.specs.Faults.{fault_text}
-use Rattle.osjob.specs.Groups.{group_text, groups_text}
-use Rattle.osjob.specs.LogTexts.{IsUnknownCore}
-use Rattle.oscommand.specs.Jobs.{path_in}
-use Rattle.osjob.specs.Replays.{HasNoReplay, IsReplayOutput}
 use Rattle.osjob.specs.Runs.{IsGiven, IsInput, IsOrdered, IsPlayed, IsThreaded, are_items_known, logged_core, printed_text}
 use Rattle.osjob.specs.Texts.{File, IsAsked, IsFaultOf, Means, text_at}
 

@@ -1,25 +1,12 @@
 -- What the program answers to its words. [own]
 use Rattle.std.specs.Prelude.{◌≡◌, ◌≢◌, ◌≤◌, ℕ, Bool, true, false, Option, Result, Ok, Err, List, codes, length}
-use Rattle.clap.specs.Words.{kind_of}
-use Rattle.clap.specs.declared.error.Error.{Error}
-use Rattle.clap.specs.declared.error.kind.ErrorKind.{ErrorKind}
-use Rattle.clap.specs.declared.error.kind.ErrorKind.TheVariants.{DisplayHelp, DisplayVersion, OutOfMemory}
+use Rattle.clap.specs.{Words.kind_of, declared.error.Error.Error, declared.error.kind.ErrorKind.ErrorKind, declared.error.kind.ErrorKind.TheVariants.DisplayHelp, declared.error.kind.ErrorKind.TheVariants.DisplayVersion, declared.error.kind.ErrorKind.TheVariants.OutOfMemory}
 use Rattle.osplan.specs.declared.faults.ConfFault.TheVariants.{NoMemory}
-use Rattle.ostrace.specs.declared.sinks.WriteFailed.{WriteFailed as SinkFailed}
-use Rattle.ostrace.specs.Taken.{Writes}
-use Rattle.osjob.specs.declared.faults.Fault.{Fault}
-use Rattle.osjob.specs.declared.faults.Fault.TheVariants.{Text}
-use Rattle.oscommand.specs.declared.jobs.Job.{Job}
-use Rattle.osjob.specs.declared.outcomes.Outcome.{Outcome}
-use Rattle.osjob.specs.declared.outcomes.Outcome.TheVariants.{Done}
-use Rattle.osjob.specs.declared.program.NoWords.{NoWords}
+use Rattle.ostrace.specs.{declared.sinks.WriteFailed.WriteFailed as SinkFailed, Taken.Writes}
+use Rattle.osjob.specs.{declared.faults.Fault.Fault, declared.faults.Fault.TheVariants.Text, declared.outcomes.Outcome.Outcome, declared.outcomes.Outcome.TheVariants.Done, declared.program.NoWords.NoWords, Outputs.Sends, Runs.StopsAtFaults, Texts.File}
+use Rattle.oscommand.specs.{declared.jobs.Job.Job, CommandLine.AsksFor, CommandLine.FailsByWords, Jobs.paths_of}
 use Rattle.osjob.specs.declared.program.NoWords.TheVariants as none
-use Rattle.oscommand.specs.CommandLine.{AsksFor, FailsByWords}
-use Rattle.oscommand.specs.Jobs.{paths_of}
-use Rattle.osjob.specs.Outputs.{Sends}
 use Rattle.osjob.specs.Performs.{IsPrinted, Prints, Tells, status_of, unless_refused}
-use Rattle.osjob.specs.Runs.{StopsAtFaults}
-use Rattle.osjob.specs.Texts.{File}
 
 -- What was printed is sent off, whatever was to come. [own]
 pub record SendsOff {S : Type 0} (taken sent : S → Option (List ℕ)) (failed : S → ℕ) (old new : S)

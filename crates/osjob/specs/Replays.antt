@@ -1,20 +1,13 @@
 -- What a replay prints, and how it ends. [own]
 use Rattle.std.specs.Prelude.{◌≡◌, ◌≢◌, ℕ, Result, Ok, Err, List, IsSome}
-use Rattle.osbase.specs.declared.items.Item.{Item}
-use Rattle.osbase.specs.declared.references.CoreId.{CoreId}
-use Rattle.osbase.specs.declared.turns.Report.{Report}
+use Rattle.osbase.specs.{declared.items.Item.Item, declared.references.CoreId.CoreId, declared.turns.Report.Report}
 use Rattle.osload.specs.Meaning.{config_of, faults_of}
-use Rattle.osplan.specs.declared.faults.ConfFault.TheVariants.{NoMemory}
-use Rattle.osplan.specs.declared.plans.Plan.{Plan}
-use Rattle.osplan.specs.View.{core_of}
+use Rattle.osplan.specs.{declared.faults.ConfFault.TheVariants.NoMemory, declared.plans.Plan.Plan, View.core_of}
 use Rattle.osreplay.specs.Replays.{IsRefused, IsReplayed}
 use Rattle.ostrace_text.specs.Trace.{block_of}
 use Rattle.osjob.specs.LogTexts.{IsLogFault, IsLogOf, IsUnknownCore, log_at}
 use Rattle.osjob.specs.Texts.{File, IsFaultOf, Means, text_at}
-use Rattle.osjob.specs.declared.faults.Fault.{Fault}
-use Rattle.osjob.specs.declared.faults.Fault.TheVariants.{ItemRefused, NoMemoryToRun, Text}
-use Rattle.osjob.specs.declared.outcomes.Outcome.{Outcome}
-use Rattle.osjob.specs.declared.outcomes.Outcome.TheVariants.{Done}
+use Rattle.osjob.specs.{declared.faults.Fault.Fault, declared.faults.Fault.TheVariants.ItemRefused, declared.faults.Fault.TheVariants.NoMemoryToRun, declared.faults.Fault.TheVariants.Text, declared.outcomes.Outcome.Outcome, declared.outcomes.Outcome.TheVariants.Done}
 
 -- Items that a core may take one after another give its block; where it may not take one of them, they give the block of the
 -- items before, and the fault that names it. [own]

@@ -1,23 +1,15 @@
 -- The reports of a run over its files, and what is printed of them. [own]
 use Rattle.std.specs.Prelude.{ℕ, ◌≡◌, ◌≤◌, ◌⊎◌, max, Bool, true, false, Option, Some, None, is_some, List, [], ◌++◌, codes, find, length, map}
 use Rattle.std.specs.Option.{option_map_or}
-use Rattle.osbase.specs.History.{same_core}
-use Rattle.osbase.specs.declared.items.Item.{Item}
-use Rattle.osplan.specs.View.{core_of}
+use Rattle.osbase.specs.{History.same_core, declared.items.Item.Item, declared.references.CoreId.CoreId, declared.turns.Choice.Choice, declared.turns.CoreStimuli.CoreStimuli, declared.turns.Report.Report}
+use Rattle.osplan.specs.{View.core_of, declared.plans.Plan.Plan}
 use Rattle.oslog.specs.Logs.{log_text}
-use Rattle.osbase.specs.declared.references.CoreId.{CoreId}
-use Rattle.osbase.specs.declared.turns.Choice.{Choice}
-use Rattle.osbase.specs.declared.turns.CoreStimuli.{CoreStimuli}
-use Rattle.osbase.specs.declared.turns.Report.{Report}
-use Rattle.osplan.specs.declared.plans.Plan.{Plan}
-use Rattle.oscommand.specs.declared.jobs.Print.{Print}
-use Rattle.oscommand.specs.declared.jobs.Print.TheVariants.{Trace, Log, Order}
+use Rattle.oscommand.specs.{declared.jobs.Print.Print, declared.jobs.Print.TheVariants.Trace, declared.jobs.Print.TheVariants.Log, declared.jobs.Print.TheVariants.Order}
 use Rattle.osload.specs.Meaning.{config_of}
 use Rattle.osinput.specs.Given.{schedule_of_text, stimuli_of_text}
 use Rattle.ostrace_text.specs.Trace.{text_of}
 use Rattle.ostrace.specs.Schedules.{schedule_text}
-use Rattle.osrun.specs.Ends.{have_all_ended}
-use Rattle.osrun.specs.Sound.{AreSound, unclocked}
+use Rattle.osrun.specs.{Ends.have_all_ended, Sound.AreSound, Sound.unclocked}
 use Rattle.osthreads.specs.Runs.{AreFinished}
 use Rattle.osworld.specs.Runs.{AreReports, IsDefaultRun}
 use Rattle.osjob.specs.Texts.{File, Means, text_at}

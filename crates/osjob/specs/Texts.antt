@@ -1,13 +1,8 @@
 -- A job's files as texts, and the outcome of a text: a meaning, or the least of its faults. [own]
 use Rattle.std.specs.Prelude.{◌≡◌, ◌<◌, ◌≤◌, ◌⊎◌, ℕ, if◌then◌else◌, Option, Some, None, option_map, option_and_then, Result, Ok, Err, List, length, slice_get, Vec}
-use Rattle.std.specs.List.{Contains}
-use Rattle.std.specs.Str.{is_utf8}
-use Rattle.std.specs.declared.alloc.Global.{Global}
-use Rattle.osplan.specs.declared.faults.ConfFault.{ConfFault}
-use Rattle.osplan.specs.declared.faults.ConfFault.TheVariants.{NotJson}
-use Rattle.osplan.specs.Fault.{IsLeast}
-use Rattle.osjob.specs.declared.faults.Fault.{Fault}
-use Rattle.osjob.specs.declared.faults.Fault.TheVariants.{Text, Unreadable}
+use Rattle.std.specs.{List.Contains, Str.is_utf8, declared.alloc.Global.Global}
+use Rattle.osplan.specs.{declared.faults.ConfFault.ConfFault, declared.faults.ConfFault.TheVariants.NotJson, Fault.IsLeast}
+use Rattle.osjob.specs.{declared.faults.Fault.Fault, declared.faults.Fault.TheVariants.Text, declared.faults.Fault.TheVariants.Unreadable}
 
 -- A file's bytes, or None where it could not be read.
 abbrev pub File : Type 0

@@ -2,9 +2,7 @@
 
 ghost use Rattle.std.specs.Prelude.{◌≡◌, ◌<◌, ◌≤◌, ◌^◌};
 ghost use Rattle.ostrace.specs.Taken.{Writes};
-ghost use Rattle.osjob.specs.Faults.{fault_text};
-ghost use Rattle.osjob.specs.Performs.{Tells, status_of};
-ghost use Rattle.osjob.specs.Program.{Closes, SendsOff};
+ghost use Rattle.osjob.specs.{Faults.fault_text, Performs.Tells, Performs.status_of, Program.Closes, Program.SendsOff};
 
 use crate::faults::Fault;
 use crate::outcomes::{FAULT, Outcome};

@@ -1,8 +1,7 @@
 //! Files on disk as bytes.
 
 ghost use Rattle.std.specs.Prelude.{◌≡◌, ◌+◌, [], IfOk, None, length};
-ghost use Rattle.osjob.specs.declared.files.TheConstants.{LARGEST, PIECE};
-ghost use Rattle.osjob.specs.Files.{HasFewerThan};
+ghost use Rattle.osjob.specs.{declared.files.TheConstants.LARGEST, declared.files.TheConstants.PIECE, Files.HasFewerThan};
 
 use crate::sources::{Source, bytes_at};
 use std::alloc::{AllocError, Global};

@@ -4,8 +4,7 @@ ghost use Rattle.std.specs.Prelude.{◌≡◌, ◌<◌, ◌^◌, IfOk, string_by
 ghost use Rattle.std.specs.List.{AllByRecursion};
 ghost use Rattle.osplan.specs.Stimuli.{AreKnown};
 ghost use Rattle.osrun.specs.Sound.{IsOwn};
-ghost use Rattle.osjob.specs.Performs.{PrintsOrFaults, IsOrderPrinted};
-ghost use Rattle.osjob.specs.Runs.{order_line};
+ghost use Rattle.osjob.specs.{Performs.PrintsOrFaults, Performs.IsOrderPrinted, Runs.order_line};
 
 use crate::faults::Fault;
 use crate::outcomes::Outcome;

@@ -2,8 +2,7 @@
 
 ghost use Rattle.std.specs.Prelude.{◌<◌, ◌^◌, length};
 ghost use Rattle.oscommand.specs.Jobs.{paths_of};
-ghost use Rattle.osjob.specs.Performs.{IsPrinted, Performs};
-ghost use Rattle.osjob.specs.Runs.{Consumes};
+ghost use Rattle.osjob.specs.{Performs.IsPrinted, Performs.Performs, Runs.Consumes};
 
 use crate::checks::{check, cut_out};
 use crate::endings::tell;

@@ -2,12 +2,10 @@
 
 ghost use Rattle.std.specs.Prelude.{◌≡◌, ◌≢◌, ◌<◌, ◌^◌, IfErr, Ok, OnOk, map};
 ghost use Rattle.std.specs.Result.{result_map_both};
-ghost use Rattle.clap.specs.Words.{kind_of};
-ghost use Rattle.clap.specs.declared.error.kind.ErrorKind.TheVariants.{OutOfMemory};
+ghost use Rattle.clap.specs.{Words.kind_of, declared.error.kind.ErrorKind.TheVariants.OutOfMemory};
 ghost use Rattle.osplan.specs.declared.faults.ConfFault.TheVariants.{NoMemory};
-ghost use Rattle.osjob.specs.declared.outcomes.Outcome.TheVariants.{Done};
+ghost use Rattle.osjob.specs.{declared.outcomes.Outcome.TheVariants.Done, Performs.Prints};
 ghost use Rattle.osjob.specs.declared.program.NoWords.TheVariants as no_words;
-ghost use Rattle.osjob.specs.Performs.{Prints};
 ghost use Rattle.osjob.specs.Program.{Answers, DoesJob, IsMistaken, PrintsJob, Refuses, is_request};
 
 use crate::endings::close;

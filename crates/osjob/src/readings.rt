@@ -2,12 +2,10 @@
 
 ghost use Rattle.std.specs.Prelude.{◌≡◌, ◌≢◌, ◌<◌, ◌≤◌, IfOk, IfErr, IsSome, OnOk, length, max};
 ghost use Rattle.std.specs.Result.{result_map_both};
-ghost use Rattle.osplan.specs.Stimuli.{AreKnown};
-ghost use Rattle.osplan.specs.declared.faults.ConfFault.TheVariants.{NoMemory};
+ghost use Rattle.osplan.specs.{Stimuli.AreKnown, declared.faults.ConfFault.TheVariants.NoMemory, View.core_of};
 ghost use Rattle.osinput.specs.Given.{schedule_faults, schedule_of_text, stimuli_faults, stimuli_of_text};
 ghost use Rattle.osload.specs.Meaning.{config_of, faults_of};
 ghost use Rattle.osjob.specs.Texts.{IsAsked, IsFaultOf, KeepsBelow, Means, bytes_at, text_at, text_or};
-ghost use Rattle.osplan.specs.View.{core_of};
 ghost use Rattle.osjob.specs.LogTexts.{IsLogFault, IsLogOf, IsUnknownCore, log_at};
 
 use crate::faults::Fault;

@@ -3,10 +3,7 @@
 ghost use Rattle.std.specs.Prelude.{◌≡◌, ◌<◌, ◌≤◌, ◌^◌, IfErr, IsSome, Ok, Result, length, max};
 ghost use Rattle.ostrace_text.specs.Trace.{block_of};
 ghost use Rattle.osplan.specs.View.{core_of};
-ghost use Rattle.osjob.specs.Performs.{PrintsOrFaults, Prints};
-ghost use Rattle.osjob.specs.Replays.{HasNoReplay, IsReplayOutput, Replays};
-ghost use Rattle.osjob.specs.Runs.{StopsAtFaults};
-ghost use Rattle.osjob.specs.Texts.{IsAsked};
+ghost use Rattle.osjob.specs.{Performs.PrintsOrFaults, Performs.Prints, Replays.HasNoReplay, Replays.IsReplayOutput, Replays.Replays, Runs.StopsAtFaults, Texts.IsAsked};
 
 use crate::faults::Fault;
 use crate::outcomes::Outcome;

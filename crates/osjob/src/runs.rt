@@ -1,8 +1,7 @@
 //! A run: its files are read and played, and the reports printed.
 
 ghost use Rattle.std.specs.Prelude.{◌≡◌, ◌+◌, ◌<◌, ◌^◌, ◌++◌, IfErr, IfOk, Ok, OnOk, Some, find, length, option_copied, true};
-ghost use Rattle.osbase.specs.History.{same_core};
-ghost use Rattle.osbase.specs.declared.turns.Report.{Report as ReportValue};
+ghost use Rattle.osbase.specs.{History.same_core, declared.turns.Report.Report as ReportValue};
 ghost use Rattle.ostrace.specs.Taken.{Writes};
 ghost use Rattle.ostrace_text.specs.Trace.{text_of};
 ghost use Rattle.osplan.specs.Stimuli.{AreKnown};

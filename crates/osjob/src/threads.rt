@@ -1,8 +1,7 @@
 //! A run by threads: its files are read, its cores run, and the reports are printed.
 
 ghost use Rattle.std.specs.Prelude.{◌≡◌, ◌<◌, ◌^◌};
-ghost use Rattle.osjob.specs.Performs.{IsThreadsPrinted};
-ghost use Rattle.osjob.specs.Runs.{Consumes, logged_core};
+ghost use Rattle.osjob.specs.{Performs.IsThreadsPrinted, Runs.Consumes, Runs.logged_core};
 
 use crate::faults::Fault;
 use crate::orders::print_order;

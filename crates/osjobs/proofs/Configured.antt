@@ -1,22 +1,12 @@
 -- What is kept of a core's tasks says of each what the configuration says.
 use Rattle.std.proofs.Common.{◌≡◌, ℕ, ◌≤◌, Bool, true, false, cond, Option, Some, None, is_some, option_map, unwrap_or, length, map, refl, ap, sym, subst, ◌∙◌, nat_lt}
-use Rattle.std.specs.List.{slice_get}
-use Rattle.std.specs.Option.{option_map_or}
-use Rattle.std.proofs.lemmas.Bool.{false≢true}
-use Rattle.std.proofs.lemmas.List.{length-map}
-use Rattle.std.proofs.lemmas.List.Folds.{list_all-map}
-use Rattle.std.proofs.lemmas.Option.{slice_get-map}
-use Rattle.osbase.specs.declared.references.Runner.{Runner}
+use Rattle.std.specs.{List.slice_get, Option.option_map_or}
+use Rattle.std.proofs.{lemmas.Bool.false≢true, lemmas.List.length-map, lemmas.List.Folds.list_all-map, lemmas.Option.slice_get-map}
+use Rattle.osbase.specs.{declared.references.Runner.Runner, declared.references.TaskRef.TaskRef, declared.limits.TheConstants.TASKS, History.same_core}
 use Rattle.osbase.specs.declared.references.Runner.TheVariants as Runner
-use Rattle.osbase.specs.declared.references.TaskRef.{TaskRef}
-use Rattle.osbase.specs.declared.limits.TheConstants.{TASKS}
-use Rattle.osbase.specs.History.{same_core}
-use Rattle.osplan.specs.declared.plans.Core.{Core}
-use Rattle.osplan.specs.declared.plans.Task.{Task}
-use Rattle.osplan.specs.View.{own_task}
+use Rattle.osplan.specs.{declared.plans.Core.Core, declared.plans.Task.Task, View.own_task}
 use Rattle.osjobs.specs.OwnTasks.{are_below, is_own_task, own_tasks, priority_in, priority_of}
-use Rattle.osjobs.specs.Priorities.{is_own_runner, static_priority}
-use Rattle.osjobs.specs.Queue.{have_queues}
+use Rattle.osjobs.specs.{Priorities.is_own_runner, Priorities.static_priority, Queue.have_queues}
 
 module _ (core : Core) where
   -- the priority of a task is that of its place

@@ -1,15 +1,11 @@
 -- How many jobs there are of each place, and that no job of a runner stands before its first.
 use Rattle.std.proofs.Common.{◌≡◌, ℕ, zero, suc, ◌+◌, ◌-◌, ◌<◌, ◌≤◌, nat_eq, Bool, true, false, cond, Some, None, List, [], ◌∷◌, ◌++◌, length, replicate, take, drop, get_or-set_same, get_or-set_other, refl, ap, sym, ◌∙◌, arith}
 use Rattle.std.specs.List.{slice_index_or, slice_set}
-use Rattle.std.proofs.lemmas.Bool.{eq-eqb, eqb-true, false≢true}
-use Rattle.std.proofs.lemmas.List.{get_or-replicate}
-use Rattle.osbase.specs.declared.references.Runner.{Runner}
+use Rattle.std.proofs.{lemmas.Bool.eq-eqb, lemmas.Bool.eqb-true, lemmas.Bool.false≢true, lemmas.List.get_or-replicate}
+use Rattle.osbase.specs.{declared.references.Runner.Runner, declared.histories.Job.Job, Sets.slot_of, declared.limits.TheConstants.RUNNERS}
 use Rattle.osbase.specs.declared.references.Runner.TheVariants as Runner
-use Rattle.osbase.specs.declared.histories.Job.{Job}
 use Rattle.osbase.specs.History.{job_count, oldest, same_runner, without_oldest}
-use Rattle.osbase.specs.Sets.{slot_of}
 use Rattle.osbase.proofs.Same.{same_runner-true}
-use Rattle.osbase.specs.declared.limits.TheConstants.{RUNNERS}
 use Rattle.osjobs.specs.Live.{AreCounted, place_count}
 
 pub same-place : (a b : Runner) → same_runner a b ≡ true → nat_eq (slot_of a) (slot_of b) ≡ true

@@ -1,19 +1,11 @@
 -- Which jobs have to be compared to find the one to run: the best by the priorities that are configured, the raised one, and of each
 -- task that holds resources the oldest. No other job whose task does not wait beats all of these.
 use Rattle.std.proofs.Common.{◌≡◌, ◌⊎◌, inl, inr, ℕ, ◌≤◌, ◌<◌, nat_lt, not, Bool, true, false, cond, IfSome, Option, Some, None, filter, length, List, [], ◌∷◌, refl, ap, sym, subst, ◌∙◌, arith, ◌||◌, drop, get_or}
-use Rattle.std.specs.Int.{bit_at}
-use Rattle.std.specs.List.{All, slice_get}
-use Rattle.std.specs.Option.{option_map_or}
+use Rattle.std.specs.{Int.bit_at, List.All, List.slice_get, Option.option_map_or}
 use Rattle.std.proofs.lemmas.Bool.{eqb-true, cases_eq, cases_lt, false≢true, le-ltb, ltb-false, ltb-true}
-use Rattle.std.proofs.lemmas.List.Elements.{All-contains, All-nil, All-tail}
-use Rattle.std.proofs.lemmas.Nat.Bits.{bit_at-zero}
-use Rattle.osbase.specs.declared.references.CoreId.{CoreId}
-use Rattle.osbase.specs.declared.references.TaskRef.{TaskRef}
-use Rattle.osbase.specs.declared.references.Runner.{Runner}
+use Rattle.std.proofs.{lemmas.List.Elements.All-contains, lemmas.List.Elements.All-nil, lemmas.List.Elements.All-tail, lemmas.Nat.Bits.bit_at-zero}
+use Rattle.osbase.specs.{declared.references.CoreId.CoreId, declared.references.TaskRef.TaskRef, declared.references.Runner.Runner, declared.histories.Job.Job, declared.histories.HeldResource.HeldResource, declared.limits.TheConstants.TASKS}
 use Rattle.osbase.specs.declared.references.Runner.TheVariants as Runner
-use Rattle.osbase.specs.declared.histories.Job.{Job}
-use Rattle.osbase.specs.declared.histories.HeldResource.{HeldResource}
-use Rattle.osbase.specs.declared.limits.TheConstants.{TASKS}
 use Rattle.osbase.specs.History.{first_greatest, is_waiting, greater, greatest_ceiling, oldest, oldest_of, same_job, same_runner}
 use Rattle.osbase.proofs.Same.{same_core-true, same_runner-refl, same_runner-true}
 use Rattle.oscript.specs.Runners.{Row}
@@ -22,14 +14,11 @@ use Rattle.osqueue.specs.Ordered.{ComesAfter, IsBest, placed, precedes}
 use Rattle.osqueue.proofs.Ordering.{all-placed, is-before, length-placed, placed-all, placed-first}
 use Rattle.osplan.specs.declared.plans.Core.{Core}
 use Rattle.osrunner.specs.Rows.{events_in, held_in, row_at}
-use Rattle.osjobs.specs.Jobs.{Ascending, Each}
+use Rattle.osjobs.specs.{Jobs.Ascending, Jobs.Each, Ranking.is_awake_in, Ranking.rank_by}
 use Rattle.osjobs.specs.OwnTasks.{OwnTasks, are_below, is_own_task, own_tasks, priority_of}
 use Rattle.osjobs.specs.Priorities.{highest_of, holds_any, is_preemptable, raised_of, static_priority}
 use Rattle.osjobs.specs.Queue.{AreHolders, AreReady, Beats, IsBestSoFar, IsBetter, OneOf, entry_of, oldest_at, queued}
-use Rattle.osjobs.specs.Ranking.{is_awake_in, rank_by}
-use Rattle.osjobs.proofs.Configured.{same-priority}
-use Rattle.osjobs.proofs.Dominating.{dominating}
-use Rattle.osjobs.proofs.Keeping.{IsOwn, own-task, static-within}
+use Rattle.osjobs.proofs.{Configured.same-priority, Dominating.dominating, Keeping.IsOwn, Keeping.own-task, Keeping.static-within}
 
 -- ---- the greater of two
 

@@ -1,10 +1,8 @@
 -- The current job after each call: the oldest of the task in the running state.
 use Rattle.std.proofs.Common.{◌≡◌, ℕ, Bool, true, false, cond, Option, Some, None, List, [], ◌∷◌, ◌++◌, refl, ap, sym, ◌∙◌}
 use Rattle.std.specs.Option.{option_map_or, option_or}
-use Rattle.osbase.specs.declared.references.Runner.{Runner}
+use Rattle.osbase.specs.{declared.references.Runner.Runner, declared.references.TaskRef.TaskRef, declared.histories.Job.Job}
 use Rattle.osbase.specs.declared.references.Runner.TheVariants as Runner
-use Rattle.osbase.specs.declared.references.TaskRef.{TaskRef}
-use Rattle.osbase.specs.declared.histories.Job.{Job}
 use Rattle.osbase.specs.History.{left_by, oldest, oldest_of, same_runner, same_task, stamped_anew, without_oldest}
 use Rattle.osbase.proofs.Same.{same_runner-true}
 use Rattle.osjobs.specs.Jobs.{is_current}

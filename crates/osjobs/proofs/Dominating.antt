@@ -1,10 +1,8 @@
 -- In a list of jobs by ascending stamps the first of greatest priority is the one that no other beats.
 use Rattle.std.proofs.Common.{◌≡◌, ◌⊎◌, inl, inr, ℕ, ◌<◌, nat_lt, Bool, true, false, cond, Option, Some, None, List, [], ◌∷◌, refl, ap, subst, ◌∙◌, arith}
 use Rattle.std.proofs.lemmas.Bool.{lt-ltb, le-ltb}
-use Rattle.osbase.specs.declared.histories.Job.{Job}
-use Rattle.osbase.specs.History.{better_of, first_greatest}
-use Rattle.osjobs.specs.Jobs.{Ascending, Each}
-use Rattle.osjobs.specs.Queue.{Beats, OneOf}
+use Rattle.osbase.specs.{declared.histories.Job.Job, History.better_of, History.first_greatest}
+use Rattle.osjobs.specs.{Jobs.Ascending, Jobs.Each, Queue.Beats, Queue.OneOf}
 
 at : (P : Job → Type 0) (js : List Job) (b : Job) → Each P js → OneOf b js → P b
 at P [] b all one = absurd one

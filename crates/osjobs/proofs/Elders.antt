@@ -2,11 +2,8 @@
 use Rattle.std.proofs.Common.{◌≡◌, ◌≤◌, ◌<◌, ◌||◌, ℕ, nat_lt, Bool, true, false, cond, not, Option, Some, None, List, [], ◌∷◌, filter, refl, sym, ap, subst, ◌∙◌, arith}
 use Rattle.std.specs.Option.{option_map_or}
 use Rattle.std.proofs.lemmas.Bool.{and_from, and_parts, eq-eqb, eqb-true, false≢true}
-use Rattle.std.proofs.lemmas.Bool.Decides.{nat_tests}
-use Rattle.std.proofs.lemmas.Option.{none-some, same_Some}
-use Rattle.osbase.specs.declared.references.TaskRef.{TaskRef}
-use Rattle.osbase.specs.declared.references.Runner.{Runner}
-use Rattle.osbase.specs.declared.histories.Job.{Job}
+use Rattle.std.proofs.{lemmas.Bool.Decides.nat_tests, lemmas.Option.none-some, lemmas.Option.same_Some}
+use Rattle.osbase.specs.{declared.references.TaskRef.TaskRef, declared.references.Runner.Runner, declared.histories.Job.Job}
 use Rattle.osbase.specs.History.{better_of, first_greatest, greater, greatest_ceiling, is_waiting, oldest, oldest_of, same_job, same_runner}
 use Rattle.osbase.proofs.Same.{same_runner-refl, same_runner-true}
 use Rattle.osplan.specs.declared.plans.Core.{Core}

@@ -1,34 +1,21 @@
 -- What each call leaves of the queue of a core's jobs, and of the tasks that hold resources.
 use Rattle.std.proofs.Common.{◌≡◌, ℕ, zero, suc, ◌≤◌, ◌<◌, nat_eq, nat_lt, Bool, true, false, cond, not, IfSome, Option, Some, None, is_some, option_map, unwrap_or, List, [], ◌∷◌, ◌++◌, length, drop, refl, ap, sym, subst, ◌∙◌, arith, get_or-set_same, length-set, length-append, replicate}
-use Rattle.std.specs.Int.{bit_at}
+use Rattle.std.specs.{Int.bit_at, Option.option_map_or}
 use Rattle.std.specs.List.{All, Contains, slice_get, slice_set}
-use Rattle.std.specs.Option.{option_map_or}
 use Rattle.std.proofs.lemmas.Bool.{and_from, eq-eqb, eqb-true, false≢true, ltb-true}
-use Rattle.std.proofs.lemmas.List.{get_or-replicate, length-replicate}
-use Rattle.std.proofs.lemmas.List.Elements.{All-contains_itself}
-use Rattle.std.proofs.lemmas.Option.{slice_get_within}
-use Rattle.osbase.specs.declared.references.CoreId.{CoreId}
-use Rattle.osbase.specs.declared.references.TaskRef.{TaskRef}
-use Rattle.osbase.specs.declared.references.Runner.{Runner}
+use Rattle.std.proofs.{lemmas.List.get_or-replicate, lemmas.List.length-replicate, lemmas.List.Elements.All-contains_itself, lemmas.Option.slice_get_within}
+use Rattle.osbase.specs.{declared.references.CoreId.CoreId, declared.references.TaskRef.TaskRef, declared.references.Runner.Runner, declared.histories.Job.Job, declared.histories.HeldResource.HeldResource, declared.limits.TheConstants.RUNNERS, declared.limits.TheConstants.TASKS, Sets.slot_of}
 use Rattle.osbase.specs.declared.references.Runner.TheVariants as Runner
-use Rattle.osbase.specs.declared.histories.Job.{Job}
-use Rattle.osbase.specs.declared.histories.HeldResource.{HeldResource}
-use Rattle.osbase.specs.declared.limits.TheConstants.{RUNNERS, TASKS}
 use Rattle.osbase.specs.History.{is_waiting, job_count, oldest, same_core, same_runner, same_task, stamped_anew, without_oldest}
-use Rattle.osbase.specs.Sets.{slot_of}
-use Rattle.osbase.proofs.Same.{same_core-true, same_core-refl, same_runner-true}
+use Rattle.osbase.proofs.{Same.same_core-true, Same.same_core-refl, Same.same_runner-true, Places.passes-at}
 use Rattle.oscript.specs.Runners.{Row, first_row, holding}
-use Rattle.osbase.proofs.Places.{passes-at}
 use Rattle.osqueue.specs.declared.ready.Ready.{Ready}
 use Rattle.osqueue.specs.Ordered.{ComesBefore, is_same, placed, without}
 use Rattle.osqueue.proofs.Ordering.{all-placed, is-apart, without-placed}
 use Rattle.osrunner.specs.Rows.{row_at, row_in, with_row}
-use Rattle.osjobs.specs.Jobs.{Ascending, Each}
+use Rattle.osjobs.specs.{Jobs.Ascending, Jobs.Each, Priorities.holds_any, Live.IsKept, Ranking.is_awake_in}
 use Rattle.osjobs.specs.OwnTasks.{OwnTasks, are_below, is_own_task, priority_in, priority_of}
-use Rattle.osjobs.specs.Priorities.{holds_any}
 use Rattle.osjobs.specs.Queue.{AreHolders, AreReady, dequeued, enqueued, entry_of, queued}
-use Rattle.osjobs.specs.Live.{IsKept}
-use Rattle.osjobs.specs.Ranking.{is_awake_in}
 use Rattle.osjobs.proofs.Queued.{length-queued, queued-all, queued-less, queued-more}
 use Rattle.osjobs.proofs.Stamps.{each-less, each-push, each-weaker}
 

@@ -1,18 +1,11 @@
 -- All jobs of tasks are of the core's own, of which no two have one place: so as many are of a task as of its place.
 use Rattle.std.proofs.Common.{◌≡◌, suc, ◌≤◌, ◌<◌, nat_eq, Bool, true, false, cond, List, [], ◌∷◌, length, refl, ap, sym, ◌∙◌, arith}
 use Rattle.std.proofs.lemmas.Bool.{eqb-true, false≢true}
-use Rattle.osbase.specs.declared.references.Runner.{Runner}
+use Rattle.osbase.specs.{declared.references.Runner.Runner, declared.histories.Job.Job, declared.limits.TheConstants.RUNNERS, declared.limits.TheConstants.TASKS, History.job_count, History.same_runner, Sets.slot_of}
 use Rattle.osbase.specs.declared.references.Runner.TheVariants as Runner
-use Rattle.osbase.specs.declared.histories.Job.{Job}
-use Rattle.osbase.specs.declared.limits.TheConstants.{RUNNERS, TASKS}
-use Rattle.osbase.specs.History.{job_count, same_runner}
-use Rattle.osbase.specs.Sets.{slot_of}
 use Rattle.osbase.proofs.Same.{same_runner-true}
-use Rattle.osjobs.specs.Jobs.{Each}
-use Rattle.osjobs.specs.Live.{place_count}
-use Rattle.osjobs.specs.OwnTasks.{OwnTasks, is_own_task}
-use Rattle.osjobs.proofs.Counting.{same-place}
-use Rattle.osjobs.proofs.Keeping.{own-task, same-index}
+use Rattle.osjobs.specs.{Jobs.Each, Live.place_count, OwnTasks.OwnTasks, OwnTasks.is_own_task}
+use Rattle.osjobs.proofs.{Counting.same-place, Keeping.own-task, Keeping.same-index}
 
 same-own : (tasks : OwnTasks) (a b : Runner) → is_own_task tasks a ≡ true → is_own_task tasks b ≡ true → nat_eq (slot_of a) (slot_of b) ≡ true → same_runner a b ≡ true
 same-own tasks (Runner.Isr i) b mine yours same = absurd (false≢true mine)

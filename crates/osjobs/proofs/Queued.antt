@@ -2,15 +2,10 @@
 use Rattle.std.proofs.Common.{◌≡◌, suc, ◌≤◌, ◌<◌, Bool, true, false, cond, Some, List, [], ◌∷◌, ◌++◌, length, refl, ap, sym, subst, ◌∙◌, arith}
 use Rattle.std.specs.List.{All}
 use Rattle.std.proofs.lemmas.List.Elements.{All-nil}
-use Rattle.osbase.specs.declared.references.Runner.{Runner}
-use Rattle.osbase.specs.declared.histories.Job.{Job}
-use Rattle.osbase.specs.History.{oldest, same_runner, without_oldest}
-use Rattle.osqueue.specs.declared.ready.Ready.{Ready}
-use Rattle.osqueue.specs.Ordered.{is_same, placed}
+use Rattle.osbase.specs.{declared.references.Runner.Runner, declared.histories.Job.Job, History.oldest, History.same_runner, History.without_oldest}
+use Rattle.osqueue.specs.{declared.ready.Ready.Ready, Ordered.is_same, Ordered.placed}
 use Rattle.osqueue.proofs.Ordering.{crossed, is-apart, length-placed, placed-all}
-use Rattle.osjobs.specs.Jobs.{Ascending, Each}
-use Rattle.osjobs.specs.OwnTasks.{OwnTasks}
-use Rattle.osjobs.specs.Queue.{entry_of, queued}
+use Rattle.osjobs.specs.{Jobs.Ascending, Jobs.Each, OwnTasks.OwnTasks, Queue.entry_of, Queue.queued}
 
 apart : (tasks : OwnTasks) (j k : Job) → k.stamp < j.stamp → is_same (entry_of tasks j) (entry_of tasks k) ≡ false
 apart tasks j k older = is-apart (entry_of tasks j) (entry_of tasks k) (λ p s. omega (arith, s, older))

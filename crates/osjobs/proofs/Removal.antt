@@ -1,10 +1,8 @@
 -- The first job of a runner, and the list without it.
 use Rattle.std.proofs.Common.{◌≡◌, ℕ, suc, ◌<◌, true, Option, Some, None, IfSome, IfNone, List, ◌∷◌, ◌++◌, ap, sym, subst, ◌∙◌, arith, length, take, drop, get_or, drop-cons}
 use Rattle.std.specs.List.{remove, slice_get}
-use Rattle.std.proofs.lemmas.Option.{slice_get-get_or}
-use Rattle.osbase.specs.declared.references.Runner.{Runner}
-use Rattle.osbase.specs.declared.histories.Job.{Job}
-use Rattle.std.proofs.lemmas.List.{get_or_default}
+use Rattle.std.proofs.{lemmas.Option.slice_get-get_or, lemmas.List.get_or_default}
+use Rattle.osbase.specs.{declared.references.Runner.Runner, declared.histories.Job.Job}
 use Rattle.osbase.specs.History.{job_count, oldest, same_runner, without_oldest}
 use Rattle.osjobs.proofs.Counting.{count-parts, no-job, none-oldest, oldest-behind, rest-behind}
 

@@ -1,10 +1,7 @@
 -- Who runs if no ISR has a live job: the current job.
 use Rattle.std.proofs.Common.{◌≡◌, ℕ, Option, None, List, [], ◌∷◌, refl, ap, ◌∙◌}
 use Rattle.std.specs.Option.{option_or}
-use Rattle.osbase.specs.declared.references.IsrRef.{IsrRef}
-use Rattle.osbase.specs.declared.histories.Job.{Job}
-use Rattle.osbase.specs.History.{first_greatest}
-use Rattle.osbase.specs.Interrupts.{oldest_entered}
+use Rattle.osbase.specs.{declared.references.IsrRef.IsrRef, declared.histories.Job.Job, History.first_greatest, Interrupts.oldest_entered}
 use Rattle.osjobs.specs.Jobs.{JobState, current_among, running_among}
 
 -- where none is chosen there is none

@@ -1,8 +1,7 @@
 -- The stamps of the live jobs ascend, since each new one is greater than all that there are.
 use Rattle.std.proofs.Common.{ℕ, ◌<◌, Bool, true, false, cond, Option, Some, None, List, [], ◌∷◌, ◌++◌}
 use Rattle.std.specs.Option.{option_map_or}
-use Rattle.osbase.specs.declared.references.Runner.{Runner}
-use Rattle.osbase.specs.declared.histories.Job.{Job}
+use Rattle.osbase.specs.{declared.references.Runner.Runner, declared.histories.Job.Job}
 use Rattle.osbase.specs.History.{oldest, same_runner, stamped_anew, without_oldest}
 use Rattle.osjobs.specs.Jobs.{Ascending, Each}
 

@@ -1,16 +1,10 @@
 -- The live jobs of a core: what each entry of the history does to them, and which of them runs.
 use Rattle.std.specs.Prelude.{ℕ, ◌<◌, nat_lt, Bool, true, false, if◌then◌else◌, Option, Some, None, List, [], ◌∷◌, filter, replicate}
 use Rattle.std.specs.Option.{option_map_or, option_or}
-use Rattle.osbase.specs.declared.references.IsrRef.{IsrRef}
-use Rattle.osbase.specs.declared.references.TaskRef.{TaskRef}
-use Rattle.osbase.specs.declared.references.Runner.{Runner}
-use Rattle.osbase.specs.declared.histories.Job.{Job}
-use Rattle.osbase.specs.declared.marks.Mark.{Mark}
-use Rattle.osbase.specs.declared.limits.TheConstants.{RUNNERS}
+use Rattle.osbase.specs.{declared.references.IsrRef.IsrRef, declared.references.TaskRef.TaskRef, declared.references.Runner.Runner, declared.histories.Job.Job, declared.marks.Mark.Mark, declared.limits.TheConstants.RUNNERS}
 use Rattle.osbase.specs.History.{Entry, jobs_after, current_after, giving_way_after, oldest_of, first_greatest, same_runner}
 use Rattle.osbase.specs.Interrupts.{entered_after, isr_jobs_after, oldest_entered, runner_of_job}
-use Rattle.oscript.specs.declared.Op.{Op}
-use Rattle.oscript.specs.Runners.{Row, first_row, runner_of}
+use Rattle.oscript.specs.{declared.Op.Op, Runners.Row, Runners.first_row, Runners.runner_of}
 use Rattle.osplan.specs.declared.plans.Core.{Core}
 use Rattle.osrunner.specs.Rows.{depth_in, rows_by}
 use Rattle.osjobs.specs.OwnTasks.{OwnTasks, own_tasks}

@@ -1,15 +1,9 @@
 -- What the code keeps beside the live jobs.
 use Rattle.std.specs.Prelude.{◌≡◌, ℕ, suc, ◌<◌, ◌==◌, if◌then◌else◌, Option, List, [], ◌∷◌, slice_index_or}
-use Rattle.osbase.specs.declared.histories.Job.{Job}
-use Rattle.osbase.specs.declared.limits.TheConstants.{RUNNERS}
-use Rattle.osbase.specs.declared.references.TaskRef.{TaskRef}
-use Rattle.osbase.specs.History.{oldest_of}
-use Rattle.osbase.specs.Sets.{slot_of}
+use Rattle.osbase.specs.{declared.histories.Job.Job, declared.limits.TheConstants.RUNNERS, declared.references.TaskRef.TaskRef, History.oldest_of, Sets.slot_of}
 use Rattle.oscript.specs.Runners.{Row}
 use Rattle.osqueue.specs.declared.ready.Ready.{Ready}
-use Rattle.osjobs.specs.Jobs.{Ascending}
-use Rattle.osjobs.specs.OwnTasks.{OwnTasks}
-use Rattle.osjobs.specs.Queue.{AreHolders, AreReady}
+use Rattle.osjobs.specs.{Jobs.Ascending, OwnTasks.OwnTasks, Queue.AreHolders, Queue.AreReady}
 
 -- How many of these jobs are of the task or ISR with this place among its core's.
 abbrev pub place_count : ℕ → List Job → ℕ

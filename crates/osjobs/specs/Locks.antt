@@ -1,13 +1,11 @@
 -- The lock budgets of the resources that a job holds. That a lock budget is the resource's, for all its holders, and that reaching it is
 -- the fault, is this project's own.
 use Rattle.std.specs.Prelude.{ℕ, Bool, slice_get, slice_index_or}
-use Rattle.std.specs.List.{list_any}
-use Rattle.std.specs.Option.{option_map_or}
+use Rattle.std.specs.{List.list_any, Option.option_map_or}
 use Rattle.osbase.specs.declared.histories.HeldResource.{HeldResource}
 use Rattle.osbudget.specs.Budget.{is_reached}
 use Rattle.oscript.specs.Runners.{Row}
-use Rattle.osplan.specs.declared.plans.Core.{Core}
-use Rattle.osplan.specs.declared.plans.Resource.{Resource}
+use Rattle.osplan.specs.{declared.plans.Core.Core, declared.plans.Resource.Resource}
 
 -- The lock budget of the core's resource of this index, in ticks; 0 is none.
 abbrev pub lock_of : Core → ℕ → ℕ

@@ -1,12 +1,8 @@
 -- What the live jobs know of a core's tasks: whose they are, and the priority of each as it is configured.
 use Rattle.std.specs.Prelude.{ℕ, nat_lt, Bool, false, is_some, if◌then◌else◌, Option, None, List, map, slice_get, unwrap_or}
 use Rattle.std.specs.List.{list_all}
-use Rattle.osbase.specs.declared.references.CoreId.{CoreId}
-use Rattle.osbase.specs.declared.references.Runner.{Runner}
-use Rattle.osbase.specs.declared.references.TaskRef.{TaskRef}
-use Rattle.osbase.specs.History.{same_core}
-use Rattle.osplan.specs.declared.plans.Core.{Core}
-use Rattle.osplan.specs.declared.plans.Task.{Task}
+use Rattle.osbase.specs.{declared.references.CoreId.CoreId, declared.references.Runner.Runner, declared.references.TaskRef.TaskRef, History.same_core}
+use Rattle.osplan.specs.{declared.plans.Core.Core, declared.plans.Task.Task}
 
 -- A core's number, and the static priorities of its tasks.
 pub record OwnTasks : Type 0 where

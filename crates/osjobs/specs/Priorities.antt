@@ -1,15 +1,10 @@
 -- A job's priority, and what it comes from: its task, the resources that it holds, and whether the job is raised.
 use Rattle.std.specs.Prelude.{ℕ, ◌==◌, ◌&&◌, ◌||◌, Bool, true, false, not, if◌then◌else◌, Option, Some, None, is_some, List, [], ◌∷◌}
 use Rattle.std.specs.Option.{option_map_or}
-use Rattle.osbase.specs.declared.references.Runner.{Runner}
-use Rattle.osbase.specs.declared.histories.Job.{Job}
-use Rattle.osbase.specs.declared.histories.HeldResource.{HeldResource}
+use Rattle.osbase.specs.{declared.references.Runner.Runner, declared.histories.Job.Job, declared.histories.HeldResource.HeldResource}
 use Rattle.osbase.specs.History.{same_job, same_runner, greater, greatest_ceiling, is_waiting, oldest}
 use Rattle.oscript.specs.Runners.{Row}
-use Rattle.osplan.specs.declared.plans.Core.{Core}
-use Rattle.osplan.specs.declared.plans.Isr.{Isr}
-use Rattle.osplan.specs.declared.plans.Task.{Task}
-use Rattle.osplan.specs.View.{own_isr, own_task}
+use Rattle.osplan.specs.{declared.plans.Core.Core, declared.plans.Isr.Isr, declared.plans.Task.Task, View.own_isr, View.own_task}
 use Rattle.osrunner.specs.Rows.{events_in, held_in}
 
 -- The runner is one of the core's own tasks or ISRs.

@@ -1,23 +1,14 @@
 -- The ready queue that the live jobs make: those whose tasks do not wait, each with the priority of its task as it is configured. And which
 -- jobs have to be compared to find the best one. All of it is this project's own.
 use Rattle.std.specs.Prelude.{◌≡◌, ◌⊎◌, ℕ, ◌<◌, ◌≤◌, nat_lt, Bool, true, if◌then◌else◌, Option, Some, None, List, [], ◌∷◌, length}
-use Rattle.std.specs.Int.{bit_at}
-use Rattle.std.specs.List.{list_all}
-use Rattle.osbase.specs.declared.histories.Job.{Job}
-use Rattle.osbase.specs.declared.references.Runner.{Runner}
-use Rattle.osbase.specs.declared.limits.TheConstants.{RUNNERS, TASKS}
-use Rattle.osbase.specs.History.{oldest}
+use Rattle.std.specs.{Int.bit_at, List.list_all}
+use Rattle.osbase.specs.{declared.histories.Job.Job, declared.references.Runner.Runner, declared.limits.TheConstants.RUNNERS, declared.limits.TheConstants.TASKS, History.oldest}
 use Rattle.oscript.specs.Runners.{Row}
-use Rattle.osplan.specs.declared.plans.Core.{Core}
-use Rattle.osplan.specs.declared.plans.Task.{Task}
-use Rattle.osqueue.specs.declared.ready.Ready.{Ready}
-use Rattle.osqueue.specs.declared.ready.TheConstants.{PRIORITIES}
-use Rattle.osqueue.specs.Ordered.{placed, without}
+use Rattle.osplan.specs.{declared.plans.Core.Core, declared.plans.Task.Task}
+use Rattle.osqueue.specs.{declared.ready.Ready.Ready, declared.ready.TheConstants.PRIORITIES, Ordered.placed, Ordered.without}
 use Rattle.osrunner.specs.Rows.{row_at}
-use Rattle.osjobs.specs.Jobs.{Each}
+use Rattle.osjobs.specs.{Jobs.Each, Priorities.holds_any, Ranking.is_awake_in, Ranking.rank_by}
 use Rattle.osjobs.specs.OwnTasks.{OwnTasks, are_below, is_own_task, priority_of}
-use Rattle.osjobs.specs.Priorities.{holds_any}
-use Rattle.osjobs.specs.Ranking.{is_awake_in, rank_by}
 
 -- The job is one of the list.
 abbrev pub OneOf : Job → List Job → Type 0

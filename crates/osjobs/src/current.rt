@@ -2,10 +2,8 @@
 
 ghost use Rattle.std.specs.Prelude.{◌≡◌, if◌then◌else◌, Some, None};
 ghost use Rattle.std.specs.Option.{option_or};
-ghost use Rattle.osbase.specs.History.{left_by, oldest};
-ghost use Rattle.osbase.specs.declared.references.Runner.{Runner as RunnerValue};
-ghost use Rattle.osjobs.specs.Jobs.{is_current};
-ghost use Rattle.osjobs.specs.Live.{AreCounted};
+ghost use Rattle.osbase.specs.{History.left_by, History.oldest};
+ghost use Rattle.osjobs.specs.{Jobs.is_current, Live.AreCounted};
 
 use crate::live::{self, Counts};
 use crate::slots::JobSlot;

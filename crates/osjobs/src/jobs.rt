@@ -1,25 +1,16 @@
 //! The live jobs of a core.
 
 ghost use Rattle.std.specs.Prelude.{◌≡◌, ℕ, ◌<◌, ◌≤◌, ◌^◌, [], true, false, if◌then◌else◌, length, nat_lt, option_map, List, Some, None, IsTrue, IfSome, IfNone};
-ghost use Rattle.std.specs.List.{All, Contains};
-ghost use Rattle.osbase.specs.declared.histories.Job.{Job as JobValue};
-ghost use Rattle.osbase.specs.declared.references.Runner.{Runner as RunnerValue};
+ghost use Rattle.std.specs.{List.All, List.Contains, Int.bit_at};
+ghost use Rattle.osbase.specs.{declared.histories.Job.Job as JobValue, declared.references.Runner.Runner as RunnerValue, Sets.slot_of, Interrupts.is_pending_among, Interrupts.oldest_entered, Interrupts.without_isr};
 ghost use Rattle.osbase.specs.History.{Took, Printed, Noted, ResourceOccupied, ResourceReleased, InterruptsSuspended, InterruptsResumed, Done, giving_way_after, gives_way, job_count};
-ghost use Rattle.std.specs.Int.{bit_at};
-ghost use Rattle.osbase.specs.Sets.{slot_of};
-ghost use Rattle.osbase.specs.Interrupts.{is_pending_among, oldest_entered, without_isr};
 ghost use Rattle.osbudget.specs.Budget.{is_reached};
-ghost use Rattle.oscript.specs.declared.Op.{Op as OpValue};
-ghost use Rattle.oscript.specs.Frames.{action_at};
+ghost use Rattle.oscript.specs.{declared.Op.Op as OpValue, Frames.action_at};
 ghost use Rattle.osrunner.specs.Rows.{depth_in, events_in, frame_in, held_in, is_occupied, lock_used_in, row_in, used_in};
 ghost use Rattle.osjobs.specs.Jobs.{Each, best_among, best_task_among, current_among, first_jobs, is_locked_in, is_plain, jobs_by, running_among};
-ghost use Rattle.osjobs.specs.Locks.{is_overheld};
-ghost use Rattle.osjobs.specs.Priorities.{holds_any, is_newest, is_own_runner};
-ghost use Rattle.osjobs.specs.OwnTasks.{are_below, is_own_task, own_tasks};
+ghost use Rattle.osjobs.specs.{Locks.is_overheld, Priorities.holds_any, Priorities.is_newest, Priorities.is_own_runner, OwnTasks.are_below, OwnTasks.is_own_task, OwnTasks.own_tasks, Ranking.is_awake_in};
 ghost use Rattle.osjobs.specs.Queue.{AreHolders, dequeued, enqueued, entry_of, have_queues};
-ghost use Rattle.osjobs.specs.Ranking.{is_awake_in};
-ghost use Rattle.osqueue.specs.Ordered.{ComesBefore, IsBest};
-ghost use Rattle.osqueue.specs.declared.ready.TheConstants.{PRIORITIES};
+ghost use Rattle.osqueue.specs.{Ordered.ComesBefore, Ordered.IsBest, declared.ready.TheConstants.PRIORITIES};
 
 use crate::current::{job_anew, job_joined, job_left, left_by};
 use crate::live::{self, Counts};
@@ -67,8 +58,7 @@ pub struct Jobs<const P: usize, const J: usize> {
 }
 
 impl<const P: usize, const J: usize> Model for Jobs<P, J> {
-    ghost use Rattle.osjobs.specs.Jobs.{JobState};
-    ghost use Rattle.osjobs.specs.Live.{IsKept};
+    ghost use Rattle.osjobs.specs.{Jobs.JobState, Live.IsKept};
 
     ghost Value = { JobState };
 

@@ -1,6 +1,6 @@
 //! What the live jobs know of a core's tasks.
 
-ghost use Rattle.std.specs.Prelude.{◌≡◌, ◌≤◌, length, map, true};
+ghost use Rattle.std.specs.Prelude.{◌≡◌, ◌≤◌, length, map};
 ghost use Rattle.osplan.specs.declared.plans.Task.{Task as TaskValue};
 ghost use Rattle.osjobs.specs.OwnTasks.{is_own_task, own_tasks, priority_in, priority_of};
 

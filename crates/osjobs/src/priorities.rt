@@ -1,15 +1,11 @@
 //! A job's priority, and the first of the jobs of greatest priority.
 
 ghost use Rattle.std.specs.Prelude.{◌≡◌, ◌≤◌, [], true, false, filter, length, IsTrue, IsSome, IfSome, IfNone};
-ghost use Rattle.std.specs.List.{All};
-ghost use Rattle.std.specs.Option.{option_map_or};
+ghost use Rattle.std.specs.{List.All, Option.option_map_or};
 ghost use Rattle.osbase.specs.History.{better_of as better_job, first_greatest as greatest_job, same_runner};
 ghost use Rattle.osplan.specs.View.{own_task};
 ghost use Rattle.osjobs.specs.Priorities.{highest_of, is_extended, is_own_runner, is_preemptable, level_by, level_of, raised_of, static_priority};
-ghost use Rattle.osjobs.specs.Ranking.{is_awake_in, rank_by};
-ghost use Rattle.osjobs.specs.Jobs.{Ascending, Each};
-ghost use Rattle.osjobs.specs.Live.{AreCounted};
-ghost use Rattle.osjobs.specs.OwnTasks.{is_own_task, own_tasks};
+ghost use Rattle.osjobs.specs.{Ranking.is_awake_in, Ranking.rank_by, Jobs.Ascending, Jobs.Each, Live.AreCounted, OwnTasks.is_own_task, OwnTasks.own_tasks};
 ghost use Rattle.osjobs.specs.Queue.{AreHolders, IsBestSoFar, IsBetter, OneOf, queued};
 ghost use Rattle.osqueue.specs.Ordered.{IsBest};
 

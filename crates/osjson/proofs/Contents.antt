@@ -1,12 +1,7 @@
 -- What arrays and objects hold, as lists.
 use Rattle.std.proofs.Common.{◌≡◌, ℕ, List, [], ◌∷◌, map, Bool, String, Global, string_bytes, refl, ap, ◌&&◌, ◌||◌}
-use Rattle.std.specs.List.{list_all, list_any}
-use Rattle.std.specs.Borrow.{Bor}
-use Rattle.std.specs.Str.{bytes_eq}
-use Rattle.std.specs.Map.{keys_of, values_of}
-use Rattle.serde_json.specs.Data.{Data}
-use Rattle.serde_json.specs.View.{view, items_of, members_view}
-use Rattle.serde_json.specs.declared.value.Value.{Value}
+use Rattle.std.specs.{List.list_all, List.list_any, Borrow.Bor, Str.bytes_eq, Map.keys_of, Map.values_of}
+use Rattle.serde_json.specs.{Data.Data, View.view, View.items_of, View.members_view, declared.value.Value.Value}
 use Rattle.osjson.specs.Json.{elements, entries, texts_of, is_one_of}
 
 pub elements-items_of : (ds : List Data) → elements (items_of ds) ≡ ds

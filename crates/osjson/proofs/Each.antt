@@ -1,12 +1,8 @@
 -- Reading each element of a list, as a loop does: what was read goes before what is still to read.
 use Rattle.std.proofs.Common.{◌≡◌, ℕ, ◌+◌, ◌<◌, List, [], ◌∷◌, ◌++◌, length, get_or, drop, Option, Some, None, option_map, option_and_then, map, refl, sym, ap, ◌∙◌, append_assoc, Bool, true}
 use Rattle.std.specs.List.{list_all}
-use Rattle.std.proofs.lemmas.Bool.{and_from}
-use Rattle.std.proofs.lemmas.List.Folds.{list_all-append}
-use Rattle.std.proofs.lemmas.List.{append-nil, drop_more}
-use Rattle.osjson.specs.declared.refusals.Refusal.{Refusal}
-use Rattle.osjson.specs.declared.refusals.Refusal.TheVariants.{OutOfMemory, Unfit}
-use Rattle.osjson.specs.Reading.{Refuses, each}
+use Rattle.std.proofs.{lemmas.Bool.and_from, lemmas.List.Folds.list_all-append, lemmas.List.append-nil, lemmas.List.drop_more}
+use Rattle.osjson.specs.{declared.refusals.Refusal.Refusal, declared.refusals.Refusal.TheVariants.OutOfMemory, declared.refusals.Refusal.TheVariants.Unfit, Reading.Refuses, Reading.each}
 
 abbrev pub with_front : {Y : Type 0} → List Y → Option (List Y) → Option (List Y)
 with_front front read = option_map (λ ys. front ++ ys) read

@@ -1,12 +1,7 @@
 -- Where the first part of a text ends.
 use Rattle.std.proofs.Common.{◌≡◌, ℕ, ◌+◌, ◌<◌, ◌==◌, false, inl, inr, List, [], ◌∷◌, ◌++◌, take, drop, length, get_or, Some, None, ap, ◌∙◌, sym, arith, length-take, take-append-drop}
-use Rattle.std.specs.List.{slice_split}
-use Rattle.std.specs.Str.{IsCharBoundary, IsUtf8}
-use Rattle.std.proofs.lemmas.Bool.{cases_Bool, eqb-true}
-use Rattle.std.proofs.lemmas.List.{drop_more, get_or-take}
-use Rattle.std.proofs.lemmas.List.Elements.{All-from_get_or}
-use Rattle.std.proofs.lemmas.List.Splits.{slice_split_at, slice_split_none}
-use Rattle.std.proofs.lemmas.Str.{IsCharBoundary-after_ascii}
+use Rattle.std.specs.{List.slice_split, Str.IsCharBoundary, Str.IsUtf8}
+use Rattle.std.proofs.{lemmas.Bool.cases_Bool, lemmas.Bool.eqb-true, lemmas.List.drop_more, lemmas.List.get_or-take, lemmas.List.Elements.All-from_get_or, lemmas.List.Splits.slice_split_at, lemmas.List.Splits.slice_split_none, lemmas.Str.IsCharBoundary-after_ascii}
 use Rattle.memchr.specs.Find.{IsFirstByte, Nowhere, Passes, is_byte}
 
 module _ (separator : ℕ) (text : List ℕ) where

@@ -1,9 +1,7 @@
 -- Reading at most so many elements.
 use Rattle.std.proofs.Common.{inl, inr, ◌≡◌, ℕ, suc, ◌≤◌, ◌==◌, true, false, cond, List, [], ◌∷◌, ◌++◌, length, Option, Some, None, option_map, option_and_then, refl, sym, ap, ◌∙◌, arith, nat_le, length-append}
-use Rattle.std.specs.Borrow.{Bor}
-use Rattle.std.specs.List.{slice_split}
-use Rattle.std.proofs.lemmas.Bool.{cases_Bool, le-leb, leb-true}
-use Rattle.std.proofs.lemmas.List.Splits.{length-slice_split}
+use Rattle.std.specs.{Borrow.Bor, List.slice_split}
+use Rattle.std.proofs.{lemmas.Bool.cases_Bool, lemmas.Bool.le-leb, lemmas.Bool.leb-true, lemmas.List.Splits.length-slice_split}
 use Rattle.osjson.specs.Reading.{each, each_of_few, later_parts}
 use Rattle.osjson.proofs.Each.{with_front}
 

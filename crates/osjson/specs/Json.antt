@@ -1,9 +1,6 @@
 -- How JSON data is read: values, lists of them, and members of objects.
 use Rattle.std.specs.Prelude.{ℕ, Bool, false, Option, Some, None, is_some, option_and_then, option_map, if◌then◌else◌, List, [], ◌∷◌, map}
-use Rattle.std.specs.Borrow.{Bor}
-use Rattle.std.specs.Option.{option_map_or}
-use Rattle.std.specs.List.{list_all, list_any}
-use Rattle.std.specs.Str.{bytes_eq}
+use Rattle.std.specs.{Borrow.Bor, Option.option_map_or, List.list_all, List.list_any, Str.bytes_eq}
 use Rattle.serde_json.specs.Data.{Num, unsigned, negative, float, Data, Items, no_items, item, Members, no_members, member}
 use Rattle.serde_json.specs.Find.{get, as_null, as_number, as_str, as_array, as_object}
 use Rattle.osbase.specs.Names.{is_name}

@@ -1,9 +1,7 @@
 -- How a text's parts are read: a chain of steps; each may find nothing that fits.
 use Rattle.std.specs.Prelude.{◌≡◌, ◌==◌, nat_le, ℕ, Bool, Option, Some, None, option_and_then, option_map, if◌then◌else◌, List, [], ◌∷◌, length, Result, Ok, Err}
-use Rattle.std.specs.Borrow.{Bor}
-use Rattle.std.specs.List.{slice_split}
-use Rattle.osjson.specs.declared.refusals.Refusal.{Refusal}
-use Rattle.osjson.specs.declared.refusals.Refusal.TheVariants.{OutOfMemory, Unfit}
+use Rattle.std.specs.{Borrow.Bor, List.slice_split}
+use Rattle.osjson.specs.{declared.refusals.Refusal.Refusal, declared.refusals.Refusal.TheVariants.OutOfMemory, declared.refusals.Refusal.TheVariants.Unfit}
 
 infixl 10 ◌>>=◌
 abbrev pub ◌>>=◌ : {A B : Type 0} → Option A → (A → Option B) → Option B

@@ -1,9 +1,7 @@
 //! Members of JSON objects, each by its reader.
 
 ghost use Rattle.std.specs.Prelude.{◌≡◌, IfOk, IsTrue, string_bytes, String};
-ghost use Rattle.std.specs.List.{list_all};
-ghost use Rattle.std.specs.BTreeMap.{keys};
-ghost use Rattle.std.specs.declared.alloc.Global.{Global};
+ghost use Rattle.std.specs.{List.list_all, BTreeMap.keys, declared.alloc.Global.Global};
 ghost use Rattle.serde_json.specs.View.{view};
 ghost use Rattle.osjson.specs.Reading.{Gives};
 ghost use Rattle.osjson.specs.Json.{texts_of, is_one_of, is_object_of, only_members, member_of, member_or};
@@ -13,7 +11,8 @@ use crate::values::JsonReader;
 use serde_json::{Map, Value};
 use std::alloc::Global;
 
-/// The member that has to be there. `Unfit` where it is missing, or its value has no shape.
+/// What the reader reads of the member with this key. `Unfit` where the value is no object, where it has no such member,
+/// or where the member's value has not the reader's shape.
 pub fn at<'v, U, R: JsonReader<'v, U>>(
     alloc: Global,
     value: &'v Value,

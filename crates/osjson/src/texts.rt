@@ -1,8 +1,7 @@
 //! The JSON value of a text.
 
 ghost use Rattle.std.specs.Prelude.{◌≡◌};
-ghost use Rattle.serde_json.specs.Read.{read};
-ghost use Rattle.serde_json.specs.View.{view};
+ghost use Rattle.serde_json.specs.{Read.read, View.view};
 ghost use Rattle.osjson.specs.Reading.{Gives};
 
 use crate::refusals::Refusal;

@@ -1,12 +1,9 @@
 //! Readers of JSON values: whole numbers, names, texts, and lists of whatever is read, or null in its place.
 
 ghost use Rattle.std.specs.Prelude.{◌≡◌, Bool, true, IfOk, IsTrue, Option, map};
-ghost use Rattle.std.specs.List.{list_all};
-ghost use Rattle.std.specs.Option.{option_map_or};
+ghost use Rattle.std.specs.{List.list_all, Option.option_map_or};
 ghost use Rattle.osbase.specs.Names.{is_name};
-ghost use Rattle.serde_json.specs.Data.{Data};
-ghost use Rattle.serde_json.specs.Find.{as_bool, as_str};
-ghost use Rattle.serde_json.specs.View.{view};
+ghost use Rattle.serde_json.specs.{Data.Data, Find.as_bool, Find.as_str, View.view};
 ghost use Rattle.osjson.specs.Reading.{Gives, each};
 ghost use Rattle.osjson.specs.Json.{whole_of, if_name, name_of, each_of, or_null};
 

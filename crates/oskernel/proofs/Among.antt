@@ -1,33 +1,15 @@
 -- A core's history alone, and the same where it was started by another core and passed the second gate with
 -- others: it reads the same, with each stamp later by what came before.
 use Rattle.std.proofs.Common.{◌≡◌, ◌&&◌, ◌||◌, ℕ, suc, ◌+◌, nat_eq, nat_lt, Bool, true, false, not, cond, Option, Some, None, option_map, List, [], ◌∷◌, ◌++◌, length, map, refl, sym, ap, ◌∙◌, arith}
-use Rattle.std.specs.List.{filter}
-use Rattle.std.specs.Option.{option_map_or, option_or}
-use Rattle.std.proofs.lemmas.Bool.Decides.{nat_tests}
-use Rattle.std.proofs.lemmas.List.{map-append}
-use Rattle.osbase.specs.declared.references.AlarmRef.{AlarmRef}
-use Rattle.osbase.specs.declared.references.CounterRef.{CounterRef}
-use Rattle.osbase.specs.declared.references.TableRef.{TableRef}
-use Rattle.osbase.specs.declared.references.IsrRef.{IsrRef}
-use Rattle.osbase.specs.declared.references.TaskRef.{TaskRef}
-use Rattle.osbase.specs.declared.references.Runner.{Runner}
-use Rattle.osbase.specs.declared.items.CoreSet.{CoreSet}
-use Rattle.osbase.specs.declared.items.Item.{Item}
-use Rattle.osbase.specs.declared.marks.Mark.{Mark}
-use Rattle.osbase.specs.declared.histories.GotSpinlock.{GotSpinlock}
-use Rattle.osbase.specs.declared.histories.Job.{Job}
-use Rattle.osbase.specs.declared.histories.OpenCall.{OpenCall}
-use Rattle.osbase.specs.Sets.{numbers_from}
-use Rattle.osbase.specs.declared.limits.TheConstants.{RUNNERS}
+use Rattle.std.specs.{List.filter, Option.option_map_or, Option.option_or}
+use Rattle.std.proofs.{lemmas.Bool.Decides.nat_tests, lemmas.List.map-append}
+use Rattle.osbase.specs.{declared.references.AlarmRef.AlarmRef, declared.references.CounterRef.CounterRef, declared.references.TableRef.TableRef, declared.references.IsrRef.IsrRef, declared.references.TaskRef.TaskRef, declared.references.Runner.Runner, declared.items.CoreSet.CoreSet, declared.items.Item.Item, declared.marks.Mark.Mark, declared.histories.GotSpinlock.GotSpinlock, declared.histories.Job.Job, declared.histories.OpenCall.OpenCall, Sets.numbers_from, declared.limits.TheConstants.RUNNERS, Spins.got_spinlocks, Spins.spins_after}
 use Rattle.osbase.specs.Counting.{alarm_after, alarm_of, counts_after, counts_of, table_after, table_state}
 use Rattle.osbase.specs.History.{History, Entry, Took, Printed, agreement_after, agreement_of, better_of, course_after, course_of, current_after, current_job, current_task, first_greatest, giving_way, giving_way_after, greater, greatest_ceiling, is_waiting, job_count, jobs_after, live_jobs, marks_of, oldest, oldest_of, open_after, open_call, phase_after, phase_of, same_job, same_runner, stamped_anew, without_oldest}
-use Rattle.osbase.specs.Spins.{got_spinlocks, spins_after}
 use Rattle.osbase.specs.Interrupts.{entered_after, entered_isrs, isr_count, isr_jobs, isr_jobs_after, oldest_entered, runner_of_job, running_job}
-use Rattle.oscript.specs.declared.Op.{Op}
-use Rattle.oscript.specs.Runners.{Row, row_after, row_of}
-use Rattle.osplan.specs.declared.plans.Core.{Core}
+use Rattle.oscript.specs.{declared.Op.Op, Runners.Row, Runners.row_after, Runners.row_of}
+use Rattle.osplan.specs.{declared.plans.Core.Core, View.View}
 use Rattle.osrunner.specs.Rows.{events_in, held_in}
-use Rattle.osplan.specs.View.{View}
 use Rattle.osjobs.specs.Jobs.{is_locked_in}
 use Rattle.osjobs.specs.Priorities.{highest_of, is_able_in, is_oldest, is_preemptable, level_by, priority_by, raised_of, static_priority}
 use Rattle.osstate.specs.Readings.{best_job, best_task, current_priority, is_able, is_pending, rows_of, runner_at, running, script_of}

@@ -2,21 +2,11 @@
 use Rattle.std.proofs.Common.{◌≡◌, ℕ, zero, suc, ◌+◌, ◌≤◌, ◌<◌, Bool, true, false, cond, Some, List, [], ◌∷◌, ◌++◌, length, refl, ap, sym, subst, ◌∙◌, arith, nat_le}
 use Rattle.std.specs.List.{slice_get, list_all}
 use Rattle.std.proofs.lemmas.Bool.{false_from_ne_true, leb-true}
-use Rattle.osbase.specs.declared.references.TableRef.{TableRef}
-use Rattle.osbase.specs.declared.references.Runner.{Runner}
-use Rattle.osbase.specs.History.{job_count, same_runner}
-use Rattle.osbase.proofs.Same.{same_runner-true, same_core-refl}
-use Rattle.osplan.specs.declared.plans.Core.{Core}
-use Rattle.osplan.specs.declared.plans.Table.{Table}
-use Rattle.osplan.specs.declared.plans.TableStart.{TableStart}
-use Rattle.osplan.specs.declared.plans.Task.{Task}
-use Rattle.osplan.specs.Clocked.{are_clocks_within}
-use Rattle.osplan.specs.View.{own_table}
-use Rattle.osbase.proofs.Places.{passes-at}
+use Rattle.osbase.specs.{declared.references.TableRef.TableRef, declared.references.Runner.Runner, History.job_count, History.same_runner}
+use Rattle.osbase.proofs.{Same.same_runner-true, Same.same_core-refl, Places.passes-at}
+use Rattle.osplan.specs.{declared.plans.Core.Core, declared.plans.Table.Table, declared.plans.TableStart.TableStart, declared.plans.Task.Task, Clocked.are_clocks_within, View.own_table}
 use Rattle.osplan.proofs.Timing.{own-counter-there, own-table-attached, own-table-within, table-start-bounds}
-use Rattle.osstate.specs.Readings.{task_ref}
-use Rattle.osstate.specs.Sound.{activation_limit}
-use Rattle.osstate.specs.State.{KernelState}
+use Rattle.osstate.specs.{Readings.task_ref, Sound.activation_limit, State.KernelState}
 use Rattle.osstate.proofs.JobLists.{job_count-append}
 use Rattle.oskernel.specs.Taking.{have_places}
 

@@ -1,18 +1,14 @@
 -- A core whose scripts and alarms name no other core's objects, and that takes no mail, keeps no call open and posts nothing.
 use native.Mathlib.Omega.{arith}
 use Rattle.std.proofs.Common.{Bool, ◌≡◌, true, false, None, [], ◌∷◌, refl}
-use Rattle.osbase.specs.declared.references.CoreId.{CoreId}
-use Rattle.osbase.specs.declared.items.Item.{Item}
+use Rattle.osbase.specs.{declared.references.CoreId.CoreId, declared.items.Item.Item, Spins.got_spinlocks}
 use Rattle.osbase.specs.History.{Entry, History, Took, open_call, outbox}
-use Rattle.osbase.specs.Spins.{got_spinlocks}
 use Rattle.osplan.specs.View.{View}
 use Rattle.osservice.proofs.Kept.{anybody, is_local, nobody}
 use Rattle.osstate.specs.State.{state_of}
 use Rattle.osawait.specs.Free.{is_settled}
 use Rattle.oskernel.specs.Step.{after}
-use Rattle.oskernel.proofs.Carried.{is_replied, NamesAllow}
-use Rattle.oskernel.proofs.Holding.{Holds, holds-after, holds-local}
-use Rattle.oskernel.proofs.Stages.{is_mail}
+use Rattle.oskernel.proofs.{Carried.is_replied, Carried.NamesAllow, Holding.Holds, Holding.holds-after, Holding.holds-local, Stages.is_mail}
 
 -- No call is open, nothing waits in the outbox, and no spinlock was got.
 pub record Calm (h : History) : Type 0 where

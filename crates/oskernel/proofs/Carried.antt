@@ -1,45 +1,20 @@
 -- What a core does at an item it does to every history that reads the same.
 use native.Mathlib.Omega.{arith}
 use Rattle.std.proofs.Common.{◌≡◌, ◌&&◌, ◌||◌, ℕ, ℤ, not, Bool, true, false, cond, Option, Some, None, option_and_then, List, [], ◌∷◌, refl, subst, sym, ◌∙◌}
-use Rattle.std.specs.List.{list_all, slice_get}
-use Rattle.std.specs.Option.{option_map_or}
-use Rattle.std.proofs.lemmas.Bool.{and_from, and_parts, or_right}
-use Rattle.std.proofs.lemmas.Option.{slice_get_within}
-use Rattle.osbase.specs.declared.statuses.Status.{Status}
-use Rattle.osbase.specs.declared.statuses.Status.TheVariants.{EOk}
-use Rattle.osbase.specs.declared.references.CoreId.{CoreId}
-use Rattle.osbase.specs.declared.references.SpinlockId.{SpinlockId}
-use Rattle.osbase.specs.declared.references.TaskRef.{TaskRef}
-use Rattle.osbase.specs.declared.references.Runner.{Runner}
-use Rattle.osbase.specs.declared.messages.Message.{Message}
-use Rattle.osbase.specs.declared.items.Item.{Item}
-use Rattle.osbase.specs.declared.items.Stimulus.{Stimulus}
-use Rattle.osbase.specs.declared.histories.Awaited.{Awaited}
-use Rattle.osbase.specs.declared.histories.Job.{Job}
+use Rattle.std.specs.{List.list_all, List.slice_get, Option.option_map_or}
+use Rattle.std.proofs.{lemmas.Bool.and_from, lemmas.Bool.and_parts, lemmas.Bool.or_right, lemmas.Option.slice_get_within}
+use Rattle.osbase.specs.{declared.statuses.Status.Status, declared.statuses.Status.TheVariants.EOk, declared.references.CoreId.CoreId, declared.references.SpinlockId.SpinlockId, declared.references.TaskRef.TaskRef, declared.references.Runner.Runner, declared.messages.Message.Message, declared.items.Item.Item, declared.items.Stimulus.Stimulus, declared.histories.Awaited.Awaited, declared.histories.Job.Job, Marks.core_of_runner}
 use Rattle.osbase.specs.History.{AlarmSet, History, Noted, Took, current_task, same_job}
-use Rattle.osbase.specs.Marks.{core_of_runner}
-use Rattle.oscript.specs.declared.Op.{Op}
-use Rattle.oscript.specs.declared.Action.TheVariants.{Perform, End}
-use Rattle.oscript.specs.Rows.{asks_shared, halts_all, objects_of}
-use Rattle.osplan.specs.declared.protection.Protection.{Protection}
-use Rattle.osplan.specs.declared.plans.Alarm.{Alarm}
-use Rattle.osplan.specs.declared.plans.AlarmStart.{AlarmStart}
-use Rattle.osplan.specs.declared.plans.Core.{Core}
-use Rattle.osplan.specs.Clocked.{are_clocks_within}
-use Rattle.osplan.specs.Objects.{core_actions}
-use Rattle.osplan.specs.View.{Around, View}
+use Rattle.oscript.specs.{declared.Op.Op, declared.Action.TheVariants.Perform, declared.Action.TheVariants.End, Rows.asks_shared, Rows.halts_all, Rows.objects_of}
+use Rattle.osplan.specs.{declared.protection.Protection.Protection, declared.plans.Alarm.Alarm, declared.plans.AlarmStart.AlarmStart, declared.plans.Core.Core, Clocked.are_clocks_within, Objects.core_actions, View.Around, View.View}
 use Rattle.osclock.specs.Clocks.{alarm_ref, counter_ref, is_setting_granted}
-use Rattle.osclock.proofs.Places.{alarm-is, alarm-own}
-use Rattle.osclock.proofs.Starts.{starts-within}
+use Rattle.osclock.proofs.{Places.alarm-is, Places.alarm-own, Starts.starts-within}
 use Rattle.ostable.proofs.Asked.{dues-own}
-use Rattle.osstate.specs.Readings.{best_job, running, script_of}
-use Rattle.osstate.specs.State.{state_of}
-use Rattle.osacts.specs.Acts.{Acts, Notes, does}
-use Rattle.osacts.specs.Seen.{Seen, seen_of}
+use Rattle.osstate.specs.{Readings.best_job, Readings.running, Readings.script_of, State.state_of}
+use Rattle.osacts.specs.{Acts.Acts, Acts.Notes, Acts.does, Seen.Seen, Seen.seen_of}
 use Rattle.osservice.specs.Service.{answer_of}
-use Rattle.osservice.proofs.Called.{locks-any}
+use Rattle.osservice.proofs.{Called.locks-any, Partners.Partner}
 use Rattle.osservice.proofs.Kept.{AreAllowed, IsKept, IsNamed, IsSeen, Leave, anybody, each-ok, found-ok, in_turn-ok, is_allowed, is_within, kept-by, replies-ok, reports-ok, returns-ok, seen_as, turns-shown}
-use Rattle.osservice.proofs.Partners.{Partner}
 use Rattle.osservice_tasks.proofs.Allowed.{ends-ok, ends_without_terminate-ok}
 use Rattle.oscall.specs.Border.{core_of_call, service_of}
 use Rattle.oscall.proofs.Allowed.{served-ok, service-ok}
@@ -47,7 +22,7 @@ use Rattle.osexpiry.proofs.Allowed.{ActionsAllow, counts-ok}
 use Rattle.oskernel.proofs.Operated.{IsAllowed, operates-ok}
 use Rattle.ostick.specs.Faults.{answers_fault, fault_of, faults_with, protects}
 use Rattle.osawait.specs.Free.{may_dispatch}
-use Rattle.oskernel.specs.Step.{after, closes, dispatches, effect, enters_from, goes_to, performs, resumes_with, service_awaiting, success_value}
+use Rattle.oskernel.specs.Step.{after, closes, dispatched, effect, enters, goes_to, performs, resumes_with, service_awaiting, success_value}
 
 -- A request comes from a core that may be answered; and the call that it brings, an action and an interrupt are for an object that
 -- marks may name.
@@ -114,14 +89,20 @@ acting-anybody v may answered h = record { seen = record { id = refl; core = ref
     always o = grind arith
 
 -- Dispatch by what is read: the task that a core leaves, and the runner that it goes to.
-abbrev goes : Option TaskRef → Option Runner → History → History
-goes current next h = option_map_or (λ (r : Runner). enters_from current r h) next h
+abbrev goes : View → Option TaskRef → Option Runner → History → History
+goes v current next h = option_map_or (λ (r : Runner). does (enters current r) v h) next h
 
-dispatches-is : (v : View) (h : History) → dispatches v h ≡ goes (current_task h) (next_of v h) h
-dispatches-is v h = by (may_dispatch (state_of v h)) (best_job v h)
+dispatched-is : (v : View) (h : History) → dispatched v h ≡ goes v (current_task h) (next_of v h) h
+dispatched-is v h = by (may_dispatch (state_of v h)) (best_job v h)
   where
-    by : (b : Bool) (o : Option Job) → cond b (goes_to v o h) h ≡ goes (current_task h) (cond b (next_job o (running v h)) None) h
-    by b o = grind arith
+    by : (b : Bool) (o : Option Job) → cond b (does (goes_to (state_of v h) o) v h) h ≡ goes v (current_task h) (cond b (next_job o (running v h)) None) h
+    by true None = refl
+    by false o = refl
+    by true (Some j) = choose (option_map_or (same_job j) (running v h) false)
+      where
+        choose : (c : Bool) → cond c h (does (enters (current_task h) j.runner) v h) ≡ goes v (current_task h) (cond c None (Some j.runner)) h
+        choose true = refl
+        choose false = refl
 
 -- ---- what follows from an item
 
@@ -200,23 +181,23 @@ module _ (l : Leave) (allowed : NamesAllow l.view l.may) where
   -- ---- dispatch, and the whole step
 
   module _ (around : Around) (R : History → History → Type 0) (kept : IsKept l around R) (steers : (h k : History) → R h k → (current_task h ≡ current_task k) × (next_of l.view h ≡ next_of (seen_as l.view around) k)) (acting : (h k : History) → R h k → NamesActing l h) where
-    goes-carried : (current : Option TaskRef) (next : Option Runner) (h k : History) → passes current (λ t. l.names t.core) ≡ true → passes next (λ r. l.names (core_of_runner r)) ≡ true → R h k → R (goes current next h) (goes current next k)
+    goes-carried : (current : Option TaskRef) (next : Option Runner) (h k : History) → passes current (λ t. l.names t.core) ≡ true → passes next (λ r. l.names (core_of_runner r)) ≡ true → R h k → R (goes l.view current next h) (goes (seen_as l.view around) current next k)
     goes-carried current None h k left n p = p
     goes-carried None (Some (Runner.Task t)) h k left n p = kept.holds.local _ h k n p
     goes-carried (Some u) (Some (Runner.Task t)) h k left n p = kept.holds.local _ _ _ n (kept.holds.local _ h k left p)
     goes-carried current (Some (Runner.Isr i)) h k left n p = kept.holds.local _ h k n p
 
-    dispatches-carried : (h k : History) → R h k → R (dispatches l.view h) (dispatches (seen_as l.view around) k)
-    dispatches-carried h k p =
+    dispatch-carried : (h k : History) → R h k → R (dispatched l.view h) (dispatched (seen_as l.view around) k)
+    dispatch-carried h k p =
         let same = steers h k p in
         let acts = acting h k p in
-        subst (λ (d : History). R d (dispatches (seen_as l.view around) k)) (sym (dispatches-is l.view h))
-        (subst (R (goes (current_task h) (next_of l.view h) h)) ((λ i. goes (same.0 i) (same.1 i) k) ∙ sym (dispatches-is (seen_as l.view around) k))
+        subst (λ (d : History). R d (dispatched (seen_as l.view around) k)) (sym (dispatched-is l.view h))
+        (subst (R (goes l.view (current_task h) (next_of l.view h) h)) ((λ i. goes (seen_as l.view around) (same.0 i) (same.1 i) k) ∙ sym (dispatched-is (seen_as l.view around) k))
         (goes-carried (current_task h) (next_of l.view h) h k acts.current acts.next p))
 
     -- Two items that are taken, with the same effect.
     pub after-carried : (h k : History) (item item' : Item) → is_replied l.answered l.names item ≡ true → effect item ≡ effect item' → R (Took item ∷ h) (Took item' ∷ k) → R (after l.view h item) (after (seen_as l.view around) k item')
     after-carried h k item item' m same p =
-        dispatches-carried (does (effect item) l.view (Took item ∷ h)) (does (effect item') (seen_as l.view around) (Took item' ∷ k))
+        dispatch-carried (does (effect item) l.view (Took item ∷ h)) (does (effect item') (seen_as l.view around) (Took item' ∷ k))
         (subst (λ (x : Acts). R (does (effect item) l.view (Took item ∷ h)) (does x (seen_as l.view around) (Took item' ∷ k))) same
         (kept-by l around R kept (effect item) (effect-ok item m) (Took item ∷ h) (Took item' ∷ k) p))

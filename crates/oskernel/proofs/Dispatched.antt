@@ -1,58 +1,31 @@
 -- What a step's functions say of the state they say of every history: what follows from an item, and dispatch.
 use Rattle.std.proofs.Common.{◌≡◌, ℕ, ◌+◌, Bool, true, false, cond, Option, Some, None, List, ◌∷◌, ◌++◌, refl, ap, sym, subst, ◌∙◌, append_assoc, Vec, Global}
 use Rattle.std.specs.Option.{option_map_or}
-use Rattle.osbase.specs.declared.references.Runner.{Runner}
-use Rattle.osbase.specs.declared.references.TaskRef.{TaskRef}
-use Rattle.osbase.specs.declared.histories.Job.{Job}
-use Rattle.osbase.specs.declared.items.Item.{Item}
-use Rattle.osbase.specs.declared.marks.Mark.{Mark}
-use Rattle.osbase.specs.History.{History, Took, current_task, same_job}
-use Rattle.osplan.specs.Clocked.{are_clocks_within}
-use Rattle.osplan.specs.View.{View}
-use Rattle.osstate.specs.Does.{Tracks}
-use Rattle.osstate.specs.Queries.{best_in, running_in}
-use Rattle.osstate.specs.Readings.{best_job, running}
-use Rattle.osstate.specs.State.{KernelState, Stands, state_of}
-use Rattle.osstate.specs.Steps.{state_after}
+use Rattle.osbase.specs.{declared.references.Runner.Runner, declared.references.TaskRef.TaskRef, declared.histories.Job.Job, declared.items.Item.Item, declared.marks.Mark.Mark, History.History, History.Took, History.same_job}
+use Rattle.osplan.specs.{Clocked.are_clocks_within, View.View}
+use Rattle.osstate.specs.{Does.Tracks, Queries.best_in, Queries.running_in, State.KernelState, State.Stands, Steps.state_after}
 use Rattle.osstate.proofs.Histories.{state-stands}
 use Rattle.osawait.specs.Free.{may_dispatch}
-use Rattle.osacts.specs.Acts.{Acts, does}
-use Rattle.osacts.specs.Laws.{are_permitted}
-use Rattle.osacts.specs.Runs.{says}
-use Rattle.osacts.specs.Steps.{Steps}
-use Rattle.osacts.proofs.Law.{lines-after, stands-after}
-use Rattle.osacts.proofs.Within.{runs-within}
-use Rattle.oskernel.specs.Step.{dispatches, dispatches_in, enters_by, enters_from, goes_in, goes_to}
+use Rattle.osacts.specs.{Acts.Acts, Acts.does, Laws.are_permitted, Runs.says, Steps.Steps}
+use Rattle.osacts.proofs.{Law.lines-after, Law.stands-after, Within.runs-within}
+use Rattle.oskernel.specs.Step.{dispatched, dispatches, enters, goes_to}
 
 -- ---- dispatch
 
--- Dispatch by the state of a history is dispatch by the history.
-pub dispatched : (v : View) (h : History) → does (dispatches_in (state_of v h)) v h ≡ dispatches v h
-dispatched v h = ap (λ (k : History). cond (may_dispatch (state_of v h)) k h) (gone (best_job v h))
-  where
-    entered : (o : Option TaskRef) (r : Runner) → does (enters_by o r) v h ≡ enters_from o r h
-    entered None (Runner.Task t) = refl
-    entered (Some current) (Runner.Task t) = refl
-    entered o (Runner.Isr i) = refl
-
-    gone : (o : Option Job) → does (goes_in (state_of v h) o) v h ≡ goes_to v o h
-    gone None = refl
-    gone (Some j) = ap (λ (k : History). cond (option_map_or (same_job j) (running v h) false) h k) (entered (current_task h) j.runner)
-
 -- It prints lines alone.
-pub dispatch-permitted : (s q : KernelState) → are_permitted (dispatches_in s) q ≡ true
+pub dispatch-permitted : (s q : KernelState) → are_permitted (dispatches s) q ≡ true
 dispatch-permitted s q = either (may_dispatch s) (gone (best_in s))
   where
     either : (b : Bool) {c : Bool} → c ≡ true → cond b c true ≡ true
     either true e = e
     either false e = refl
 
-    entered : (o : Option TaskRef) (r : Runner) → are_permitted (enters_by o r) q ≡ true
+    entered : (o : Option TaskRef) (r : Runner) → are_permitted (enters o r) q ≡ true
     entered None (Runner.Task t) = refl
     entered (Some current) (Runner.Task t) = refl
     entered o (Runner.Isr i) = refl
 
-    gone : (o : Option Job) → are_permitted (goes_in s o) q ≡ true
+    gone : (o : Option Job) → are_permitted (goes_to s o) q ≡ true
     gone None = refl
     gone (Some j) = other (option_map_or (same_job j) (running_in s) false) (entered s.tasks.current j.runner)
       where
@@ -87,9 +60,9 @@ tracked {v} {h} {earlier} {base} {s = s} x within permitted steps t = record {
 
 -- Dispatch was dispatch of every such history.
 pub dispatch-tracked : {v : View} {h : History} {earlier base : List Mark} {most marks : ℕ} {s s' : KernelState} {vec vec' : Vec Mark Global} → are_clocks_within s.view.own ≡ true
-    → Steps most marks (dispatches_in s) s s' vec vec' → Tracks v h earlier base s vec.items → Tracks v (dispatches v h) earlier base s' vec'.items
+    → Steps most marks (dispatches s) s s' vec vec' → Tracks v h earlier base s vec.items → Tracks v (dispatched v h) earlier base s' vec'.items
 dispatch-tracked {v} {h} {earlier} {base} {s = s} {s' = s'} {vec' = vec'} within steps t =
-    subst (λ (k : History). Tracks v k earlier base s' vec'.items) (ap (λ (q : KernelState). does (dispatches_in q) v h) t.stands.is ∙ dispatched v h) (tracked (dispatches_in s) within (dispatch-permitted s s) steps t)
+    subst (λ (k : History). Tracks v k earlier base s' vec'.items) (ap (λ (q : KernelState). does (dispatches q) v h) t.stands.is) (tracked (dispatches s) within (dispatch-permitted s s) steps t)
 
 -- What acts do after an item counts no other item.
 pub counted : {most marks most' marks' : ℕ} (s : KernelState) {s' s'' : KernelState} {vec vec' vec'' : Vec Mark Global} (item : Item) (x y : Acts) → Steps most marks x (state_after (Took item) s) s' vec vec' → Steps most' marks' y s' s'' vec' vec'' → s''.progress.items ≡ s.progress.items + 1

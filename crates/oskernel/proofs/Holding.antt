@@ -1,19 +1,11 @@
 -- What the entries that a core may add keep holds after an item as it did with it.
 use Rattle.std.proofs.Common.{◌≡◌, Bool, true, ◌∷◌, refl, ap, sym, subst, ℤ, Option, ◌∙◌}
 use Rattle.std.proofs.lemmas.Bool.{false≢true}
-use Rattle.osbase.specs.declared.statuses.Status.{Status}
-use Rattle.osbase.specs.declared.references.CoreId.{CoreId}
-use Rattle.osbase.specs.declared.messages.Message.{Message}
-use Rattle.osbase.specs.declared.items.Item.{Item}
-use Rattle.osbase.specs.declared.marks.Mark.{Mark}
-use Rattle.osbase.specs.declared.histories.OpenCall.{OpenCall}
-use Rattle.osbase.specs.Answers.{reply}
+use Rattle.osbase.specs.{declared.statuses.Status.Status, declared.references.CoreId.CoreId, declared.messages.Message.Message, declared.items.Item.Item, declared.marks.Mark.Mark, declared.histories.OpenCall.OpenCall, Answers.reply, Marks.core_of_runner}
 use Rattle.osbase.specs.History.{Entry, History, Note, current_task, Took, Printed, Noted, Opened}
-use Rattle.osbase.specs.Marks.{core_of_runner}
 use Rattle.osplan.specs.View.{View}
 use Rattle.osstate.specs.Readings.{knows_started}
-use Rattle.osacts.specs.Acts.{Sends, act}
-use Rattle.osacts.specs.Seen.{all_cores, seen_of}
+use Rattle.osacts.specs.{Acts.Sends, Acts.act, Seen.all_cores, Seen.seen_of}
 use Rattle.osservice.proofs.Kept.{IsKept, IsSeen, Leave, anybody, is_local, may_open, nobody}
 use Rattle.osservice.proofs.Partners.{Partner}
 use Rattle.oskernel.specs.Step.{after}

@@ -1,22 +1,12 @@
 -- A core that drained has dispatched: nothing follows from its last items.
 use Rattle.std.proofs.Common.{◌≡◌, ◌&&◌, ◌||◌, ◌≤◌, ℕ, nat_eq, nat_lt, Bool, true, false, cond, not, Option, Some, None, is_none, List, [], ◌∷◌, refl, sym, ap, subst, ◌∙◌, arith}
-use Rattle.std.specs.List.{filter, list_all}
-use Rattle.std.specs.Option.{option_map_or, option_or}
+use Rattle.std.specs.{List.filter, List.list_all, Option.option_map_or, Option.option_or}
 use Rattle.std.proofs.lemmas.Bool.{and_from, and_parts, eqb-true, false≢true, eq-eqb}
-use Rattle.std.proofs.lemmas.Bool.Decides.{nat_tests}
-use Rattle.std.proofs.lemmas.List.Folds.{list_all-append}
-use Rattle.std.proofs.lemmas.Option.{none-some, same_Some}
-use Rattle.osbase.specs.declared.references.IsrRef.{IsrRef}
-use Rattle.osbase.specs.declared.references.TaskRef.{TaskRef}
-use Rattle.osbase.specs.declared.references.Runner.{Runner}
-use Rattle.osbase.specs.declared.items.Item.{Item}
-use Rattle.osbase.specs.declared.marks.Mark.{Mark}
-use Rattle.osbase.specs.declared.histories.Job.{Job}
+use Rattle.std.proofs.{lemmas.Bool.Decides.nat_tests, lemmas.List.Folds.list_all-append, lemmas.Option.none-some, lemmas.Option.same_Some}
+use Rattle.osbase.specs.{declared.references.IsrRef.IsrRef, declared.references.TaskRef.TaskRef, declared.references.Runner.Runner, declared.items.Item.Item, declared.marks.Mark.Mark, declared.histories.Job.Job, Phases.is_going, Spins.got_spinlocks, Spins.is_owing}
 use Rattle.oscript.specs.Runners.{Row}
 use Rattle.osbase.specs.History.{Entry, History, Took, Printed, better_of, course_of, current_job, current_task, first_greatest, giving_way, greater, greatest_ceiling, jobs_after, live_jobs, oldest, oldest_of, open_call, same_job, same_runner}
 use Rattle.osbase.specs.Interrupts.{entered_isrs, isr_jobs, isr_jobs_after, oldest_entered}
-use Rattle.osbase.specs.Phases.{is_going}
-use Rattle.osbase.specs.Spins.{got_spinlocks, is_owing}
 use Rattle.osbase.proofs.Same.{same_runner-refl, same_runner-true}
 use Rattle.osplan.specs.View.{View}
 use Rattle.osplan.proofs.Tests.{all-filter}
@@ -24,6 +14,8 @@ use Rattle.osjobs.specs.Jobs.{is_locked_in}
 use Rattle.osjobs.proofs.Running.{no-entered, none-chosen}
 use Rattle.osjobs.specs.Priorities.{held_by_job, highest_of, is_oldest, is_preemptable, level_by, level_of, priority_by, raised_of, static_priority}
 use Rattle.osstate.specs.Readings.{best_job, best_task, current_priority, is_able, rows_of, running}
+use Rattle.osstate.specs.State.{state_of}
+use Rattle.osacts.specs.Acts.{does}
 use Rattle.oskernel.specs.Step.{after, enters, goes_to, leaves}
 use Rattle.oskernel.proofs.JobLists.{anew-all, greatest-passes, oldest-passes, without-all}
 
@@ -197,28 +189,35 @@ filtered-all p (j ∷ js) = grind (arith, filtered-all p js)
 abbrev able_jobs : View → History → List Job
 able_jobs v h = filter (is_able v h) (live_jobs h)
 
-entered-able : (v : View) (o : Option TaskRef) (t : TaskRef) (h : History) → able_jobs v (Printed (Mark.PreTaskHook t) ∷ leaves o h) ≡ able_jobs v h
+entered-able : (v : View) (o : Option TaskRef) (t : TaskRef) (h : History) → able_jobs v (Printed (Mark.PreTaskHook t) ∷ does (leaves o) v h) ≡ able_jobs v h
 entered-able v None t h = refl
 entered-able v (Some u) t h = refl
 
-entered-jobs : (o : Option TaskRef) (h : History) → live_jobs (leaves o h) ≡ live_jobs h
-entered-jobs None h = refl
-entered-jobs (Some t) h = refl
+entered-jobs : (v : View) (o : Option TaskRef) (h : History) → live_jobs (does (leaves o) v h) ≡ live_jobs h
+entered-jobs v None h = refl
+entered-jobs v (Some t) h = refl
 
-entered-rows : (v : View) (o : Option TaskRef) (t : TaskRef) (h : History) → rows_of v.own (Printed (Mark.PreTaskHook t) ∷ leaves o h) ≡ rows_of v.own h
+entered-rows : (v : View) (o : Option TaskRef) (t : TaskRef) (h : History) → rows_of v.own (Printed (Mark.PreTaskHook t) ∷ does (leaves o) v h) ≡ rows_of v.own h
 entered-rows v None t h = refl
 entered-rows v (Some u) t h = refl
 
+-- The histories after a runner is entered, and after going to a job.
+abbrev entering : View → Runner → History → History
+entering v r h = does (enters (current_task h) r) v h
+
+abbrev gone_to : View → Option Job → History → History
+gone_to v o h = does (goes_to (state_of v h) o) v h
+
 -- The job of a task that is entered is the current one then, and stays the best one of a task.
 task-stays : (v : View) (h : History) (j : Job) (t : TaskRef) → best_task v h ≡ Some j → j.runner ≡ Runner.Task t → option_map_or (same_job j) (current_job h) false ≡ false
-    → (i : Job) → best_task v (enters (Runner.Task t) h) ≡ Some i → option_map_or (same_job i) (current_job (enters (Runner.Task t) h)) false ≡ true
+    → (i : Job) → best_task v (entering v (Runner.Task t) h) ≡ Some i → option_map_or (same_job i) (current_job (entering v (Runner.Task t) h)) false ≡ true
 task-stays v h j t best task apart i f = choose (same_job i j) refl
   where
     next : History
-    next = enters (Runner.Task t) h
+    next = entering v (Runner.Task t) h
 
     jobs : live_jobs next ≡ live_jobs h
-    jobs = entered-jobs (current_task h) h
+    jobs = entered-jobs v (current_task h) h
 
     again : first_greatest (current_priority v next) (able_jobs v h) ≡ Some i
     again = ap (first_greatest (current_priority v next)) (sym (entered-able v (current_task h) t h)) ∙ f
@@ -290,8 +289,8 @@ greatest-oldest p r (x ∷ js) j e is least = by (first_greatest p js) e (λ f. 
         choose false lt g = first g
 
 -- an ISR is entered
-isr-runs : (v : View) (h : History) (j : Job) (x : IsrRef) → first_greatest (level_by v.own) (isr_jobs h) ≡ Some j → j.runner ≡ Runner.Isr x → BestRuns v (enters (Runner.Isr x) h)
-isr-runs v h j x best own = best-is v (enters (Runner.Isr x) h) same
+isr-runs : (v : View) (h : History) (j : Job) (x : IsrRef) → first_greatest (level_by v.own) (isr_jobs h) ≡ Some j → j.runner ≡ Runner.Isr x → BestRuns v (entering v (Runner.Isr x) h)
+isr-runs v h j x best own = best-is v (entering v (Runner.Isr x) h) same
   where
     level : (i : Job) → i.runner ≡ Runner.Isr x → level_by v.own j ≤ level_by v.own i
     level i e = let alike : level_by v.own j ≡ level_by v.own i = ap (level_of v.own) (own ∙ sym e) in omega (arith, alike)
@@ -299,14 +298,14 @@ isr-runs v h j x best own = best-is v (enters (Runner.Isr x) h) same
     oldest-is : oldest (Runner.Isr x) (isr_jobs h) ≡ Some j
     oldest-is = greatest-oldest (level_by v.own) (Runner.Isr x) (isr_jobs h) j best own level
 
-    same : (i : Job) → option_or (first_greatest (level_by v.own) (isr_jobs h)) (best_task v (enters (Runner.Isr x) h)) ≡ Some i → option_map_or (same_job i) (running v (enters (Runner.Isr x) h)) false ≡ true
+    same : (i : Job) → option_or (first_greatest (level_by v.own) (isr_jobs h)) (best_task v (entering v (Runner.Isr x) h)) ≡ Some i → option_map_or (same_job i) (running v (entering v (Runner.Isr x) h)) false ≡ true
     same i e =
-        let is : j ≡ i = same_Some j i (sym (ap (λ (o : Option Job). option_or o (best_task v (enters (Runner.Isr x) h))) best) ∙ e) in
+        let is : j ≡ i = same_Some j i (sym (ap (λ (o : Option Job). option_or o (best_task v (entering v (Runner.Isr x) h))) best) ∙ e) in
         ap (λ (o : Option Job). option_map_or (same_job i) (option_or o (current_job h)) false) oldest-is ∙ subst (λ (k : Job). same_job i k ≡ true) (sym is) (same-self i)
 
-entered-interrupts : (o : Option TaskRef) (t : TaskRef) (h : History) → isr_jobs (Printed (Mark.PreTaskHook t) ∷ leaves o h) ≡ isr_jobs h
-entered-interrupts None t h = refl
-entered-interrupts (Some u) t h = refl
+entered-interrupts : (v : View) (o : Option TaskRef) (t : TaskRef) (h : History) → isr_jobs (Printed (Mark.PreTaskHook t) ∷ does (leaves o) v h) ≡ isr_jobs h
+entered-interrupts v None t h = refl
+entered-interrupts v (Some u) t h = refl
 
 -- If no job of an ISR is live, the current job runs.
 current-runs : (v : View) (h : History) → isr_jobs h ≡ [] → running v h ≡ current_job h
@@ -314,14 +313,14 @@ current-runs v h none =
     ap (λ (js : List Job). option_or (oldest_entered (entered_isrs h) js) (current_job h)) none ∙ ap (λ (o : Option Job). option_or o (current_job h)) (no-entered (entered_isrs h))
 
 -- a task is entered
-task-runs : (v : View) (h : History) (j : Job) (t : TaskRef) → isr_jobs h ≡ [] → best_task v h ≡ Some j → j.runner ≡ Runner.Task t → option_map_or (same_job j) (running v h) false ≡ false → BestRuns v (enters (Runner.Task t) h)
+task-runs : (v : View) (h : History) (j : Job) (t : TaskRef) → isr_jobs h ≡ [] → best_task v h ≡ Some j → j.runner ≡ Runner.Task t → option_map_or (same_job j) (running v h) false ≡ false → BestRuns v (entering v (Runner.Task t) h)
 task-runs v h j t none best task apart = best-is v next same
   where
     next : History
-    next = enters (Runner.Task t) h
+    next = entering v (Runner.Task t) h
 
     none_next : isr_jobs next ≡ []
-    none_next = entered-interrupts (current_task h) t h ∙ none
+    none_next = entered-interrupts v (current_task h) t h ∙ none
 
     apart_current : option_map_or (same_job j) (current_job h) false ≡ false
     apart_current = ap (λ (o : Option Job). option_map_or (same_job j) o false) (sym (current-runs v h none)) ∙ apart
@@ -331,58 +330,58 @@ task-runs v h j t none best task apart = best-is v next same
         ap (λ (o : Option Job). option_map_or (same_job i) o false) (current-runs v next none_next)
         ∙ task-stays v h j t best task apart_current i (sym (ap (λ (js : List Job). option_or (first_greatest (level_by v.own) js) (best_task v next)) none_next) ∙ e)
 
-idle-goes_to : (v : View) (h : History) → BestRuns v (goes_to v (best_job v h) h)
-idle-goes_to v h = by (best_job v h) refl
+idle-gone : (v : View) (h : History) → BestRuns v (gone_to v (best_job v h) h)
+idle-gone v h = by (best_job v h) refl
   where
-    by : (o : Option Job) → best_job v h ≡ o → BestRuns v (goes_to v o h)
+    by : (o : Option Job) → best_job v h ≡ o → BestRuns v (gone_to v o h)
     by None e = λ j f. absurd (none-some j (sym e ∙ f))
     by (Some j) e = choose (option_map_or (same_job j) (running v h) false) refl
       where
         -- the best job is not the running one, so that one has not suspended interrupts
-        entered : option_map_or (same_job j) (running v h) false ≡ false → BestRuns v (enters j.runner h)
+        entered : option_map_or (same_job j) (running v h) false ≡ false → BestRuns v (entering v j.runner h)
         entered apart = locked (is_locked_in (rows_of v.own h) (running v h)) e
           where
-            of_isr : (r : Runner) → j.runner ≡ r → first_greatest (level_by v.own) (isr_jobs h) ≡ Some j → BestRuns v (enters r h)
+            of_isr : (r : Runner) → j.runner ≡ r → first_greatest (level_by v.own) (isr_jobs h) ≡ Some j → BestRuns v (entering v r h)
             of_isr (Runner.Isr x) is best = isr-runs v h j x best is
             of_isr (Runner.Task t) is best = absurd (false≢true (sym (ap (λ (r : Runner). not (is_task_runner r)) is) ∙ among is_isr_job (level_by v.own) (isr_jobs h) j (all-isrs h) best))
 
-            of_task : (r : Runner) → j.runner ≡ r → isr_jobs h ≡ [] → best_task v h ≡ Some j → BestRuns v (enters r h)
+            of_task : (r : Runner) → j.runner ≡ r → isr_jobs h ≡ [] → best_task v h ≡ Some j → BestRuns v (entering v r h)
             of_task (Runner.Task t) is none best = task-runs v h j t none best is apart
             of_task (Runner.Isr x) is none best =
                 absurd (false≢true (sym (ap is_task_runner is) ∙ among is_task_job (current_priority v h) (able_jobs v h) j (all-filter is_task_job (is_able v h) (live_jobs h) (all-tasks h)) best))
 
-            either : (o : Option Job) → first_greatest (level_by v.own) (isr_jobs h) ≡ o → option_or o (best_task v h) ≡ Some j → BestRuns v (enters j.runner h)
+            either : (o : Option Job) → first_greatest (level_by v.own) (isr_jobs h) ≡ o → option_or o (best_task v h) ≡ Some j → BestRuns v (entering v j.runner h)
             either None f g = of_task j.runner refl (none-chosen (level_by v.own) (isr_jobs h) f) g
             either (Some k) f g = of_isr j.runner refl (f ∙ g)
 
-            locked : (b : Bool) → cond b (running v h) (option_or (first_greatest (level_by v.own) (isr_jobs h)) (best_task v h)) ≡ Some j → BestRuns v (enters j.runner h)
+            locked : (b : Bool) → cond b (running v h) (option_or (first_greatest (level_by v.own) (isr_jobs h)) (best_task v h)) ≡ Some j → BestRuns v (entering v j.runner h)
             locked true f = absurd (false≢true (sym apart ∙ ap (λ (o : Option Job). option_map_or (same_job j) o false) f ∙ same-self j))
             locked false f = either (first_greatest (level_by v.own) (isr_jobs h)) refl f
 
-        choose : (b : Bool) → option_map_or (same_job j) (running v h) false ≡ b → BestRuns v (cond b h (enters j.runner h))
+        choose : (b : Bool) → option_map_or (same_job j) (running v h) false ≡ b → BestRuns v (cond b h (entering v j.runner h))
         choose true runs = λ i f. subst (λ (x : Job). option_map_or (same_job x) (running v h) false ≡ true) (same_Some _ _ (sym e ∙ f)) runs
         choose false apart = entered apart
 
-entered-way : (o : Option TaskRef) (h : History) → giving_way (leaves o h) ≡ giving_way h
-entered-way None h = refl
-entered-way (Some t) h = refl
+entered-way : (v : View) (o : Option TaskRef) (h : History) → giving_way (does (leaves o) v h) ≡ giving_way h
+entered-way v None h = refl
+entered-way v (Some t) h = refl
 
-goes_to-way : (v : View) (o : Option Job) (h : History) → giving_way (goes_to v o h) ≡ giving_way h
-goes_to-way v None h = refl
-goes_to-way v (Some j) h = by (option_map_or (same_job j) (running v h) false)
+gone-way : (v : View) (o : Option Job) (h : History) → giving_way (gone_to v o h) ≡ giving_way h
+gone-way v None h = refl
+gone-way v (Some j) h = by (option_map_or (same_job j) (running v h) false)
   where
-    entered : (r : Runner) → giving_way (enters r h) ≡ giving_way h
-    entered (Runner.Task t) = entered-way (current_task h) h
+    entered : (r : Runner) → giving_way (entering v r h) ≡ giving_way h
+    entered (Runner.Task t) = entered-way v (current_task h) h
     entered (Runner.Isr i) = refl
 
-    by : (b : Bool) → giving_way (cond b h (enters j.runner h)) ≡ giving_way h
+    by : (b : Bool) → giving_way (cond b h (entering v j.runner h)) ≡ giving_way h
     by true = refl
     by false = entered j.runner
 
 -- a core drains, and goes to its best job unless it is down; the end of the pass changes nothing
 pub drained-idle : (v : View) (h : History) → open_call h ≡ None → is_owing (got_spinlocks h) ≡ false → Idle v (after v h Item.Drained)
 drained-idle v h none unowed =
-    subst (λ (free : Bool). Idle v (cond (free && is_going (course_of h)) (goes_to v (best_job v next) next) next)) (sym free) (by (is_going (course_of h)) refl)
+    subst (λ (free : Bool). Idle v (cond (free && is_going (course_of h)) (gone_to v (best_job v next) next) next)) (sym free) (by (is_going (course_of h)) refl)
   where
     next : History
     next = Took Item.Drained ∷ h
@@ -390,8 +389,8 @@ drained-idle v h none unowed =
     free : (is_none (open_call h) && not (is_owing (got_spinlocks h))) ≡ true
     free = λ i. is_none (none i) && not (unowed i)
 
-    by : (b : Bool) → is_going (course_of h) ≡ b → Idle v (cond b (goes_to v (best_job v next) next) next)
-    by true e = record { runs = λ going. idle-goes_to v next; stays = goes_to-way v (best_job v next) next }
+    by : (b : Bool) → is_going (course_of h) ≡ b → Idle v (cond b (gone_to v (best_job v next) next) next)
+    by true e = record { runs = λ going. idle-gone v next; stays = gone-way v (best_job v next) next }
     by false e = record { runs = λ going. absurd (false≢true (sym e ∙ going)); stays = refl }
 
 pub end-idle : (v : View) (h : History) → Idle v h → after v h Item.PassEnd ≡ Took Item.PassEnd ∷ h
@@ -416,12 +415,12 @@ end-idle v h idle = by (best_job v next) same
     down false x y = refl
 
     turn : (j : Job) → best_job v h ≡ Some j → (b : Bool) → is_going (course_of h) ≡ b
-        → cond (free && b) (cond (option_map_or (same_job j) (running v h) false) next (enters j.runner next)) next ≡ next
+        → cond (free && b) (cond (option_map_or (same_job j) (running v h) false) next (entering v j.runner next)) next ≡ next
     turn j e true going =
-        ap (λ (runs : Bool). cond (free && true) (cond runs next (enters j.runner next)) next) (idle.runs going j e)
+        ap (λ (runs : Bool). cond (free && true) (cond runs next (entering v j.runner next)) next) (idle.runs going j e)
         ∙ stays (free && true) next
     turn j e false going = down free _ next
 
-    by : (o : Option Job) → best_job v h ≡ o → cond (free && is_going (course_of h)) (goes_to v o next) next ≡ next
+    by : (o : Option Job) → best_job v h ≡ o → cond (free && is_going (course_of h)) (gone_to v o next) next ≡ next
     by None e = stays (free && is_going (course_of h)) next
     by (Some j) e = turn j e (is_going (course_of h)) refl

@@ -1,11 +1,9 @@
 -- What all jobs of a list pass, the oldest of a runner passes, and the greatest, and all where one ends or is stamped anew.
 use native.Mathlib.Omega.{arith}
 use Rattle.std.proofs.Common.{◌≡◌, ℕ, Bool, true, List, [], ◌∷◌, refl}
-use Rattle.std.specs.List.{list_all}
-use Rattle.std.specs.Option.{option_map_or}
+use Rattle.std.specs.{List.list_all, Option.option_map_or}
 use Rattle.std.proofs.lemmas.List.Folds.{list_all-append}
-use Rattle.osbase.specs.declared.references.Runner.{Runner}
-use Rattle.osbase.specs.declared.histories.Job.{Job}
+use Rattle.osbase.specs.{declared.references.Runner.Runner, declared.histories.Job.Job}
 use Rattle.osbase.specs.History.{first_greatest, oldest, stamped_anew, without_oldest}
 
 module _ (p : Job → Bool) where

@@ -1,35 +1,18 @@
 -- A core gets and gives back only spinlocks that it may ask for.
 use Rattle.std.proofs.Common.{◌≡◌, ℕ, Bool, true, false, cond, Option, Some, None, option_map, List, [], ◌∷◌, find, refl, subst}
-use Rattle.std.specs.List.{list_all}
-use Rattle.std.specs.Option.{option_map_or}
+use Rattle.std.specs.{List.list_all, Option.option_map_or}
 use Rattle.std.proofs.lemmas.Bool.{and_from, and_parts, eqb-true, false≢true}
-use Rattle.osbase.specs.declared.references.CoreId.{CoreId}
-use Rattle.osbase.specs.declared.references.Runner.{Runner}
-use Rattle.osbase.specs.declared.references.SpinlockId.{SpinlockId}
-use Rattle.osbase.specs.declared.items.Item.{Item}
-use Rattle.osbase.specs.declared.marks.Mark.{Mark}
-use Rattle.osbase.specs.declared.histories.Awaited.{Awaited}
-use Rattle.osbase.specs.declared.histories.Course.{Course}
-use Rattle.osbase.specs.declared.histories.GotSpinlock.{GotSpinlock}
-use Rattle.osbase.specs.declared.histories.OpenCall.{OpenCall}
-use Rattle.osbase.specs.declared.histories.Phase.{Phase}
-use Rattle.osbase.specs.declared.histories.Sent.{Sent}
+use Rattle.osbase.specs.{declared.references.CoreId.CoreId, declared.references.Runner.Runner, declared.references.SpinlockId.SpinlockId, declared.items.Item.Item, declared.marks.Mark.Mark, declared.histories.Awaited.Awaited, declared.histories.Course.Course, declared.histories.GotSpinlock.GotSpinlock, declared.histories.OpenCall.OpenCall, declared.histories.Phase.Phase, declared.histories.Sent.Sent}
 use Rattle.osbase.specs.History.{Entry, History, Took, Printed, Noted, WentDown, open_call, outbox}
 use Rattle.osbase.specs.Spins.{all_owed, got_spinlocks, has_spinlock, is_got_by, is_owed, owed, owed_by, same_spinlock, with_spinlock, without_spinlock}
 use Rattle.osplan.specs.View.{View}
 use Rattle.osplan.proofs.Tests.{find-passes}
-use Rattle.osstate.specs.Readings.{phase_at}
-use Rattle.osstate.specs.State.{state_of}
-use Rattle.osservice.proofs.Kept.{anybody, is_local, may_open}
-use Rattle.osservice.proofs.Partners.{Partner, partner_of}
+use Rattle.osstate.specs.{Readings.phase_at, State.state_of}
+use Rattle.osservice.proofs.{Kept.anybody, Kept.is_local, Kept.may_open, Partners.Partner, Partners.partner_of}
 use Rattle.osadmit.specs.Admission.{admits, awaits_get, awaits_try, is_get_of, is_try_of}
-use Rattle.oskernel.specs.declared.wants.SpinWish.{SpinWish}
-use Rattle.oskernel.specs.declared.wants.Want.{Want}
-use Rattle.oskernel.specs.Step.{after, outbox_size}
+use Rattle.oskernel.specs.{declared.wants.SpinWish.SpinWish, declared.wants.Want.Want, Step.after, Step.outbox_size}
 use Rattle.oskernel.specs.Wants.{go_on_by, lock_of, post_or, want_call, start_or_enter, want_for, want_from, want_of, want_owed}
-use Rattle.oskernel.proofs.Carried.{NamesAllow, passes, replied-anybody}
-use Rattle.oskernel.proofs.Holding.{Holds, holds-after}
-use Rattle.oskernel.proofs.Opened.{Asks}
+use Rattle.oskernel.proofs.{Carried.NamesAllow, Carried.passes, Carried.replied-anybody, Holding.Holds, Holding.holds-after, Opened.Asks}
 
 module _ (may : Partner → Bool) where
   abbrev may_get : GotSpinlock → Bool

@@ -2,21 +2,13 @@
 use native.Mathlib.Omega.{arith}
 use Rattle.std.proofs.Common.{◌≡◌, Bool, true, false, Option, List, [], ◌∷◌, refl}
 use Rattle.std.proofs.lemmas.Bool.{false≢true}
-use Rattle.osbase.specs.declared.references.CoreId.{CoreId}
-use Rattle.osbase.specs.declared.references.Runner.{Runner}
-use Rattle.osbase.specs.declared.histories.OpenCall.{OpenCall}
-use Rattle.osbase.specs.declared.items.Item.{Item}
-use Rattle.osbase.specs.declared.marks.Mark.{Mark}
+use Rattle.osbase.specs.{declared.references.CoreId.CoreId, declared.references.Runner.Runner, declared.histories.OpenCall.OpenCall, declared.items.Item.Item, declared.marks.Mark.Mark}
 use Rattle.osbase.specs.History.{Entry, History, Took, Printed, Noted, Opened, Queued, Done, closed_by, open_call}
-use Rattle.osplan.specs.declared.plans.Plan.{Plan}
+use Rattle.osplan.specs.{declared.plans.Plan.Plan, View.View, View.view_of}
 use Rattle.osseparate.specs.Separate.{halts_somewhere}
-use Rattle.osplan.specs.View.{View, view_of}
-use Rattle.osservice.proofs.Kept.{anybody, is_local, may_open}
-use Rattle.osservice.proofs.Partners.{Partner}
+use Rattle.osservice.proofs.{Kept.anybody, Kept.is_local, Kept.may_open, Partners.Partner}
 use Rattle.oskernel.specs.Step.{after, history_from}
-use Rattle.oskernel.proofs.Carried.{NamesAllow, passes, replied-anybody}
-use Rattle.oskernel.proofs.Holding.{Holds, holds-after}
-use Rattle.oskernel.proofs.Scripts.{but_halt, halt-allow}
+use Rattle.oskernel.proofs.{Carried.NamesAllow, Carried.passes, Carried.replied-anybody, Holding.Holds, Holding.holds-after, Scripts.but_halt, Scripts.halt-allow}
 
 -- An open call that passes a test stays so: it is not changed, but closed.
 module _ (test : OpenCall → Bool) where

@@ -1,11 +1,7 @@
 -- Which acts an operation does: they are allowed where what it names is.
 use Rattle.std.proofs.Common.{◌≡◌, Option, Some, None, refl}
-use Rattle.osbase.specs.declared.references.Runner.{Runner}
-use Rattle.osbase.specs.declared.messages.RemoteCall.{RemoteCall}
-use Rattle.osbase.specs.declared.statuses.ServiceId.{ServiceId}
-use Rattle.osbase.specs.declared.statuses.Status.TheVariants.{EOsDisabledint}
-use Rattle.oscript.specs.declared.Op.{Op}
-use Rattle.oscript.specs.Calls.{call_of_op}
+use Rattle.osbase.specs.{declared.references.Runner.Runner, declared.messages.RemoteCall.RemoteCall, declared.statuses.ServiceId.ServiceId, declared.statuses.Status.TheVariants.EOsDisabledint}
+use Rattle.oscript.specs.{declared.Op.Op, Calls.call_of_op}
 pub use Rattle.osservice.proofs.Called.{IsAllowed}
 use Rattle.osservice.proofs.Kept.{AreAllowed, IsNamed, Leave, first-ok, returns-ok}
 use Rattle.osservice_tasks.proofs.Allowed.{task_acts-ok}

@@ -2,43 +2,22 @@
 use native.Mathlib.Omega.{arith}
 use Rattle.std.proofs.Common.{◌≡◌, Bool, true, false, cond, Some, None, is_some, List, [], ◌∷◌, refl, ap, ◌∙◌}
 use Rattle.std.specs.List.{list_all, slice_get}
-use Rattle.std.proofs.lemmas.Bool.{and_parts, false≢true}
-use Rattle.std.proofs.lemmas.List.Folds.{list_all-append}
-use Rattle.osbase.specs.declared.references.CoreId.{CoreId}
-use Rattle.osbase.specs.declared.references.IsrRef.{IsrRef}
-use Rattle.osbase.specs.declared.references.Runner.{Runner}
-use Rattle.osbase.specs.declared.items.Item.{Item}
-use Rattle.osbase.specs.declared.items.Stimulus.{Stimulus}
-use Rattle.osbase.specs.declared.histories.Job.{Job}
-use Rattle.osbase.specs.declared.histories.OpenCall.{OpenCall}
-use Rattle.osbase.specs.declared.messages.Message.{Message}
-use Rattle.osbase.specs.declared.messages.RemoteCall.{RemoteCall}
+use Rattle.std.proofs.{lemmas.Bool.and_parts, lemmas.Bool.false≢true, lemmas.List.Folds.list_all-append}
+use Rattle.osbase.specs.{declared.references.CoreId.CoreId, declared.references.IsrRef.IsrRef, declared.references.Runner.Runner, declared.items.Item.Item, declared.items.Stimulus.Stimulus, declared.histories.Job.Job, declared.histories.OpenCall.OpenCall, declared.messages.Message.Message, declared.messages.RemoteCall.RemoteCall, Interrupts.isr_jobs, Marks.core_of_runner, Marks.names_only, Objects.object_of_call, Phases.is_scheduling}
 use Rattle.osbase.specs.History.{Entry, History, current_task, live_jobs, marks_of, same_core}
-use Rattle.osbase.specs.Interrupts.{isr_jobs}
-use Rattle.osbase.specs.Marks.{core_of_runner, names_only}
-use Rattle.osbase.specs.Objects.{object_of_call}
-use Rattle.osbase.specs.Phases.{is_scheduling}
 use Rattle.osbase.proofs.Same.{same_core-true}
 use Rattle.oscript.specs.Calls.{is_action}
 use Rattle.oscall.specs.Border.{core_of_call}
-use Rattle.osplan.specs.Objects.{has_index}
-use Rattle.osplan.specs.Stimuli.{knows_stimulus}
-use Rattle.osplan.specs.View.{View}
-use Rattle.osstate.specs.Readings.{is_served, running}
-use Rattle.osstate.specs.State.{state_of}
+use Rattle.osplan.specs.{Objects.has_index, Stimuli.knows_stimulus, View.View}
+use Rattle.osstate.specs.{Readings.is_served, Readings.running, State.state_of}
 use Rattle.ostable.proofs.Asked.{dues-own}
 use Rattle.osservice.proofs.Kept.{Leave, anybody, is_within, turns-shown}
 use Rattle.osservice.proofs.Partners.{Partner}
 use Rattle.osadmit.specs.Admission.{admits}
-use Rattle.osawait.specs.Free.{may_go_on}
-use Rattle.osawait.specs.Messages.{is_awaited}
+use Rattle.osawait.specs.{Free.may_go_on, Messages.is_awaited}
 use Rattle.oskernel.specs.Step.{after, history_from, outbox_size, solo_from}
 use Rattle.oskernel.proofs.Carried.{NamesActing, NamesAllow, is_replied, passes}
-use Rattle.oskernel.proofs.Idling.{best-passes, running-passes}
-use Rattle.oskernel.proofs.JobLists.{anew-all, without-all}
-use Rattle.oskernel.proofs.Holding.{Holds, holds-named}
-use Rattle.oskernel.proofs.Opened.{Opens, opens-local, opens-took}
-use Rattle.oskernel.proofs.Stages.{solo-parts}
+use Rattle.oskernel.proofs.{Idling.best-passes, Idling.running-passes, JobLists.anew-all, JobLists.without-all, Holding.Holds, Holding.holds-named, Opened.Opens, Opened.opens-local, Opened.opens-took, Stages.solo-parts}
 
 -- ---- who acts: jobs begin by marks, and tasks run by them
 

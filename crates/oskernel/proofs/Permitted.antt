@@ -1,18 +1,12 @@
 -- What follows from an item is permitted.
 use Rattle.std.proofs.Common.{◌≡◌, nat_lt, Bool, true, refl, sym, subst, arith}
 use Rattle.std.proofs.lemmas.Bool.{and_from}
-use Rattle.osbase.specs.declared.references.CoreId.{CoreId}
-use Rattle.osbase.specs.declared.messages.Message.{Message}
-use Rattle.osbase.specs.declared.items.Item.{Item}
-use Rattle.osbase.specs.declared.limits.TheConstants.{CORES}
-use Rattle.osbase.specs.History.{History}
-use Rattle.osplan.specs.Clocked.{are_clocks_within}
-use Rattle.osplan.specs.View.{View}
-use Rattle.osstate.specs.Sound.{is_sender_known}
+use Rattle.osbase.specs.{declared.references.CoreId.CoreId, declared.messages.Message.Message, declared.items.Item.Item, declared.limits.TheConstants.CORES, History.History}
+use Rattle.osplan.specs.{Clocked.are_clocks_within, View.View}
+use Rattle.osprogress.specs.Border.{is_sender_known}
 use Rattle.osstate.specs.State.{KernelState, Stands}
 use Rattle.osacts.specs.Laws.{are_permitted}
-use Rattle.osservice.proofs.Kept.{Leave, anybody}
-use Rattle.osservice.proofs.Permitted.{permitted}
+use Rattle.osservice.proofs.{Kept.Leave, Kept.anybody, Permitted.permitted}
 use Rattle.oskernel.specs.Step.{effect}
 use Rattle.oskernel.proofs.Carried.{acting-anybody, allow-anybody, effect-ok, is_replied, leave_all}
 

@@ -1,13 +1,10 @@
 -- Which phases an item may lead on from.
 use Rattle.std.proofs.Common.{◌≡◌, ◌||◌, ℕ, true, false, refl}
 use Rattle.std.proofs.lemmas.Bool.{false≢true, and_parts}
-use Rattle.osbase.specs.declared.histories.Phase.{Phase}
-use Rattle.osbase.specs.declared.items.Item.{Item}
-use Rattle.osbase.specs.History.{Took, phase_after}
+use Rattle.osbase.specs.{declared.histories.Phase.Phase, declared.items.Item.Item, History.Took, History.phase_after}
 use Rattle.osbase.specs.Phases.{is_before_live, is_past_first_gate, is_scheduling, stands_in}
 use Rattle.osbase.proofs.Phasing.{in_phase}
-use Rattle.osstate.specs.State.{KernelState}
-use Rattle.osstate.specs.Sound.{is_first_gate}
+use Rattle.osstate.specs.{State.KernelState, Sound.is_first_gate}
 use Rattle.osadmit.specs.Admission.{admits}
 
 -- a core that schedules is past the second gate

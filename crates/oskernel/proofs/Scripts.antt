@@ -1,22 +1,11 @@
 -- What the scripts, alarms and schedule tables of a separate core name, and those of the others.
 use Rattle.std.proofs.Common.{List, ◌≡◌, ℕ, Bool, true, false, not, ◌&&◌, cond, Option, Some, None, [], refl, ap, subst, sym, ◌∙◌, unwrap_or}
-use Rattle.std.specs.List.{list_all, list_any, slice_get}
-use Rattle.std.specs.Option.{option_map_or}
+use Rattle.std.specs.{List.list_all, List.list_any, List.slice_get, Option.option_map_or}
 use Rattle.std.proofs.lemmas.Bool.{not-false, not-true, not_from_false, or_from, or_left, or_parts, or_right, true≢false}
-use Rattle.osbase.specs.declared.messages.RemoteCall.{RemoteCall}
-use Rattle.osbase.specs.declared.references.CoreId.{CoreId}
-use Rattle.osbase.specs.declared.references.Runner.{Runner}
-use Rattle.osbase.specs.History.{same_core}
-use Rattle.osbase.specs.Objects.{object_of_call}
+use Rattle.osbase.specs.{declared.messages.RemoteCall.RemoteCall, declared.references.CoreId.CoreId, declared.references.Runner.Runner, History.same_core, Objects.object_of_call, declared.objects.Object.Object}
 use Rattle.osbase.proofs.Same.{same_core-true}
-use Rattle.osbase.specs.declared.objects.Object.{Object}
-use Rattle.oscript.specs.declared.Op.{Op}
-use Rattle.oscript.specs.Rows.{asks_shared, halts_all, objects_of}
-use Rattle.osplan.specs.declared.plans.Plan.{Plan}
-use Rattle.osplan.specs.declared.plans.Core.{Core}
-use Rattle.osplan.specs.declared.plans.Isr.{Isr}
-use Rattle.osplan.specs.declared.plans.Task.{Task}
-use Rattle.osplan.specs.Objects.{core_actions}
+use Rattle.oscript.specs.{declared.Op.Op, Rows.asks_shared, Rows.halts_all, Rows.objects_of}
+use Rattle.osplan.specs.{declared.plans.Plan.Plan, declared.plans.Core.Core, declared.plans.Isr.Isr, declared.plans.Task.Task, Objects.core_actions}
 use Rattle.osplan.specs.Naming.{acts_on, has_operation, is_off, is_on, names_object, op_names}
 use Rattle.osseparate.specs.Separate.{halts_somewhere, is_named_elsewhere}
 use Rattle.osplan.specs.View.{View, core_of, no_core, view_of}
@@ -24,9 +13,7 @@ use Rattle.osplan.proofs.Scripts.{no-operation}
 use Rattle.osseparate.proofs.Separating.{SeparateParts}
 use Rattle.osplan.proofs.Tests.{all-not, all-weaker, fails-at, find-fails, find-holds}
 use Rattle.osstate.specs.Readings.{script_of}
-use Rattle.osservice.proofs.Called.{locks-any, locks-none, may_lock}
-use Rattle.osservice.proofs.Kept.{is_within, nobody}
-use Rattle.osservice.proofs.Partners.{Partner}
+use Rattle.osservice.proofs.{Called.locks-any, Called.locks-none, Called.may_lock, Kept.is_within, Kept.nobody, Partners.Partner}
 use Rattle.oskernel.proofs.Carried.{NamesAllow, allow-cores}
 
 -- Every core but this one, every spinlock, and what all cores share; but not that all shut down.

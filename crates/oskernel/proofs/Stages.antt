@@ -1,15 +1,10 @@
 -- The phase in which an item is taken, and the first of a core's items.
 use Rattle.std.proofs.Common.{◌≡◌, ◌^◌, Bool, true, false, nat_lt, cond, Option, Some, None, is_none, List, ◌∷◌, refl, sym, ap, ◌∙◌}
 use Rattle.std.proofs.lemmas.Bool.{and_parts, false≢true, true≢false}
-use Rattle.osbase.specs.declared.items.Item.{Item}
-use Rattle.osbase.specs.declared.histories.Phase.{Phase}
-use Rattle.osbase.specs.History.{History, began_count, item_count}
-use Rattle.osbase.specs.Phases.{is_scheduling}
-use Rattle.osplan.specs.Stimuli.{knows_stimulus}
+use Rattle.osbase.specs.{declared.items.Item.Item, declared.histories.Phase.Phase, History.History, History.began_count, History.item_count, Phases.is_scheduling}
+use Rattle.osplan.specs.{Stimuli.knows_stimulus, View.View}
 use Rattle.osbase.proofs.Phasing.{stands_in-is}
-use Rattle.osplan.specs.View.{View}
-use Rattle.osstate.specs.Readings.{next_start, phase_at}
-use Rattle.osstate.specs.State.{state_of}
+use Rattle.osstate.specs.{Readings.next_start, Readings.phase_at, State.state_of}
 use Rattle.osadmit.specs.Admission.{admits, are_started_cores, awaits_get, awaits_try, is_agreement, is_next_release, is_start_answer, may_halt}
 use Rattle.osawait.specs.Free.{is_settled, may_go_on}
 use Rattle.oskernel.specs.Step.{after, history_from, outbox_size, solo_from, takes}

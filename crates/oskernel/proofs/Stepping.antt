@@ -2,14 +2,7 @@
 use native.Mathlib.Omega.{arith}
 use Rattle.std.proofs.Common.{◌≡◌, ◌&&◌, ◌||◌, ℕ, Bool, true, false, cond, not, Option, None, is_none, option_map, List, [], ◌∷◌, refl, sym, ap, ◌∙◌}
 use Rattle.std.proofs.lemmas.Bool.{false≢true}
-use Rattle.osbase.specs.declared.references.CoreId.{CoreId}
-use Rattle.osbase.specs.declared.items.CoreSet.{CoreSet}
-use Rattle.osbase.specs.declared.items.Item.{Item}
-use Rattle.osbase.specs.declared.items.Stimulus.{Stimulus}
-use Rattle.osbase.specs.declared.histories.Job.{Job}
-use Rattle.osbase.specs.Phases.{is_going, is_scheduling}
-use Rattle.osbase.specs.Spins.{is_owing}
-use Rattle.osbase.specs.Sets.{has_core}
+use Rattle.osbase.specs.{declared.references.CoreId.CoreId, declared.items.CoreSet.CoreSet, declared.items.Item.Item, declared.items.Stimulus.Stimulus, declared.histories.Job.Job, Phases.is_going, Phases.is_scheduling, Spins.is_owing, Sets.has_core}
 use Rattle.osbase.specs.History.{Entry, History, Took, Printed, Noted, current_task, same_core}
 use Rattle.osbase.proofs.Same.{same_core-true}
 use Rattle.osplan.specs.View.{Around, View}

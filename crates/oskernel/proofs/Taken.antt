@@ -2,28 +2,15 @@
 use Rattle.std.proofs.Common.{◌≡◌, ℕ, ◌≤◌, ◌<◌, Bool, true, false, Option, Some, None, IfSome, List, [], ◌∷◌, length, nat_lt, refl, ap, sym, ◌∙◌, arith}
 use Rattle.std.specs.Option.{option_map_or}
 use Rattle.std.proofs.lemmas.Bool.{false≢true, and_parts, eqb-true, ltb-true}
-use Rattle.osbase.specs.declared.references.CoreId.{CoreId}
-use Rattle.osbase.specs.declared.references.SpinlockId.{SpinlockId}
-use Rattle.osbase.specs.declared.messages.Message.{Message}
-use Rattle.osbase.specs.declared.histories.Awaited.{Awaited}
-use Rattle.osbase.specs.declared.histories.OpenCall.{OpenCall}
-use Rattle.osbase.specs.declared.histories.Phase.{Phase}
-use Rattle.osbase.specs.declared.histories.Sent.{Sent}
-use Rattle.osbase.specs.declared.items.Item.{Item}
-use Rattle.osbase.specs.declared.limits.TheConstants.{CORES, SPINLOCKS}
-use Rattle.osbase.specs.History.{Took, phase_after, outbox_after}
+use Rattle.osbase.specs.{declared.references.CoreId.CoreId, declared.references.SpinlockId.SpinlockId, declared.messages.Message.Message, declared.histories.Awaited.Awaited, declared.histories.OpenCall.OpenCall, declared.histories.Phase.Phase, declared.histories.Sent.Sent, declared.items.Item.Item, declared.limits.TheConstants.CORES, declared.limits.TheConstants.SPINLOCKS, History.Took, History.phase_after, History.outbox_after, Sets.has_core, Spins.same_spinlock}
 use Rattle.osbase.specs.Phases.{is_before_live, is_past_first_gate, is_scheduling, stands_in}
 use Rattle.osplan.specs.Stimuli.{knows_stimulus}
-use Rattle.osbase.specs.Sets.{has_core}
-use Rattle.osbase.specs.Spins.{same_spinlock}
 use Rattle.osbase.proofs.Phasing.{in_phase}
-use Rattle.osstate.specs.State.{KernelState}
-use Rattle.osstate.specs.Sound.{is_awaited_known, is_grant_known, is_lock_known, is_posted, is_sender_known}
+use Rattle.osprogress.specs.Border.{is_grant_known, is_lock_known, is_posted, is_sender_known}
+use Rattle.osstate.specs.{State.KernelState, Sound.is_awaited_known, Readings.is_served}
 use Rattle.oscript.specs.Calls.{is_action}
-use Rattle.osstate.specs.Readings.{is_served}
 use Rattle.osadmit.specs.Admission.{admits, awaits_get, awaits_try, is_front_for, is_get_of, is_try_of}
-use Rattle.osawait.specs.Messages.{is_awaited}
-use Rattle.osawait.specs.Free.{is_empty, may_go_on}
+use Rattle.osawait.specs.{Messages.is_awaited, Free.is_empty, Free.may_go_on}
 use Rattle.oskernel.specs.Taking.{is_acting, is_filling, is_for_core, is_going_on, is_known, is_second_gate}
 use Rattle.oskernel.proofs.Phases.{scheduling_past}
 

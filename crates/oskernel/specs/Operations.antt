@@ -1,26 +1,18 @@
 -- What an operation of a job does: the call that it is, or what the table says that has a row for it; but while the job has suspended
 -- interrupts, nearly all services are refused or ignored.
 use Rattle.std.specs.Prelude.{◌&&◌, Bool, true, false, if◌then◌else◌, Option, Some, None, unwrap_or}
-use Rattle.osbase.specs.declared.statuses.Status.TheVariants.{EOsDisabledint}
-use Rattle.osbase.specs.declared.statuses.ServiceId.{ServiceId}
+use Rattle.osbase.specs.{declared.statuses.Status.TheVariants.EOsDisabledint, declared.statuses.ServiceId.ServiceId, declared.messages.RemoteCall.RemoteCall, declared.references.Runner.Runner}
 use Rattle.osbase.specs.declared.statuses.ServiceId.TheVariants as Service
-use Rattle.osbase.specs.declared.messages.RemoteCall.{RemoteCall}
-use Rattle.osbase.specs.declared.references.Runner.{Runner}
-use Rattle.oscript.specs.declared.Op.{Op}
-use Rattle.oscript.specs.Calls.{call_of_op}
-use Rattle.oscript.specs.Frames.{service_of_op}
+use Rattle.oscript.specs.{declared.Op.Op, Calls.call_of_op, Frames.service_of_op}
 use Rattle.osacts.specs.Acts.{Acts, look, nothing, when}
-use Rattle.osservice.specs.Callers.{has_suspended}
-use Rattle.osservice.specs.Returning.{returns}
+use Rattle.osservice.specs.{Callers.has_suspended, Returning.returns}
 use Rattle.osacts.specs.Seen.{Seen}
 use Rattle.osservice_tasks.specs.Tasks.{task_acts}
 use Rattle.osservice_alarms.specs.Counters.{counter_acts}
 use Rattle.osservice_tables.specs.Tables.{table_acts}
 use Rattle.osservice_spins.specs.Spinlocks.{spin_acts}
-use Rattle.oscall.specs.Border.{calls}
+use Rattle.oscall.specs.{Border.calls, Shutdown.core_acts, Shutdown.is_ignored, Variables.is_done, Variables.script_acts}
 use Rattle.oschain.specs.Chaining.{chain_acts}
-use Rattle.oscall.specs.Shutdown.{core_acts, is_ignored}
-use Rattle.oscall.specs.Variables.{is_done, script_acts}
 use Rattle.osexpiry.specs.Incrementing.{increment_acts}
 
 -- An operation on what all cores share, the spinlocks, or on the cores themselves, by the table of its family.

@@ -1,42 +1,14 @@
 -- A core's step: which item may be taken, what follows from it, and a core alone.
 use Rattle.std.specs.Prelude.{ℕ, ℤ, pos, ◌==◌, Bool, true, false, if◌then◌else◌, Option, Some, None, List, [], ◌∷◌}
-use Rattle.std.specs.List.{list_any}
-use Rattle.std.specs.Option.{option_map_or}
-use Rattle.osbase.specs.declared.limits.TheConstants.{OUTBOX}
-use Rattle.osbase.specs.declared.statuses.Status.{Status}
-use Rattle.osbase.specs.declared.statuses.Status.TheVariants.{EOk, EOsCore}
-use Rattle.osbase.specs.declared.statuses.ServiceId.{ServiceId}
+use Rattle.std.specs.{List.list_any, Option.option_map_or}
+use Rattle.osbase.specs.{declared.limits.TheConstants.OUTBOX, declared.statuses.Status.Status, declared.statuses.Status.TheVariants.EOk, declared.statuses.Status.TheVariants.EOsCore, declared.statuses.ServiceId.ServiceId, declared.references.CoreId.CoreId, declared.references.ModeId.ModeId, declared.references.IsrRef.IsrRef, declared.references.TaskRef.TaskRef, declared.references.Runner.Runner, declared.messages.Message.Message, declared.items.Agreement.Agreement, declared.items.Stimulus.Stimulus, declared.items.Item.Item, declared.marks.Mark.Mark, declared.histories.Job.Job, declared.histories.OpenCall.OpenCall, declared.histories.Awaited.Awaited, Phases.is_down, Phases.is_going}
 use Rattle.osbase.specs.declared.statuses.ServiceId.TheVariants as Service
-use Rattle.osbase.specs.declared.references.CoreId.{CoreId}
-use Rattle.osbase.specs.declared.references.ModeId.{ModeId}
-use Rattle.osbase.specs.declared.references.IsrRef.{IsrRef}
-use Rattle.osbase.specs.declared.references.TaskRef.{TaskRef}
-use Rattle.osbase.specs.declared.references.Runner.{Runner}
-use Rattle.osbase.specs.declared.messages.Message.{Message}
-use Rattle.osbase.specs.declared.items.Agreement.{Agreement}
-use Rattle.osbase.specs.declared.items.Stimulus.{Stimulus}
-use Rattle.osbase.specs.declared.items.Item.{Item}
-use Rattle.osbase.specs.declared.marks.Mark.{Mark}
-use Rattle.osbase.specs.declared.histories.Job.{Job}
-use Rattle.osbase.specs.declared.histories.OpenCall.{OpenCall}
-use Rattle.osbase.specs.declared.histories.Awaited.{Awaited}
-use Rattle.osbase.specs.History.{History, Printed, TableStarted, Took, same_job, current_task}
-use Rattle.osbase.specs.Phases.{is_down, is_going}
-use Rattle.oscript.specs.declared.Action.{Action}
-use Rattle.oscript.specs.declared.Action.TheVariants.{Perform, End}
-use Rattle.oscript.specs.Frames.{action_at}
-use Rattle.osplan.specs.declared.plans.Alarm.{Alarm}
-use Rattle.osplan.specs.declared.plans.AlarmStart.{AlarmStart}
-use Rattle.osplan.specs.declared.plans.Table.{Table}
-use Rattle.osplan.specs.declared.plans.TableStart.{TableStart}
-use Rattle.osplan.specs.declared.plans.Task.{Task}
-use Rattle.osplan.specs.declared.plans.Core.{Core}
-use Rattle.osplan.specs.View.{View}
+use Rattle.osbase.specs.History.{History, TableStarted, Took, same_job}
+use Rattle.oscript.specs.{declared.Action.Action, declared.Action.TheVariants.Perform, declared.Action.TheVariants.End, Frames.action_at}
+use Rattle.osplan.specs.{declared.plans.Alarm.Alarm, declared.plans.AlarmStart.AlarmStart, declared.plans.Table.Table, declared.plans.TableStart.TableStart, declared.plans.Task.Task, declared.plans.Core.Core, View.View}
 use Rattle.osclock.specs.Clocks.{alarm_ref}
 use Rattle.ostable.specs.Tables.{table_ref}
-use Rattle.osstate.specs.Readings.{script_of, best_job, running, task_ref}
-use Rattle.osstate.specs.Queries.{best_in, running_in}
-use Rattle.osstate.specs.State.{KernelState, state_of}
+use Rattle.osstate.specs.{Readings.script_of, Readings.task_ref, Queries.best_in, Queries.running_in, State.KernelState, State.state_of}
 use Rattle.osacts.specs.Acts.{Acts, Sends, both, does, in_turn, look, notes, nothing, one_then, prints, when}
 use Rattle.osservice_alarms.specs.Alarms.{sets_alarm}
 use Rattle.osservice_tasks.specs.Tasks.{activates, ends_without_terminate}
@@ -166,45 +138,29 @@ effect item = nothing
 
 -- PostTaskHook of the current task, if there is one, and PreTaskHook of the runner's.
 -- [OSEK/VDX OS 2.2.3, section 11.5]
-abbrev pub leaves : Option TaskRef → History → History
-leaves None h = h
-leaves (Some t) h = Printed (Mark.PostTaskHook t) ∷ h
+abbrev pub leaves : Option TaskRef → Acts
+leaves None = nothing
+leaves (Some t) = prints (Mark.PostTaskHook t)
 
-abbrev pub enters_from : Option TaskRef → Runner → History → History
-enters_from current (Runner.Task t) h = Printed (Mark.PreTaskHook t) ∷ leaves current h
-enters_from current (Runner.Isr i) h = Printed (Mark.IsrEntered i) ∷ h
-
-abbrev pub enters : Runner → History → History
-enters r h = enters_from (current_task h) r h
+abbrev pub enters : Option TaskRef → Runner → Acts
+enters current (Runner.Task t) = both (leaves current) (prints (Mark.PreTaskHook t))
+enters current (Runner.Isr i) = prints (Mark.IsrEntered i)
 
 -- Going to the best job: nothing if it is the running one. [OSEK/VDX OS 2.2.3, section 4.4 and 4.6]
-abbrev pub goes_to : View → Option Job → History → History
-goes_to v None h = h
-goes_to v (Some j) h = if option_map_or (same_job j) (running v h) false then h else enters j.runner h
+abbrev pub goes_to : KernelState → Option Job → Acts
+goes_to s None = nothing
+goes_to s (Some j) = when (option_map_or (same_job j) (running_in s) false) nothing (enters s.tasks.current j.runner)
 
 -- Dispatch comes at the end of an item where the core may dispatch. [OSEK/VDX OS 2.2.3, section 4.6]
-abbrev pub dispatches : View → History → History
-dispatches v h = if may_dispatch (state_of v h) then goes_to v (best_job v h) h else h
+abbrev pub dispatches : KernelState → Acts
+dispatches s = when (may_dispatch s) (goes_to s (best_in s)) nothing
 
--- The same as acts, by what the core's state says.
-abbrev pub leaves_by : Option TaskRef → Acts
-leaves_by None = nothing
-leaves_by (Some t) = prints (Mark.PostTaskHook t)
-
-abbrev pub enters_by : Option TaskRef → Runner → Acts
-enters_by current (Runner.Task t) = both (leaves_by current) (prints (Mark.PreTaskHook t))
-enters_by current (Runner.Isr i) = prints (Mark.IsrEntered i)
-
-abbrev pub goes_in : KernelState → Option Job → Acts
-goes_in s None = nothing
-goes_in s (Some j) = when (option_map_or (same_job j) (running_in s) false) nothing (enters_by s.tasks.current j.runner)
-
-abbrev pub dispatches_in : KernelState → Acts
-dispatches_in s = when (may_dispatch s) (goes_in s (best_in s)) nothing
+abbrev pub dispatched : View → History → History
+dispatched v h = does (dispatches (state_of v h)) v h
 
 -- The history after an item: the item, what follows from it, and dispatch. [own]
 abbrev pub after : View → History → Item → History
-after v h item = dispatches v (does (effect item) v (Took item ∷ h))
+after v h item = dispatched v (does (effect item) v (Took item ∷ h))
 
 -- How many letters a core's outbox may hold. [own]
 abbrev pub outbox_size : ℕ

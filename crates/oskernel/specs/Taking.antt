@@ -1,15 +1,9 @@
 -- What an admitted item says of the state before it is taken.
 use Rattle.std.specs.Prelude.{ℕ, ◌<◌, ◌≤◌, length, Bool, true, false, Option, Some, None}
-use Rattle.osbase.specs.declared.items.Agreement.{Agreement}
-use Rattle.osbase.specs.declared.items.Item.{Item}
-use Rattle.osbase.specs.declared.references.ModeId.{ModeId}
-use Rattle.osbase.specs.declared.messages.Message.{Message}
+use Rattle.osbase.specs.{declared.items.Agreement.Agreement, declared.items.Item.Item, declared.references.ModeId.ModeId, declared.messages.Message.Message, History.job_count}
 use Rattle.osbase.specs.declared.references.Runner.TheVariants as Runner
-use Rattle.osbase.specs.History.{job_count}
 use Rattle.osplan.specs.Stimuli.{knows_stimulus}
-use Rattle.osstate.specs.Readings.{is_served, task_ref}
-use Rattle.osstate.specs.Sound.{activation_limit}
-use Rattle.osstate.specs.State.{KernelState}
+use Rattle.osstate.specs.{Readings.is_served, Readings.task_ref, Sound.activation_limit, State.KernelState}
 
 -- The second gate's item.
 abbrev pub is_second_gate : Item → Bool

@@ -1,28 +1,14 @@
 -- What a core's own turn would do: the first rule that applies; and what its look at the board waits for. [own]
 use Rattle.std.specs.Prelude.{if◌then◌else◌, Bool, true, Option, Some, None, List, [], ◌∷◌}
 use Rattle.std.specs.Option.{option_map_or}
-use Rattle.osbase.specs.declared.references.CoreId.{CoreId}
-use Rattle.osbase.specs.declared.references.SpinlockId.{SpinlockId}
-use Rattle.osbase.specs.declared.messages.Envelope.{Envelope}
-use Rattle.osbase.specs.declared.messages.Letter.{Letter}
-use Rattle.osbase.specs.declared.histories.Awaited.{Awaited}
-use Rattle.osbase.specs.declared.histories.GotSpinlock.{GotSpinlock}
-use Rattle.osbase.specs.declared.histories.OpenCall.{OpenCall}
-use Rattle.osbase.specs.declared.histories.Sent.{Sent}
-use Rattle.osbase.specs.declared.histories.Course.{Course}
-use Rattle.osbase.specs.declared.histories.Phase.{Phase}
-use Rattle.osbase.specs.History.{History}
-use Rattle.osbase.specs.Spins.{newest_owed}
+use Rattle.osbase.specs.{declared.references.CoreId.CoreId, declared.references.SpinlockId.SpinlockId, declared.messages.Envelope.Envelope, declared.messages.Letter.Letter, declared.histories.Awaited.Awaited, declared.histories.GotSpinlock.GotSpinlock, declared.histories.OpenCall.OpenCall, declared.histories.Sent.Sent, declared.histories.Course.Course, declared.histories.Phase.Phase, History.History, Spins.newest_owed}
 use Rattle.osplan.specs.View.{View}
-use Rattle.osstate.specs.Readings.{next_start}
-use Rattle.osstate.specs.Sound.{is_lock_known}
-use Rattle.osstate.specs.State.{KernelState, state_of}
+use Rattle.osprogress.specs.Border.{is_lock_known}
+use Rattle.osstate.specs.{Readings.next_start, State.KernelState, State.state_of}
 use Rattle.osawait.specs.Free.{may_look_halt}
-use Rattle.oskernel.specs.declared.wants.SpinWish.{SpinWish}
+use Rattle.oskernel.specs.{declared.wants.SpinWish.SpinWish, declared.wants.Want.Want, declared.wants.Watch.Watch}
 use Rattle.oskernel.specs.declared.wants.SpinWish.TheVariants as Wish
-use Rattle.oskernel.specs.declared.wants.Want.{Want}
 use Rattle.oskernel.specs.declared.wants.Want.TheVariants.{Start, Enter, Ready, Post, Spin, AskHalt, GoOn, Drain, Nothing}
-use Rattle.oskernel.specs.declared.wants.Watch.{Watch}
 
 abbrev pub start_or_enter : Option CoreId → Want
 start_or_enter (Some core) = Start core

@@ -4,11 +4,10 @@ ghost use Rattle.std.specs.Prelude.{◌≡◌, IfSome, IsTrue, false};
 ghost use Rattle.std.specs.Option.{option_map_or};
 ghost use Rattle.osbase.specs.History.{same_job};
 ghost use Rattle.osjobs.specs.Priorities.{is_own_runner};
-ghost use Rattle.osstate.specs.Does.{HasRoom};
-ghost use Rattle.osstate.specs.Queries.{running_in};
+ghost use Rattle.osstate.specs.{Does.HasRoom, Queries.running_in};
 ghost use Rattle.osservice.specs.Terms.{MayAct};
 ghost use Rattle.osacts.specs.Steps.{Steps};
-ghost use Rattle.oskernel.specs.Step.{dispatches_in, enters_by, goes_in, leaves_by};
+ghost use Rattle.oskernel.specs.Step.{dispatches, enters, goes_to, leaves};
 
 use osawait::may_dispatch;
 use osbase::{Job, Mark, Runner, TaskRef};
@@ -20,7 +19,7 @@ pub(crate) fn dispatch<const P: usize, const J: usize, const OUT: usize>(
     marks: &mut Vec<Mark>,
 )
     requires { HasRoom 2 2 state.old marks.old }
-    ensures { Steps 2 2 (dispatches_in state.old) state.old state.new marks.old marks.new }
+    ensures { Steps 2 2 (dispatches state.old) state.old state.new marks.old marks.new }
 {
     if may_dispatch(state) {
         let running = state.running_job();
@@ -39,7 +38,7 @@ fn go_to<const P: usize, const J: usize, const OUT: usize>(
     requires running { running ≡ running_in state.old }
     requires own { IfSome best (λ job. IsTrue (is_own_runner state.old.view.own job.runner)) }
     requires room { HasRoom 2 2 state.old marks.old }
-    ensures { Steps 2 2 (goes_in state.old best) state.old state.new marks.old marks.new }
+    ensures { Steps 2 2 (goes_to state.old best) state.old state.new marks.old marks.new }
 {
     if let Some(job) = best {
         if !is_running(running, job) {
@@ -65,7 +64,7 @@ fn enter<const P: usize, const J: usize, const OUT: usize>(
     marks: &mut Vec<Mark>,
 )
     requires { MayAct 2 2 state.old runner marks.old }
-    ensures { Steps 2 2 (enters_by state.old.tasks.current runner) state.old state.new marks.old marks.new }
+    ensures { Steps 2 2 (enters state.old.tasks.current runner) state.old state.new marks.old marks.new }
 {
     match runner {
         Runner::Task(task) => enter_task(state, task, marks),
@@ -79,7 +78,7 @@ fn enter_task<const P: usize, const J: usize, const OUT: usize>(
     marks: &mut Vec<Mark>,
 )
     requires { HasRoom 2 2 state.old marks.old }
-    ensures { Steps 2 2 (enters_by state.old.tasks.current (Runner.Task task)) state.old state.new marks.old marks.new }
+    ensures { Steps 2 2 (enters state.old.tasks.current (Runner.Task task)) state.old state.new marks.old marks.new }
 {
     leave_current(state, marks);
     state.enter(task, marks);
@@ -90,7 +89,7 @@ fn leave_current<const P: usize, const J: usize, const OUT: usize>(
     marks: &mut Vec<Mark>,
 )
     requires { HasRoom 1 1 state.old marks.old }
-    ensures { Steps 1 1 (leaves_by state.old.tasks.current) state.old state.new marks.old marks.new }
+    ensures { Steps 1 1 (leaves state.old.tasks.current) state.old state.new marks.old marks.new }
 {
     if let Some(current) = state.current() {
         state.leave(current, marks);

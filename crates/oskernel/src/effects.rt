@@ -1,24 +1,18 @@
 //! What follows from an item.
 
 ghost use Rattle.std.specs.Prelude.{◌≡◌, ◌+◌, ◌<◌, ◌≤◌, [], IsTrue, Some, false, length};
-ghost use Rattle.osbase.specs.declared.limits.TheConstants.{CORES};
-ghost use Rattle.osbase.specs.History.{Took};
-ghost use Rattle.osbase.specs.Phases.{is_before_live, is_past_first_gate};
-ghost use Rattle.osplan.specs.Clocked.{are_clocks_within};
-ghost use Rattle.osplan.specs.Objects.{most_posts_per_tick, outbox_needed};
-ghost use Rattle.osplan.specs.Stimuli.{knows_stimulus};
+ghost use Rattle.osbase.specs.{declared.limits.TheConstants.CORES, History.Took, Phases.is_before_live, Phases.is_past_first_gate};
+ghost use Rattle.osplan.specs.{Clocked.are_clocks_within, Objects.most_posts_per_tick, Objects.outbox_needed, Stimuli.knows_stimulus};
 ghost use Rattle.osjobs.specs.Jobs.{is_plain};
+ghost use Rattle.osprogress.specs.Border.{is_sender_known};
 ghost use Rattle.osstate.specs.Does.{HasRoom, item_entries, item_marks, service_entries, service_marks};
-ghost use Rattle.osstate.specs.Sound.{is_sender_known};
-ghost use Rattle.osstate.specs.Steps.{state_after};
+ghost use Rattle.osstate.specs.{Steps.state_after, Readings.is_served};
 ghost use Rattle.osservice.specs.Terms.{MayBegin, MayPost, MayServe};
-ghost use Rattle.osacts.specs.Acts.{look, prints};
-ghost use Rattle.osstate.specs.Readings.{is_served};
+ghost use Rattle.osacts.specs.{Acts.look, Acts.prints, Steps.Steps};
 ghost use Rattle.osadmit.specs.Admission.{admits};
 ghost use Rattle.oskernel.specs.Bounded.{step_entries};
 ghost use Rattle.oskernel.specs.Step.{calls_shutdown_hook, closes, effect, ends_core, gate_mark, next_operation, receives, service_awaiting, stimulates, success_value};
 ghost use Rattle.oskernel.specs.Taking.{is_acting, is_filling, is_for_core, is_going_on, is_known, is_request, is_second_gate};
-ghost use Rattle.osacts.specs.Steps.{Steps};
 
 use crate::interrupts::raise;
 use crate::starting::start;

@@ -2,17 +2,11 @@
 
 ghost use Rattle.std.specs.Prelude.{◌≡◌, ◌+◌, ◌≤◌, [], nat_lt, IsTrue, IsSome, vec_len, vec_capacity, sum_by};
 ghost use Rattle.std.specs.List.{list_all};
-ghost use Rattle.osplan.specs.declared.plans.Resource.{Resource as ResourceValue};
-ghost use Rattle.osplan.specs.declared.plans.Task.{Task as TaskValue};
-ghost use Rattle.osplan.specs.View.{core_of, view_of};
+ghost use Rattle.osplan.specs.{declared.plans.Resource.Resource as ResourceValue, declared.plans.Task.Task as TaskValue, View.core_of, View.view_of, Objects.outbox_needed};
 ghost use Rattle.osbase.specs.History.{outbox};
-ghost use Rattle.osstate.specs.Readings.{phase_at};
-ghost use Rattle.osstate.specs.State.{state_of};
-ghost use Rattle.osstate.specs.Does.{Adds, Does, Reads};
-ghost use Rattle.oskernel.specs.declared.kernel.TheConstants.{STEP_MARKS};
+ghost use Rattle.osstate.specs.{Readings.phase_at, State.state_of, Does.Adds, Does.Does, Does.Reads};
+ghost use Rattle.oskernel.specs.{declared.kernel.TheConstants.STEP_MARKS, Step.after, Step.serves, Step.takes};
 ghost use Rattle.osfit.specs.Fits.{fits_in};
-ghost use Rattle.osplan.specs.Objects.{outbox_needed};
-ghost use Rattle.oskernel.specs.Step.{after, serves, takes};
 ghost use Rattle.oskernel.specs.Wants.{front_of, go_on_by as go_on_want, post_or as front_or, is_want_known, want_call as call_or_want, want_in, want_of, want_owed as owed_or_want, watch_halt, watch_in, watch_of};
 ghost use Rattle.osadmit.specs.Admission.{serves_in, takes_in};
 

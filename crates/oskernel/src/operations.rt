@@ -6,8 +6,7 @@ ghost use Rattle.osplan.specs.Objects.{most_posts_per_tick};
 ghost use Rattle.osservice.specs.Terms.{MayAct, MayOperate};
 ghost use Rattle.oscript.specs.Calls.{call_of_op};
 ghost use Rattle.oskernel.specs.Operations.{acts_alone, acts_on_shared, acts_suspended, is_ignored_now, operates, operates_by, refused_now, refused_of};
-ghost use Rattle.osacts.specs.Runs.{seen_in};
-ghost use Rattle.osacts.specs.Steps.{Steps};
+ghost use Rattle.osacts.specs.{Runs.seen_in, Steps.Steps};
 
 use osbase::{Mark, ServiceId, Status};
 use oscall::{call, shutdown, variables};

@@ -4,12 +4,10 @@ ghost use Rattle.std.specs.Prelude.{◌≡◌, ◌==◌, ◌+◌, ◌<◌, ◌�
 ghost use Rattle.std.specs.List.{list_any, slice_get};
 ghost use Rattle.osbase.specs.Phases.{is_before_live, is_past_first_gate};
 ghost use Rattle.osplan.specs.Clocked.{are_clocks_within};
-ghost use Rattle.osstate.specs.Does.{HasRoom, item_entries, item_marks};
-ghost use Rattle.osstate.specs.Sound.{is_agreed};
-ghost use Rattle.osacts.specs.Acts.{in_turn, look};
+ghost use Rattle.osstate.specs.{Does.HasRoom, Does.item_entries, Does.item_marks, Sound.is_agreed};
+ghost use Rattle.osacts.specs.{Acts.in_turn, Acts.look, Steps.QuietSteps, Steps.Steps};
 ghost use Rattle.oskernel.specs.Step.{autostarts_alarm, autostarts_table, autostarts_task, starts, starts_in};
 ghost use Rattle.oskernel.specs.Taking.{agreement_on, have_places};
-ghost use Rattle.osacts.specs.Steps.{QuietSteps, Steps};
 
 use osbase::{Agreement, AlarmRef, List, Mark, ModeId, TableRef, TaskRef};
 use osplan::{Alarm, Table, Task};

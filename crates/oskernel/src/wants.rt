@@ -1,7 +1,6 @@
 //! What a core's own turn would do, and what its look at the board waits for.
 
-ghost use Rattle.std.specs.Prelude.{◌≡◌};
-ghost use Rattle.std.specs.Option.{option_map_or};
+ghost use Rattle.std.specs.{Prelude.◌≡◌, Option.option_map_or};
 ghost use Rattle.oskernel.specs.declared.wants.SpinWish.TheVariants as Wish;
 ghost use Rattle.oskernel.specs.declared.wants.Want.TheVariants.{Spin};
 ghost use Rattle.oskernel.specs.Wants.{go_on_by, start_or_enter as next_or_enter, want_call, want_for};

@@ -1,11 +1,8 @@
 -- Which ISRs were entered and have not left.
 use Rattle.std.proofs.Common.{◌≡◌, ◌||◌, Bool, true, false, cond, List, [], ◌∷◌, refl, ap, sym, ◌∙◌}
-use Rattle.std.specs.Bool.{⊤}
-use Rattle.std.specs.List.{list_any}
-use Rattle.std.specs.Option.{option_or}
+use Rattle.std.specs.{Bool.⊤, List.list_any, Option.option_or}
 use Rattle.std.proofs.lemmas.Bool.{or_parts}
-use Rattle.osbase.specs.declared.references.IsrRef.{IsrRef}
-use Rattle.osbase.specs.declared.marks.Mark.{Mark}
+use Rattle.osbase.specs.{declared.references.IsrRef.IsrRef, declared.marks.Mark.Mark}
 use Rattle.osbase.specs.History.{Entry, History, Printed, current_job, same_isr}
 use Rattle.osbase.specs.Interrupts.{entered_isrs, isr_jobs, oldest_entered, without_isr}
 use Rattle.osbase.proofs.Same.{same_isr-true}

@@ -1,15 +1,8 @@
 -- Whose job has each spinlock.
 use Rattle.std.proofs.Common.{◌≡◌, ◌&&◌, ◌||◌, Bool, true, false, not, cond, Option, Some, None, option_map, unwrap_or, List, [], ◌∷◌, map, refl, ap, sym, subst, ◌∙◌}
-use Rattle.std.specs.Bool.{⊤}
-use Rattle.std.specs.List.{list_any}
-use Rattle.std.specs.Option.{option_map_or}
+use Rattle.std.specs.{Bool.⊤, List.list_any, Option.option_map_or}
 use Rattle.std.proofs.lemmas.Bool.{and_parts, eq-eqb, false≢true}
-use Rattle.osbase.specs.declared.items.Item.{Item}
-use Rattle.osbase.specs.declared.marks.Mark.{Mark}
-use Rattle.osbase.specs.declared.references.Runner.{Runner}
-use Rattle.osbase.specs.declared.references.SpinlockId.{SpinlockId}
-use Rattle.osbase.specs.declared.histories.GotSpinlock.{GotSpinlock}
-use Rattle.osbase.specs.declared.histories.OpenCall.{OpenCall}
+use Rattle.osbase.specs.{declared.items.Item.Item, declared.marks.Mark.Mark, declared.references.Runner.Runner, declared.references.SpinlockId.SpinlockId, declared.histories.GotSpinlock.GotSpinlock, declared.histories.OpenCall.OpenCall}
 use Rattle.osbase.specs.History.{Entry, History, Note, Noted, Printed, Took, WentDown, open_call, same_runner}
 use Rattle.osbase.specs.Spins.{got_spinlocks, has_spinlock, is_got_by, owed, same_spinlock, with_spinlock, without_spinlock}
 use Rattle.osplan.specs.View.{View}
@@ -19,7 +12,7 @@ use Rattle.oskernel.specs.Step.{after, outbox_size, solo_from, takes}
 use Rattle.oskernel.proofs.Holding.{kept_after}
 use Rattle.oslaws.specs.Spinlocks.{is_granted, unfreed}
 use Rattle.oslaws.specs.Holders.{granted_to, grants, holder_by, makes_owed, since_grant}
-use Rattle.oslaws.proofs.Granted.{Right, had, has-granted, is_in, locks-unfreed, locks_of}
+use Rattle.oslaws.proofs.Granted.{Right, has-granted, is_in, locks-unfreed, locks_of}
 use Rattle.oslaws.proofs.Granted as spinlocks
 
 abbrev AreGranted : History → List GotSpinlock → Type 0

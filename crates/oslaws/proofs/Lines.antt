@@ -2,29 +2,15 @@
 use Rattle.std.proofs.Common.{◌≡◌, ◌==◌, ◌&&◌, ◌||◌, ◌<◌, ◌+◌, ℕ, zero, suc, nat_lt, Bool, true, false, not, cond, Option, Some, None, is_none, map, get_or, refl, ap, ◌∙◌, arith}
 use Rattle.std.specs.Option.{option_map_or}
 use Rattle.std.proofs.lemmas.Bool.{and_parts, ltb-true}
-use Rattle.osbase.specs.declared.statuses.Status.{Status}
-use Rattle.osbase.specs.declared.references.CoreId.{CoreId}
-use Rattle.osbase.specs.declared.references.SpinlockId.{SpinlockId}
-use Rattle.osbase.specs.declared.messages.Message.{Message}
-use Rattle.osbase.specs.declared.items.Item.{Item}
-use Rattle.osbase.specs.declared.histories.Awaited.{Awaited}
-use Rattle.osbase.specs.declared.histories.OpenCall.{OpenCall}
-use Rattle.osbase.specs.declared.histories.Phase.{Phase}
+use Rattle.osbase.specs.{declared.statuses.Status.Status, declared.references.CoreId.CoreId, declared.references.SpinlockId.SpinlockId, declared.messages.Message.Message, declared.items.Item.Item, declared.histories.Awaited.Awaited, declared.histories.OpenCall.OpenCall, declared.histories.Phase.Phase, declared.limits.TheConstants.CORES, Phases.is_scheduling, Phases.stands_in, Sets.core_ids, Sets.has_core, Sets.numbers_from, Spins.got_spinlocks, Spins.newest_owed, Spins.same_spinlock, declared.statuses.Status.TheVariants.EOk, declared.statuses.Status.TheVariants.EOsId, declared.statuses.Status.TheVariants.EOsState}
 use Rattle.osbase.specs.declared.histories.Phase.TheVariants.{Off, Boot, FirstGate, BetweenGates, SecondGate, Live, Drained, Closing, Ended}
-use Rattle.osbase.specs.declared.limits.TheConstants.{CORES}
 use Rattle.osbase.specs.History.{History, open_call, outbox, received_count, same_core, started_cores}
-use Rattle.osbase.specs.Phases.{is_scheduling, stands_in}
-use Rattle.osbase.specs.Sets.{core_ids, has_core, numbers_from}
-use Rattle.osbase.specs.Spins.{got_spinlocks, newest_owed, same_spinlock}
-use Rattle.osplan.specs.Stimuli.{knows_stimulus}
-use Rattle.osplan.specs.View.{View, is_configured}
-use Rattle.osstate.specs.Readings.{phase_at}
-use Rattle.osstate.specs.State.{state_of}
+use Rattle.osplan.specs.{Stimuli.knows_stimulus, View.View, View.is_configured}
+use Rattle.osstate.specs.{Readings.phase_at, State.state_of}
 use Rattle.osservice.specs.Checks.{is_ok_status}
 use Rattle.osawait.specs.Free.{is_get}
 use Rattle.osawait.specs.Messages.{answers_value, is_awaited, is_reply_for, is_reply_to}
 use Rattle.osadmit.specs.Admission.{admits, asks_halt, is_front_for, is_release_of, is_start_answer}
-use Rattle.osbase.specs.declared.statuses.Status.TheVariants.{EOk, EOsId, EOsState}
 use Rattle.oslaws.specs.Takes.{admits_by, awaits, has_no_call, has_posted_all, is_answer_for, is_at, is_expected, is_next_entry, is_reply_of, is_up, owes_nothing}
 
 -- ---- the phases

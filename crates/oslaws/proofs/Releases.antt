@@ -1,14 +1,10 @@
 -- What a job holds.
 use Rattle.std.proofs.Common.{◌≡◌, ◌||◌, ℕ, ◌==◌, Bool, true, false, cond, Option, Some, None, List, [], ◌∷◌, refl, ap, sym, ◌∙◌}
-use Rattle.osbase.specs.declared.marks.Mark.{Mark}
-use Rattle.osbase.specs.declared.references.Runner.{Runner}
-use Rattle.osbase.specs.declared.histories.HeldResource.{HeldResource}
+use Rattle.osbase.specs.{declared.marks.Mark.Mark, declared.references.Runner.Runner, declared.histories.HeldResource.HeldResource, Interrupts.running_job, Interrupts.runner_of_job}
 use Rattle.osbase.specs.History.{History, Entry, Printed, Noted, ResourceOccupied, ResourceReleased, InterruptsSuspended, InterruptsResumed, Done, same_runner, without_resource}
-use Rattle.osbase.specs.Interrupts.{running_job, runner_of_job}
 use Rattle.oscript.specs.declared.Op.{Op}
 use Rattle.oscript.specs.Runners.{Row, row_after, row_by, row_of, row_step}
-use Rattle.oslaws.specs.Jobs.{ends_job, since_end}
-use Rattle.oslaws.specs.Held.{is_among, unreleased, without_one}
+use Rattle.oslaws.specs.{Jobs.ends_job, Jobs.since_end, Held.is_among, Held.unreleased, Held.without_one}
 
 -- Resources without those that are released, the oldest release first.
 abbrev without_all : List ℕ → List HeldResource → List HeldResource

@@ -1,10 +1,7 @@
 -- What a task waits for.
 use Rattle.std.proofs.Common.{◌≡◌, ℕ, Bool, true, false, cond, Option, Some, None, unwrap_or, List, [], ◌∷◌, refl, ◌∙◌}
-use Rattle.osbase.specs.declared.references.TaskRef.{TaskRef}
-use Rattle.osbase.specs.declared.references.Runner.{Runner}
-use Rattle.osbase.specs.declared.marks.Mark.{Mark}
+use Rattle.osbase.specs.{declared.references.TaskRef.TaskRef, declared.references.Runner.Runner, declared.marks.Mark.Mark, Interrupts.running_job, Interrupts.runner_of_job}
 use Rattle.osbase.specs.History.{History, Entry, Printed, Noted, ResourceOccupied, ResourceReleased, InterruptsSuspended, InterruptsResumed, Done, same_runner, same_task}
-use Rattle.osbase.specs.Interrupts.{running_job, runner_of_job}
 use Rattle.oscript.specs.declared.Op.{Op}
 use Rattle.oscript.specs.Runners.{Row, row_after, row_by, row_of, row_step}
 use Rattle.oslaws.specs.Waits.{last_wait, wait_by}

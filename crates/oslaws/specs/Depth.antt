@@ -2,8 +2,7 @@
 use Rattle.std.specs.Prelude.{◌≡◌, ◌≤◌, ◌+◌, ◌&&◌, nat_le, Bool, true, false, IsTrue, [], ◌∷◌, List}
 use Rattle.osbase.specs.declared.references.Runner.{Runner}
 use Rattle.osbase.specs.History.{History, Entry, Noted, InterruptsSuspended, InterruptsResumed, same_runner}
-use Rattle.oscript.specs.declared.Op.{Op}
-use Rattle.oscript.specs.Runners.{row_of}
+use Rattle.oscript.specs.{declared.Op.Op, Runners.row_of}
 use Rattle.oslaws.specs.Jobs.{how_many, since_end}
 
 -- By the entry a job of the runner suspends interrupts, or resumes them.

@@ -1,9 +1,7 @@
 -- Which ISRs were entered and have not left.
 use Rattle.std.specs.Prelude.{◌≡◌, Bool, if◌then◌else◌, List, [], ◌∷◌}
-use Rattle.std.specs.List.{list_any}
-use Rattle.std.specs.Option.{option_or}
-use Rattle.osbase.specs.declared.references.IsrRef.{IsrRef}
-use Rattle.osbase.specs.declared.marks.Mark.{Mark}
+use Rattle.std.specs.{List.list_any, Option.option_or}
+use Rattle.osbase.specs.{declared.references.IsrRef.IsrRef, declared.marks.Mark.Mark}
 use Rattle.osbase.specs.History.{History, Printed, current_job, same_isr}
 use Rattle.osbase.specs.Interrupts.{entered_isrs, isr_jobs, oldest_entered, running_job}
 

@@ -1,11 +1,9 @@
 -- What a job holds: what it took and did not release.
 use Rattle.std.specs.Prelude.{◌≡◌, ℕ, ◌==◌, Bool, if◌then◌else◌, List, [], ◌∷◌}
 use Rattle.std.specs.List.{list_any}
-use Rattle.osbase.specs.declared.references.Runner.{Runner}
-use Rattle.osbase.specs.declared.histories.HeldResource.{HeldResource}
+use Rattle.osbase.specs.{declared.references.Runner.Runner, declared.histories.HeldResource.HeldResource}
 use Rattle.osbase.specs.History.{History, Noted, ResourceOccupied, ResourceReleased, same_runner}
-use Rattle.oscript.specs.declared.Op.{Op}
-use Rattle.oscript.specs.Runners.{row_of}
+use Rattle.oscript.specs.{declared.Op.Op, Runners.row_of}
 use Rattle.oslaws.specs.Jobs.{since_end}
 
 -- The number is among these, and these without one of it.

@@ -1,15 +1,9 @@
 -- Whose job has a spinlock, or that its release is owed.
 use Rattle.std.specs.Prelude.{◌≡◌, ◌&&◌, Bool, true, false, not, if◌then◌else◌, Option, None, option_map, [], ◌∷◌, map}
-use Rattle.std.specs.List.{list_any}
-use Rattle.std.specs.Option.{option_map_or}
-use Rattle.osbase.specs.declared.items.Item.{Item}
-use Rattle.osbase.specs.declared.references.Runner.{Runner}
-use Rattle.osbase.specs.declared.references.SpinlockId.{SpinlockId}
-use Rattle.osbase.specs.declared.histories.OpenCall.{OpenCall}
+use Rattle.std.specs.{List.list_any, Option.option_map_or}
+use Rattle.osbase.specs.{declared.items.Item.Item, declared.references.Runner.Runner, declared.references.SpinlockId.SpinlockId, declared.histories.OpenCall.OpenCall, Spins.got_spinlocks, Spins.same_spinlock}
 use Rattle.osbase.specs.History.{Entry, History, Noted, Took, WentDown, open_call}
-use Rattle.osbase.specs.Spins.{got_spinlocks, same_spinlock}
-use Rattle.oslaws.specs.Jobs.{ends_job}
-use Rattle.oslaws.specs.Spinlocks.{is_granted, unfreed}
+use Rattle.oslaws.specs.{Jobs.ends_job, Spinlocks.is_granted, Spinlocks.unfreed}
 
 -- By the entry, after this history, the core is granted the spinlock, which it does not have.
 abbrev pub grants : SpinlockId → Entry → History → Bool

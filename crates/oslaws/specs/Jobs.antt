@@ -1,7 +1,6 @@
 -- What a runner's job has done: the entries since the last of its jobs ended.
 use Rattle.std.specs.Prelude.{ℕ, suc, Bool, false, if◌then◌else◌, [], ◌∷◌}
-use Rattle.osbase.specs.declared.marks.Mark.{Mark}
-use Rattle.osbase.specs.declared.references.Runner.{Runner}
+use Rattle.osbase.specs.{declared.marks.Mark.Mark, declared.references.Runner.Runner}
 use Rattle.osbase.specs.History.{History, Entry, Printed, same_runner}
 
 -- By the entry a job of the runner ends: of a task by its termination, of an ISR by its return.

@@ -1,11 +1,7 @@
 -- The spinlocks that a core has: those that it was granted and that were not freed since.
 use Rattle.std.specs.Prelude.{◌≡◌, ◌&&◌, ◌||◌, Bool, true, false, not, if◌then◌else◌, List, [], ◌∷◌, map}
 use Rattle.std.specs.List.{list_any}
-use Rattle.osbase.specs.declared.items.Item.{Item}
-use Rattle.osbase.specs.declared.references.SpinlockId.{SpinlockId}
-use Rattle.osbase.specs.declared.histories.GotSpinlock.{GotSpinlock}
-use Rattle.osbase.specs.History.{History, Took}
-use Rattle.osbase.specs.Spins.{got_spinlocks, has_spinlock, same_spinlock}
+use Rattle.osbase.specs.{declared.items.Item.Item, declared.references.SpinlockId.SpinlockId, declared.histories.GotSpinlock.GotSpinlock, History.History, History.Took, Spins.got_spinlocks, Spins.has_spinlock, Spins.same_spinlock}
 
 -- Of the items that grant the spinlock or free it, the newest grants it. A try without success does neither.
 -- [AUTOSAR SWS OS 4.x, GetSpinlock, TryToGetSpinlock and ReleaseSpinlock]

@@ -2,8 +2,7 @@
 use Rattle.std.specs.Prelude.{◌≡◌, ℕ, ◌==◌, ◌&&◌, ◌||◌, Bool, true, false, not, IsTrue, List, [], ◌∷◌}
 use Rattle.osbase.specs.declared.references.Runner.{Runner}
 use Rattle.osbase.specs.History.{History, Entry, Noted, ResourceOccupied, ResourceReleased, is_held, same_runner}
-use Rattle.oscript.specs.declared.Op.{Op}
-use Rattle.oscript.specs.Runners.{row_of}
+use Rattle.oscript.specs.{declared.Op.Op, Runners.row_of}
 use Rattle.oslaws.specs.Jobs.{ends_job}
 
 -- Of the entries by which a job of the runner takes the resource of this number, releases it, or ends, the newest takes it.

@@ -4,28 +4,14 @@
 -- kernel's own test uses too.
 use Rattle.std.specs.Prelude.{◌≡◌, ℕ, ◌^◌, ◌==◌, ◌&&◌, ◌||◌, nat_lt, Bool, false, not, is_none, length, slice_get}
 use Rattle.std.specs.Option.{option_map_or}
-use Rattle.osbase.specs.declared.statuses.Status.{Status}
-use Rattle.osbase.specs.declared.statuses.Status.TheVariants.{EOk, EOsId, EOsState}
-use Rattle.osbase.specs.declared.statuses.ServiceId.{ServiceId}
-use Rattle.osbase.specs.declared.references.CoreId.{CoreId}
-use Rattle.osbase.specs.declared.messages.Message.{Message}
-use Rattle.osbase.specs.declared.items.Item.{Item}
-use Rattle.osbase.specs.declared.histories.Awaited.{Awaited}
-use Rattle.osbase.specs.declared.histories.OpenCall.{OpenCall}
-use Rattle.osbase.specs.declared.histories.Phase.{Phase}
+use Rattle.osbase.specs.{declared.statuses.Status.Status, declared.statuses.Status.TheVariants.EOk, declared.statuses.Status.TheVariants.EOsId, declared.statuses.Status.TheVariants.EOsState, declared.statuses.ServiceId.ServiceId, declared.references.CoreId.CoreId, declared.messages.Message.Message, declared.items.Item.Item, declared.histories.Awaited.Awaited, declared.histories.OpenCall.OpenCall, declared.histories.Phase.Phase, Objects.object_of_call, Phases.is_going, Phases.stands_in, Sets.has_core}
 use Rattle.osbase.specs.History.{History, began_count, course_of, item_count, open_call, outbox, received_count, same_core, started_cores}
-use Rattle.osbase.specs.Objects.{object_of_call}
-use Rattle.osbase.specs.Phases.{is_going, stands_in}
-use Rattle.osbase.specs.Sets.{has_core}
 use Rattle.osbase.specs.Spins.{got_spinlocks, is_owing, newest_owed, same_spinlock}
 use Rattle.oscript.specs.Calls.{is_action}
-use Rattle.osplan.specs.Objects.{is_own_object}
-use Rattle.osplan.specs.Stimuli.{knows_stimulus}
-use Rattle.osplan.specs.View.{View, is_configured}
+use Rattle.osplan.specs.{Objects.is_own_object, Stimuli.knows_stimulus, View.View, View.is_configured}
 use Rattle.osstate.specs.Readings.{phase_at}
 use Rattle.osservice.specs.Checks.{is_ok_status}
-use Rattle.osawait.specs.Free.{is_empty, is_get}
-use Rattle.osawait.specs.Messages.{answers_value}
+use Rattle.osawait.specs.{Free.is_empty, Free.is_get, Messages.answers_value}
 use Rattle.osadmit.specs.Admission.{are_started_cores, asks_halt, is_agreement, is_front_for, is_get_of, is_release_of, is_try_of}
 use Rattle.oskernel.specs.Step.{takes}
 

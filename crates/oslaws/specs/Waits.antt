@@ -1,11 +1,8 @@
 -- What a task waits for.
 use Rattle.std.specs.Prelude.{◌≡◌, ℕ, if◌then◌else◌, Option, Some, None, unwrap_or, List, [], ◌∷◌}
-use Rattle.osbase.specs.declared.references.TaskRef.{TaskRef}
-use Rattle.osbase.specs.declared.references.Runner.{Runner}
-use Rattle.osbase.specs.declared.marks.Mark.{Mark}
+use Rattle.osbase.specs.{declared.references.TaskRef.TaskRef, declared.references.Runner.Runner, declared.marks.Mark.Mark}
 use Rattle.osbase.specs.History.{History, Entry, Printed, same_task}
-use Rattle.oscript.specs.declared.Op.{Op}
-use Rattle.oscript.specs.Runners.{row_of}
+use Rattle.oscript.specs.{declared.Op.Op, Runners.row_of}
 
 -- What an entry says of it: that the task waits for these events now, or for none, or nothing.
 -- [OSEK/VDX OS 2.2.3, section 13.5.3.4, WaitEvent; section 4.2.1, for the release]

@@ -1,16 +1,7 @@
 -- Worked histories, the newest entry first.
 use Rattle.std.specs.Prelude.{ℕ, true, false, List, [], ◌∷◌}
-use Rattle.osbase.specs.declared.statuses.Status.TheVariants.{EOk, EOsId}
-use Rattle.osbase.specs.declared.references.CoreId.{CoreId}
-use Rattle.osbase.specs.declared.references.IsrRef.{IsrRef}
-use Rattle.osbase.specs.declared.references.SpinlockId.{SpinlockId}
-use Rattle.osbase.specs.declared.references.TaskRef.{TaskRef}
-use Rattle.osbase.specs.declared.references.Runner.{Runner}
-use Rattle.osbase.specs.declared.items.Item.{Item}
+use Rattle.osbase.specs.{declared.statuses.Status.TheVariants.EOk, declared.statuses.Status.TheVariants.EOsId, declared.references.CoreId.CoreId, declared.references.IsrRef.IsrRef, declared.references.SpinlockId.SpinlockId, declared.references.TaskRef.TaskRef, declared.references.Runner.Runner, declared.items.Item.Item, declared.marks.Mark.Mark, declared.histories.Awaited.Awaited, declared.histories.HeldResource.HeldResource}
 use Rattle.osbase.specs.declared.items.Stimulus.TheVariants as Stimulus
-use Rattle.osbase.specs.declared.marks.Mark.{Mark}
-use Rattle.osbase.specs.declared.histories.Awaited.{Awaited}
-use Rattle.osbase.specs.declared.histories.HeldResource.{HeldResource}
 use Rattle.osbase.specs.History.{Entry, History, Took, Noted, Printed, Opened, ResourceOccupied, ResourceReleased, InterruptsSuspended, InterruptsResumed, WentDown, no_cores}
 use Rattle.osplan.specs.View.{View, no_core}
 

@@ -1,7 +1,6 @@
 //! How often a job has suspended interrupts.
 
-ghost use Rattle.osbase.specs.History.{History};
-ghost use Rattle.osbase.specs.declared.references.Runner.{Runner};
+ghost use Rattle.osbase.specs.{History.History, declared.references.Runner.Runner};
 ghost use Rattle.oslaws.specs.Depth.{CountsSuspensions};
 
 /// If a job never resumes interrupts more often than it suspended them, and never has more than 255 suspensions, it has them suspended

@@ -1,9 +1,7 @@
 //! What a job holds.
 
-ghost use Rattle.osbase.specs.History.{History};
-ghost use Rattle.osbase.specs.declared.references.Runner.{Runner};
-ghost use Rattle.oslaws.specs.Held.{HoldsWhatItTook};
-ghost use Rattle.oslaws.specs.Taken.{HoldsByLastWord};
+ghost use Rattle.osbase.specs.{History.History, declared.references.Runner.Runner};
+ghost use Rattle.oslaws.specs.{Held.HoldsWhatItTook, Taken.HoldsByLastWord};
 
 /// A job holds what it took since its runner's last job ended and did not release, the newest first, whatever happened (OSEK/VDX OS
 /// 2.2.3, section 8.2).

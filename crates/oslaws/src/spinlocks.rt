@@ -1,12 +1,10 @@
 //! Which spinlocks a core has.
 
 ghost use Rattle.std.specs.Prelude.{◌≡◌, Some, List};
-ghost use Rattle.osbase.specs.History.{History};
-ghost use Rattle.osbase.specs.declared.items.Item.{Item};
+ghost use Rattle.osbase.specs.{History.History, declared.items.Item.Item};
 ghost use Rattle.osplan.specs.View.{View};
 ghost use Rattle.oskernel.specs.Step.{solo};
-ghost use Rattle.oslaws.specs.Holders.{HaveTheirHolders};
-ghost use Rattle.oslaws.specs.Spinlocks.{HasWhatWasGranted};
+ghost use Rattle.oslaws.specs.{Holders.HaveTheirHolders, Spinlocks.HasWhatWasGranted};
 
 /// Whichever items a core takes that it may take in turn, it has the spinlocks that an item granted it and no later item freed, the newest
 /// first (AUTOSAR SWS OS 4.x, GetSpinlock, TryToGetSpinlock and ReleaseSpinlock).

@@ -1,8 +1,7 @@
 //! Which item a core may take.
 
 ghost use Rattle.std.specs.Prelude.{ℕ};
-ghost use Rattle.osbase.specs.History.{History};
-ghost use Rattle.osbase.specs.declared.items.Item.{Item};
+ghost use Rattle.osbase.specs.{History.History, declared.items.Item.Item};
 ghost use Rattle.osplan.specs.View.{View};
 ghost use Rattle.oslaws.specs.Takes.{TakesByTheLines};
 

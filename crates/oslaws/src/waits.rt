@@ -1,7 +1,6 @@
 //! What a task waits for.
 
-ghost use Rattle.osbase.specs.History.{History};
-ghost use Rattle.osbase.specs.declared.references.TaskRef.{TaskRef};
+ghost use Rattle.osbase.specs.{History.History, declared.references.TaskRef.TaskRef};
 ghost use Rattle.oslaws.specs.Waits.{WaitsAsLastSaid};
 
 /// A task waits for the events that it named when it last began to wait, unless it was released since, whatever happened (OSEK/VDX OS

@@ -1,15 +1,7 @@
 //! What the laws' definitions say of worked histories, by computation.
 
 ghost use Rattle.std.specs.Prelude.{◌≡◌, true, false, Some, None, [], ◌∷◌, map};
-ghost use Rattle.oslaws.specs.Depth.{resumes, suspends, was_between};
-ghost use Rattle.oslaws.specs.Entered.{unleft};
-ghost use Rattle.oslaws.specs.Held.{unreleased};
-ghost use Rattle.oslaws.specs.Holders.{holder_by};
-ghost use Rattle.oslaws.specs.Jobs.{how_many, since_end};
-ghost use Rattle.oslaws.specs.Spinlocks.{is_granted, unfreed};
-ghost use Rattle.oslaws.specs.Taken.{is_taken};
-ghost use Rattle.oslaws.specs.Takes.{admits_by};
-ghost use Rattle.oslaws.specs.Waits.{last_wait};
+ghost use Rattle.oslaws.specs.{Depth.resumes, Depth.suspends, Depth.was_between, Entered.unleft, Held.unreleased, Holders.holder_by, Jobs.how_many, Jobs.since_end, Spinlocks.is_granted, Spinlocks.unfreed, Taken.is_taken, Takes.admits_by, Waits.last_wait};
 ghost use Rattle.oslaws.specs.Worked.{a, awaiting, b, entering, first_items, granting, isr, later_items, lock, resource, sharing, suspending, taking, task, view, waiting};
 
 /// A job holds what it took last, and not what the job before it took.

@@ -1,20 +1,13 @@
 -- The configuration that a text means, and the faults that a text has. [own]
 use Rattle.std.specs.Prelude.{ℕ, if◌then◌else◌, Option, Some, None, option_and_then, option_map, List, [], ◌∷◌, map}
-use Rattle.std.specs.Option.{option_map_or}
-use Rattle.std.specs.Str.{bytes_eq}
+use Rattle.std.specs.{Option.option_map_or, Str.bytes_eq}
 use Rattle.osvalidate.specs.Words.{Alarm, AlarmStart, AlarmStartText, AlarmText, ConfigText, Core, CoreId, CoreMode, CoreText, Counter, CounterText, Declaration, ExpiryPoint, Isr, IsrText, Plan, PointText, Resource, ResourceText, Spinlock, SpinlockText, Table, TableStart, TableStartText, TableText, Task, TaskText}
 use Rattle.osbase.specs.declared.items.CoreMode.TheVariants.{DontCare, Named}
-use Rattle.serde_json.specs.Data.{Data}
-use Rattle.serde_json.specs.Read.{read}
-use Rattle.osplan.specs.declared.faults.ConfFault.{ConfFault}
-use Rattle.osplan.specs.declared.faults.ConfFault.TheVariants.{NotJson, Shape}
-use Rattle.osplan.specs.Representable.{dont_care}
-use Rattle.osplan.specs.Fault.{IsLeast, failing, if_faultless}
+use Rattle.serde_json.specs.{Data.Data, Read.read}
+use Rattle.osplan.specs.{declared.faults.ConfFault.ConfFault, declared.faults.ConfFault.TheVariants.NotJson, declared.faults.ConfFault.TheVariants.Shape, Representable.dont_care, Fault.IsLeast, Fault.failing, Fault.if_faultless}
 use Rattle.osschema.specs.Shape.{config_shape}
-use Rattle.osvalidate.specs.Action.{action_of}
+use Rattle.osvalidate.specs.{Action.action_of, Operation.operations_of, Operation.op_of, Check.successor, Check.tests_of}
 use Rattle.osschema.specs.Declarations.{byte_of, counter_ref, declarations, mode_ref, number_id, id_of, word_of}
-use Rattle.osvalidate.specs.Operation.{operations_of, op_of}
-use Rattle.osvalidate.specs.Check.{successor, tests_of}
 
 -- The mode of a core: the first where it says nothing of it, and none where it goes with any. [AUTOSAR SWS OS 4.x, DONOTCARE; the first is own]
 abbrev pub core_mode : List Declaration → Option (List ℕ) → CoreMode

@@ -1,8 +1,7 @@
 //! Reading a configuration.
 
 ghost use Rattle.std.specs.Prelude.{◌≡◌, ◌≢◌, IfOk, IfErr, IsTrue, Some, []};
-ghost use Rattle.serde_json.specs.Read.{read};
-ghost use Rattle.serde_json.specs.View.{view};
+ghost use Rattle.serde_json.specs.{Read.read, View.view};
 ghost use Rattle.osschema.specs.Shape.{config_shape, is_named};
 ghost use Rattle.osplan.specs.Fault.{failing, first_fault, GivesOr};
 ghost use Rattle.osvalidate.specs.Check.{tests_of};

@@ -1,9 +1,7 @@
 //! The loop over a list of which a part of the plan is made.
 
-ghost use Rattle.std.specs.Prelude.{◌≡◌, Bool, map};
-ghost use Rattle.std.specs.List.{list_all};
-ghost use Rattle.osvalidate.specs.Verdict.{Judges, each};
-ghost use Rattle.osvalidate.specs.declared.verdicts.Verdict.{Verdict as Right};
+ghost use Rattle.std.specs.{Prelude.Bool, Prelude.map, List.list_all};
+ghost use Rattle.osvalidate.specs.{Verdict.Judges, Verdict.each, declared.verdicts.Verdict.Verdict as Right};
 
 use osbase::List;
 use osplan::ConfFault;

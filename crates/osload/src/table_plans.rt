@@ -1,8 +1,7 @@
 //! The plans of the schedule tables of a text.
 
 ghost use Rattle.std.specs.Prelude.{◌≡◌, IfOk, option_map, true};
-ghost use Rattle.osvalidate.specs.Action.{action_of};
-ghost use Rattle.osvalidate.specs.Verdict.{action_verdict, point_verdict, table_verdict};
+ghost use Rattle.osvalidate.specs.{Action.action_of, Verdict.action_verdict, Verdict.point_verdict, Verdict.table_verdict};
 ghost use Rattle.osload.specs.Meaning.{point_plan, table_plan, table_start_plan};
 
 use crate::planners::{Planner, plan_each};

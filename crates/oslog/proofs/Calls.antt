@@ -1,51 +1,23 @@
 -- The call of an operation's words has these words, and a call's words say the call.
 use Rattle.std.proofs.Common.{rules, inl, inr, ◌≡◌, ℕ, ◌+◌, ◌-◌, ◌≤◌, ◌==◌, ◌&&◌, nat_le, true, cond, Option, Some, None, option_and_then, option_map, unwrap_or, List, [], ◌∷◌, map, codes, refl, sym, ap, subst, IsTrue, ◌∙◌, arith}
-use Rattle.std.specs.Fmt.{decimal}
-use Rattle.std.specs.List.{join_with_byte, list_all}
-use Rattle.std.specs.Str.{bytes_eq}
-use Rattle.std.proofs.lemmas.Bool.{and_from, and_parts, leb-true}
-use Rattle.std.proofs.lemmas.Fmt.{decimal_digit}
-use Rattle.std.proofs.lemmas.List.Splits.{join_with_byte-slice_split}
-use Rattle.std.proofs.lemmas.Slice.Eq.{bytes_eq-Decides}
-use Rattle.osbase.specs.Names.{is_name}
-use Rattle.osbase.specs.Objects.{object_of_call}
-use Rattle.osbase.specs.declared.messages.RemoteCall.{RemoteCall}
-use Rattle.osbase.specs.declared.objects.Object.{Object as ObjectOf}
-use Rattle.osbase.specs.declared.objects.ObjectKind.{ObjectKind}
-use Rattle.osbase.specs.declared.objects.Place.{Place}
-use Rattle.osbase.specs.declared.references.CoreId.{CoreId}
-use Rattle.oscript.specs.declared.Op.{Op}
-use Rattle.oscript.specs.declared.rows.Arg.{Arg}
+use Rattle.std.specs.{Fmt.decimal, List.join_with_byte, List.list_all, Str.bytes_eq}
+use Rattle.std.proofs.{lemmas.Bool.and_from, lemmas.Bool.and_parts, lemmas.Bool.leb-true, lemmas.Fmt.decimal_digit, lemmas.List.Splits.join_with_byte-slice_split, lemmas.Slice.Eq.bytes_eq-Decides}
+use Rattle.osbase.specs.{Names.is_name, Objects.object_of_call, declared.messages.RemoteCall.RemoteCall, declared.objects.Object.Object as ObjectOf, declared.objects.ObjectKind.ObjectKind, declared.objects.Place.Place, declared.references.CoreId.CoreId}
+use Rattle.oscript.specs.{declared.Op.Op, declared.rows.Arg.Arg, declared.rows.Kind.Kind, declared.rows.TheConstants.VERBS, declared.rows.Verb.Verb, Calls.named_call, Calls.op_of_call}
 use Rattle.oscript.specs.declared.rows.Arg.TheVariants.{Core, Object, Mask, Number, Int, Variable}
-use Rattle.oscript.specs.declared.rows.Kind.{Kind}
-use Rattle.oscript.specs.declared.rows.TheConstants.{VERBS}
-use Rattle.oscript.specs.declared.rows.Verb.{Verb}
-use Rattle.oscript.specs.Calls.{named_call, op_of_call}
 use Rattle.oscript.specs.Rows.{are_of, parsed_op_of, has_event, has_masks, is_in_form, kinds_of, objects_in, objects_of, op_of, word_of}
-use Rattle.oscript.proofs.Acting.{call-back as table-back, call-objects}
-use Rattle.oscript.proofs.Homes.{args-home}
+use Rattle.oscript.proofs.{Acting.call-back as table-back, Acting.call-objects, Homes.args-home}
 use Rattle.ossyntax.specs.Call.{call_words, form_words}
 use Rattle.ossyntax.specs.ParsedOp.{arg_of, arg_text, args_of, form_of_verb, form_of_words, verb_of, words_of}
 use Rattle.ossyntax.specs.Operation.{named, op_text, resolve_arg, resolve_args, resolved}
 use Rattle.ossyntax.specs.Word.{core_numbered, core_of, is_decimal, mask_of, number_in, target_of, variable_of, int_of}
-use Rattle.ossyntax.proofs.Fitting.{args-fit, formed-args}
-use Rattle.ossyntax.proofs.Joining.{has_none}
+use Rattle.ossyntax.proofs.{Fitting.args-fit, Fitting.formed-args, Joining.has_none, Operations.IsNamed, Operations.text-meant, Operations.text-none, RoundTrip.both, RoundTrip.chained, Rows.is-row}
 use Rattle.ossyntax.proofs.KindTexts.{cond-some, either, is_kind, mapped}
-use Rattle.ossyntax.proofs.Operations.{IsNamed, text-meant, text-none}
-use Rattle.ossyntax.proofs.RoundTrip.{both, chained}
-use Rattle.ossyntax.proofs.Rows.{is-row}
-use Rattle.osplan.proofs.SpinlockObjects.{stays}
-use Rattle.osplan.proofs.Tests.{find-holds}
-use Rattle.osplan.specs.Representable.{is_representable}
-use Rattle.osplan.specs.Limits.{is_object, is_within_limits}
-use Rattle.osplan.specs.Names.{name_of}
-use Rattle.osplan.specs.declared.plans.Plan.{Plan}
-use Rattle.oslog.specs.Naming.{if_object, named_by, place_named}
-use Rattle.oslog.specs.Words.{call_in, call_of, op_of_words}
-use Rattle.oslog.specs.Logs.{is_call_representable}
+use Rattle.osplan.proofs.{SpinlockObjects.stays, Tests.find-holds}
+use Rattle.osplan.specs.{Representable.is_representable, Limits.is_object, Limits.is_within_limits, Names.name_of, declared.plans.Plan.Plan}
+use Rattle.oslog.specs.{Naming.if_object, Naming.named_by, Naming.place_named, Words.call_in, Words.call_of, Words.op_of_words, Logs.is_call_representable}
 use Rattle.oslog.proofs.WordKinds.{int-word, number-word, place-spells, place-there}
-use Rattle.oslog.proofs.Joining.{end-apart, joined-parts, split-none}
-use Rattle.oslog.proofs.Named.{named-formed, place-found}
+use Rattle.oslog.proofs.{Joining.end-apart, Joining.joined-parts, Joining.split-none, Named.named-formed, Named.place-found}
 
 -- ---- calls
 

@@ -1,54 +1,25 @@
 -- The line of a representable item says the item. It has no line end, and is not empty.
 use Rattle.std.proofs.Common.{◌≡◌, ℕ, ◌<◌, ◌≤◌, ◌^◌, ◌==◌, ◌&&◌, ℤ, true, false, not, nat_le, Some, None, option_map, List, [], ◌∷◌, length, map, IsTrue, refl, ap, ◌∙◌, ◌⊎◌, inl, inr, arith}
-use Rattle.std.specs.Fmt.{decimal, signed_decimal}
-use Rattle.std.specs.List.{join_with_byte, list_all}
+use Rattle.std.specs.{Fmt.decimal, Fmt.signed_decimal, List.join_with_byte, List.list_all}
 use Rattle.std.proofs.lemmas.List.Folds.{list_all-append}
 use Rattle.std.proofs.lemmas.Bool.{and_from, and_parts, eqb-true, leb-true}
-use Rattle.osbase.specs.Names.{is_name, is_name_part}
-use Rattle.osbase.specs.Objects.{isr_object, isr_of}
-use Rattle.osbase.specs.Words.{status_name}
-use Rattle.osbase.specs.declared.items.Agreement.{Agreement}
-use Rattle.osbase.specs.declared.items.Item.{Item}
-use Rattle.osbase.specs.declared.items.Stimulus.{Stimulus}
-use Rattle.osbase.specs.declared.messages.Message.{Message}
-use Rattle.osbase.specs.declared.objects.ObjectKind.{ObjectKind}
-use Rattle.osbase.specs.declared.references.CoreId.{CoreId}
-use Rattle.osbase.specs.declared.statuses.Status.{Status}
-use Rattle.osbase.specs.declared.statuses.Status.TheVariants.{EOk}
-use Rattle.oscript.specs.Rows.{is_int}
-use Rattle.oscript.specs.declared.rows.Arg.TheVariants.{Int, Number, Object}
+use Rattle.osbase.specs.{Names.is_name, Names.is_name_part, Objects.isr_object, Objects.isr_of, Words.status_name, declared.items.Agreement.Agreement, declared.items.Item.Item, declared.items.Stimulus.Stimulus, declared.messages.Message.Message, declared.objects.ObjectKind.ObjectKind, declared.references.CoreId.CoreId, declared.statuses.Status.Status, declared.statuses.Status.TheVariants.EOk}
+use Rattle.oscript.specs.{Rows.is_int, declared.rows.Arg.TheVariants.Int, declared.rows.Arg.TheVariants.Number, declared.rows.Arg.TheVariants.Object}
 use Rattle.oscript.specs.declared.rows.Kind as operation
-use Rattle.ossyntax.specs.ParsedOp.{words_of}
-use Rattle.ossyntax.specs.Word.{int_of, number_in}
+use Rattle.ossyntax.specs.{ParsedOp.words_of, Word.int_of, Word.number_in}
 use Rattle.ossyntax.proofs.Joining.{all-none, has_none, joined-none, some-more, split-joined}
 use Rattle.ossyntax.proofs.KindTexts.{IsApart, arg_of-none, int-back, mapped, name-back, number-back}
 use Rattle.ossyntax.proofs.RoundTrip.{space-apart}
-use Rattle.osplan.proofs.Tests.{all-append}
-use Rattle.osplan.specs.Representable.{is_representable}
-use Rattle.osplan.specs.Limits.{is_within_limits}
-use Rattle.osplan.specs.Names.{isr_name, name_of_mode, spinlock_name}
-use Rattle.osplan.specs.declared.plans.Plan.{Plan}
-use Rattle.oslog.specs.Forms.{form_of}
+use Rattle.osplan.proofs.{Tests.all-append, ModeObjects.mode-said}
+use Rattle.osplan.specs.{Representable.is_representable, Limits.is_within_limits, Names.isr_name, Names.name_of_mode, Names.spinlock_name, declared.plans.Plan.Plan}
+use Rattle.oslog.specs.{Forms.form_of, Logs.is_core_number, Logs.is_message_representable, Logs.is_item_representable, Naming.isr_named, Rows.keyword_text, Rows.row_of, declared.forms.Parts.Parts, declared.rows.Keyword.Keyword as Word, declared.rows.Kind.Kind, declared.rows.Tail.Tail, declared.rows.TheConstants.LINES}
 use Rattle.oslog.specs.Items.{first_item, item_as, item_of_text, later_words, led, line_of}
-use Rattle.oslog.specs.Logs.{is_core_number, is_message_representable, is_item_representable}
-use Rattle.oslog.specs.Naming.{isr_named}
-use Rattle.oslog.specs.Rows.{keyword_text, row_of}
 use Rattle.oslog.specs.Words.{core_of, irq_prefix, status_of, tail_words, word_text}
-use Rattle.oslog.specs.declared.forms.Parts.{Parts}
-use Rattle.oslog.specs.declared.rows.Keyword.{Keyword as Word}
 use Rattle.oslog.specs.declared.rows.Keyword.TheVariants as W
-use Rattle.oslog.specs.declared.rows.Kind.{Kind}
 use Rattle.oslog.specs.declared.rows.Kind.TheVariants as K
-use Rattle.oslog.specs.declared.rows.Tail.{Tail}
 use Rattle.oslog.specs.declared.rows.Tail.TheVariants as T
-use Rattle.oslog.specs.declared.rows.TheConstants.{LINES}
-use Rattle.oslog.proofs.Calls.{call-read}
-use Rattle.oslog.proofs.Cores.{cores-none, cores-read}
-use Rattle.oslog.proofs.Joining.{end-apart, led-joined}
+use Rattle.oslog.proofs.{Calls.call-read, Cores.cores-none, Cores.cores-read, Joining.end-apart, Joining.led-joined, Sound.is_tail_representable, WordKinds.is_part_representable}
 use Rattle.oslog.proofs.Named.{mode-found, object-formed, place-found, spinlock-formed, spinlock-found}
-use Rattle.osplan.proofs.ModeObjects.{mode-said}
-use Rattle.oslog.proofs.Sound.{is_tail_representable}
-use Rattle.oslog.proofs.WordKinds.{is_part_representable}
 
 -- ---- words
 

@@ -1,28 +1,14 @@
 -- The numbers of a set's cores are the words that say it, and back.
 use Rattle.std.proofs.Common.{rules, inl, inr, ◌≡◌, ◌≢◌, ℕ, zero, suc, ◌+◌, ◌-◌, ◌<◌, ◌≤◌, ◌&&◌, nat_lt, Bool, true, false, cond, Some, option_and_then, List, [], ◌∷◌, ◌++◌, map, length, replicate, set, filter, refl, sym, ap, ◌∙◌, arith, get_or-set_other, get_or-set_same, length-set}
-use Rattle.std.specs.Char.{is_ascii_digit}
-use Rattle.std.specs.Fmt.{decimal}
-use Rattle.std.specs.List.{list_all}
-use Rattle.std.proofs.lemmas.Bool.{cases_eq, ltb-true}
-use Rattle.std.proofs.lemmas.Fmt.{digits_decimal}
-use Rattle.std.proofs.lemmas.List.{append-nil, append_assoc, ext_get_or}
-use Rattle.std.proofs.lemmas.List.Folds.{list_all-map}
-use Rattle.osbase.specs.declared.items.CoreSet.{CoreSet}
-use Rattle.osbase.specs.declared.limits.TheConstants.{CORES}
-use Rattle.osbase.specs.declared.references.CoreId.{CoreId}
-use Rattle.osbase.specs.History.{no_cores}
-use Rattle.osbase.specs.Sets.{core_ids, has_core, numbers_from}
+use Rattle.std.specs.{Char.is_ascii_digit, Fmt.decimal, List.list_all}
+use Rattle.std.proofs.{lemmas.Bool.cases_eq, lemmas.Bool.ltb-true, lemmas.Fmt.digits_decimal, lemmas.List.append-nil, lemmas.List.append_assoc, lemmas.List.ext_get_or, lemmas.List.Folds.list_all-map}
+use Rattle.osbase.specs.{declared.items.CoreSet.CoreSet, declared.limits.TheConstants.CORES, declared.references.CoreId.CoreId, History.no_cores, Sets.core_ids, Sets.has_core, Sets.numbers_from}
 use Rattle.ossyntax.specs.Word.{number_in}
-use Rattle.ossyntax.proofs.Joining.{all-none, has_none}
-use Rattle.ossyntax.proofs.KindTexts.{number-back}
-use Rattle.ossyntax.proofs.Numerals.{own}
-use Rattle.ossyntax.proofs.RoundTrip.{chained}
+use Rattle.ossyntax.proofs.{Joining.all-none, Joining.has_none, KindTexts.number-back, Numerals.own, RoundTrip.chained}
 use Rattle.osbase.proofs.Sets.{flag-read, has_core-flag, no-flag}
 use Rattle.osplan.proofs.Tests.{all-filter, all-weaker}
-use Rattle.oslog.specs.Items.{led}
-use Rattle.oslog.specs.Words.{core_words, cores_from, with_core}
-use Rattle.oslog.proofs.Joining.{led-append}
-use Rattle.oslog.proofs.WordKinds.{number-within, number-word}
+use Rattle.oslog.specs.{Items.led, Words.core_words, Words.cores_from, Words.with_core}
+use Rattle.oslog.proofs.{Joining.led-append, WordKinds.number-within, WordKinds.number-word}
 
 abbrev pub at : ℕ → CoreId
 at n = record { number = n }

@@ -3,15 +3,7 @@ use Rattle.std.proofs.Common.{◌≡◌, ℕ, List, ◌++◌, map, Result, Ok, E
 use Rattle.std.proofs.lemmas.List.{append_assoc}
 use Rattle.osbase.specs.declared.items.Item.{Item}
 use Rattle.osplan.specs.declared.plans.Plan.{Plan}
-use Rattle.oslog.specs.Forms.{form_of}
-use Rattle.oslog.specs.Items.{later_words, led, line_of}
-use Rattle.oslog.specs.Rows.{keyword_text, row_of}
-use Rattle.oslog.specs.Words.{tail_words, word_text}
-use Rattle.oslog.specs.declared.forms.Parts.{Parts}
-use Rattle.oslog.specs.declared.rows.Keyword.{Keyword as Word}
-use Rattle.oslog.specs.declared.rows.Kind.{Kind}
-use Rattle.oslog.specs.declared.rows.Line.{Line}
-use Rattle.oslog.specs.declared.rows.Tail.{Tail}
+use Rattle.oslog.specs.{Forms.form_of, Items.later_words, Items.led, Items.line_of, Rows.keyword_text, Rows.row_of, Words.tail_words, Words.word_text, declared.forms.Parts.Parts, declared.rows.Keyword.Keyword as Word, declared.rows.Kind.Kind, declared.rows.Line.Line, declared.rows.Tail.Tail}
 use Rattle.oslog.proofs.Joining.{led-append}
 
 on-ok : {A E : Type 0} (P Q : Type 0) (r : Result A E) → OnOk r P → (P → Q) → OnOk r Q

@@ -1,13 +1,10 @@
 -- A line by its words.
 use Rattle.std.proofs.Common.{◌≡◌, ℕ, ◌==◌, Bool, true, false, not, cond, ◌+◌, ◌<◌, length, map, take, get_or, List, [], ◌∷◌, ◌++◌, refl, sym, ap, ◌∙◌}
 use Rattle.std.specs.List.{join_with_byte, list_all, onto_first, slice_split}
-use Rattle.std.proofs.lemmas.Bool.{and_from, and_parts, not_from_false}
-use Rattle.std.proofs.lemmas.List.Folds.{list_all-append}
+use Rattle.std.proofs.{lemmas.Bool.and_from, lemmas.Bool.and_parts, lemmas.Bool.not_from_false, lemmas.List.Folds.list_all-append, lemmas.List.Splits.join_with_byte-slice_split}
 use Rattle.std.proofs.lemmas.List.{append-nil, append_assoc, map-append, take_more}
-use Rattle.std.proofs.lemmas.List.Splits.{join_with_byte-slice_split}
 use Rattle.ossyntax.specs.ParsedOp.{words_of}
-use Rattle.ossyntax.proofs.Joining.{has_none}
-use Rattle.ossyntax.proofs.KindTexts.{IsApart}
+use Rattle.ossyntax.proofs.{Joining.has_none, KindTexts.IsApart}
 use Rattle.oslog.specs.Items.{led}
 
 pub led-append : (xs ys : List (List ℕ)) → led (xs ++ ys) ≡ led xs ++ led ys

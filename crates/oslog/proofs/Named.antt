@@ -1,41 +1,21 @@
 -- What has a name in a configuration: each has a name of its own, in form, and is found by it.
 use Rattle.std.proofs.Common.{◌≡◌, ℕ, zero, suc, ◌+◌, ◌<◌, ◌⊎◌, nat_lt, Bool, true, false, not, cond, List, [], ◌∷◌, ◌++◌, length, map, get_or, Option, Some, None, option_and_then, option_map, slice_get, unwrap_or, IsTrue, inl, inr, refl, sym, ap, ◌∙◌, subst, arith}
 use Rattle.std.specs.List.{AllByRecursion, find, flat_map, list_all, list_any}
-use Rattle.std.specs.Option.{option_map_or}
-use Rattle.std.specs.Str.{bytes_eq}
+use Rattle.std.specs.{Option.option_map_or, Str.bytes_eq}
 use Rattle.std.proofs.lemmas.Bool.{and_from, and_parts, cases_Bool, lt-ltb, ltb-true, not-true, or_cases, or_left, or_right, true≢false}
-use Rattle.std.proofs.lemmas.List.{length-map, map-append}
-use Rattle.std.proofs.lemmas.List.Folds.{list_all-map}
-use Rattle.std.proofs.lemmas.Option.{slice_get-get_or}
-use Rattle.std.proofs.lemmas.Simd.{map-map}
-use Rattle.std.proofs.lemmas.Slice.Eq.{bytes_eq-Decides}
-use Rattle.osbase.proofs.Places.{passes-at}
-use Rattle.osbase.proofs.Same.{same_core-true, same_kind-self, same_kind-true}
-use Rattle.osbase.specs.History.{same_core}
-use Rattle.osbase.specs.Names.{is_name}
+use Rattle.std.proofs.{lemmas.List.length-map, lemmas.List.map-append, lemmas.List.Folds.list_all-map, lemmas.Option.slice_get-get_or, lemmas.Simd.map-map, lemmas.Slice.Eq.bytes_eq-Decides}
+use Rattle.osbase.proofs.{Places.passes-at, Same.same_core-true, Same.same_kind-self, Same.same_kind-true}
+use Rattle.osbase.specs.{History.same_core, Names.is_name, declared.objects.TheConstants.NOBODY, Sets.numbers_from, declared.objects.Object.Object, declared.objects.ObjectKind.ObjectKind, declared.references.CoreId.CoreId, declared.references.ModeId.ModeId, declared.references.SpinlockId.SpinlockId}
 use Rattle.osbase.specs.Objects.{mode_object, mode_of, place_on, same_kind, spinlock_object, spinlock_of}
-use Rattle.osbase.specs.declared.objects.TheConstants.{NOBODY}
-use Rattle.osbase.specs.Sets.{numbers_from}
-use Rattle.osbase.specs.declared.objects.Object.{Object}
-use Rattle.osbase.specs.declared.objects.ObjectKind.{ObjectKind}
-use Rattle.osbase.specs.declared.references.CoreId.{CoreId}
-use Rattle.osbase.specs.declared.references.ModeId.{ModeId}
-use Rattle.osbase.specs.declared.references.SpinlockId.{SpinlockId}
 use Rattle.ossyntax.proofs.RoundTrip.{chained}
-use Rattle.osplan.proofs.Found.{IsFound, each-found}
-use Rattle.osplan.proofs.ModeObjects.{mode-named, nobody, there-mode}
-use Rattle.osplan.proofs.SpinlockObjects.{there-spinlock}
+use Rattle.osplan.proofs.{Found.IsFound, Found.each-found, ModeObjects.mode-named, ModeObjects.nobody, ModeObjects.there-mode, SpinlockObjects.there-spinlock}
 use Rattle.osplan.proofs.Tests.{all-append, all-flat, all-weaker, any-mapped, find-holds, find-passes}
 use Rattle.osplan.proofs.Within.{core-text-parts, few-modes, few-objects, few-spinlocks, fits, limit-parts, names-formed, text-parts}
 use Rattle.osplan.specs.Representable.{all_common_names, are_distinct, declared_names, is_core_representable, is_representable, is_mode_representable, object_names}
 use Rattle.osplan.specs.Limits.{core_sizes, is_core_within, is_mode, is_object, is_spinlock, is_within_limits, sizes_of}
 use Rattle.osplan.specs.Names.{common_name, name_in, name_of, name_of_mode, spinlock_name}
 use Rattle.osplan.specs.Objects.{common_names, is_common, names_in, object_count}
-use Rattle.osplan.specs.View.{core_of}
-use Rattle.osplan.specs.declared.plans.Core.{Core}
-use Rattle.osplan.specs.declared.plans.Plan.{Plan}
-use Rattle.osplan.specs.declared.plans.Spinlock.{Spinlock}
-use Rattle.osplan.specs.declared.plans.TheConstants.{COMMON, KINDS}
+use Rattle.osplan.specs.{View.core_of, declared.plans.Core.Core, declared.plans.Plan.Plan, declared.plans.Spinlock.Spinlock, declared.plans.TheConstants.COMMON, declared.plans.TheConstants.KINDS}
 use Rattle.oslog.specs.Naming.{HasFew, HasFewCommon, all_named, common_in, if_object, mode_named, name_of_object, named_by, named_in, object_under, objects_in, objects_under, place_named, spinlock_named}
 
 -- ---- lists by their places

@@ -1,13 +1,9 @@
 -- The list of all that has a name, and its index, made from the last name on.
 use Rattle.std.proofs.Common.{◌≡◌, ℕ, zero, suc, ◌+◌, ◌<◌, cond, List, [], ◌∷◌, ◌++◌, length, map, drop, get_or, Some, sym, ap, subst, ◌∙◌, add-one, append_assoc, arith}
-use Rattle.std.specs.Borrow.{Bor}
-use Rattle.std.specs.HashMap.{HashMap}
-use Rattle.std.specs.Map.{update}
-use Rattle.std.specs.Str.{bytes_eq}
+use Rattle.std.specs.{Borrow.Bor, HashMap.HashMap, Map.update, Str.bytes_eq}
 use Rattle.std.proofs.lemmas.List.{get_or_default}
-use Rattle.osbase.specs.Sets.{numbers_from}
+use Rattle.osbase.specs.{Sets.numbers_from, declared.objects.Object.Object}
 use Rattle.osjson.proofs.Each.{drop-here}
-use Rattle.osbase.specs.declared.objects.Object.{Object}
 use Rattle.osplan.specs.declared.plans.Plan.{Plan}
 use Rattle.oslog.specs.Naming.{Indexes, index_in, name_of_object}
 

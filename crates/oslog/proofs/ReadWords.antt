@@ -3,12 +3,8 @@ use Rattle.std.proofs.Common.{◌≡◌, ◌&&◌, Bool, true, Option, Some, Lis
 use Rattle.std.specs.List.{list_all}
 use Rattle.std.proofs.lemmas.Bool.{and_parts, and_from}
 use Rattle.ossyntax.proofs.RoundTrip.{chained}
-use Rattle.osplan.specs.Representable.{is_representable}
-use Rattle.osplan.specs.Limits.{is_within_limits}
-use Rattle.osplan.specs.declared.plans.Plan.{Plan}
-use Rattle.oslog.specs.Words.{read_words, with_word, word_text}
-use Rattle.oslog.specs.declared.forms.Parts.{Parts}
-use Rattle.oslog.specs.declared.rows.Kind.{Kind}
+use Rattle.osplan.specs.{Representable.is_representable, Limits.is_within_limits, declared.plans.Plan.Plan}
+use Rattle.oslog.specs.{Words.read_words, Words.with_word, Words.word_text, declared.forms.Parts.Parts, declared.rows.Kind.Kind}
 use Rattle.oslog.proofs.WordKinds.{apart, is_part_representable, part_view, word-back, word-stays}
 
 -- No kind stands twice, but for keywords.

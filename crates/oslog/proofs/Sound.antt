@@ -1,40 +1,18 @@
 -- The item of a line has that line, and is representable.
 use Rattle.std.proofs.Common.{◌≡◌, ℕ, ◌==◌, ◌&&◌, Bool, true, Option, Some, None, option_and_then, List, [], ◌∷◌, ◌++◌, length, map, IsTrue, refl, sym, ap, ◌∙◌, arith}
-use Rattle.std.specs.List.{list_all}
-use Rattle.std.specs.Option.{option_or}
-use Rattle.std.specs.Str.{bytes_eq}
-use Rattle.std.proofs.lemmas.Bool.{eq-eqb}
-use Rattle.std.proofs.lemmas.Slice.Eq.{bytes_eq-Decides}
-use Rattle.osbase.specs.History.{no_cores}
-use Rattle.osbase.specs.declared.items.CoreSet.{CoreSet}
-use Rattle.osbase.specs.declared.items.Item.{Item}
-use Rattle.osbase.specs.declared.limits.TheConstants.{CORES}
-use Rattle.osbase.specs.declared.messages.RemoteCall.{RemoteCall}
+use Rattle.std.specs.{List.list_all, Option.option_or, Str.bytes_eq}
+use Rattle.std.proofs.{lemmas.Bool.eq-eqb, lemmas.Slice.Eq.bytes_eq-Decides}
+use Rattle.osbase.specs.{History.no_cores, declared.items.CoreSet.CoreSet, declared.items.Item.Item, declared.limits.TheConstants.CORES, declared.messages.RemoteCall.RemoteCall}
 use Rattle.ossyntax.specs.ParsedOp.{words_of}
-use Rattle.ossyntax.proofs.KindTexts.{cond-some, mapped}
-use Rattle.ossyntax.proofs.RoundTrip.{chained}
-use Rattle.osplan.specs.Representable.{is_representable}
-use Rattle.osplan.specs.Limits.{is_within_limits}
-use Rattle.osplan.specs.declared.plans.Plan.{Plan}
-use Rattle.oslog.specs.Forms.{form_of, item_of, no_parts}
+use Rattle.ossyntax.proofs.{KindTexts.cond-some, KindTexts.mapped, RoundTrip.chained}
+use Rattle.osplan.specs.{Representable.is_representable, Limits.is_within_limits, declared.plans.Plan.Plan}
+use Rattle.oslog.specs.{Forms.form_of, Forms.item_of, Forms.no_parts, Logs.is_call_representable, Logs.is_item_representable, Rows.keyword_text, Rows.row_of, declared.forms.Parts.Parts, declared.rows.Keyword.Keyword as Word, declared.rows.Kind.Kind, declared.rows.Line.Line, declared.rows.Tail.Tail, declared.rows.TheConstants.LINES}
 use Rattle.oslog.specs.Items.{first_item, item_as, item_behind, item_of_text, later_words, led, line_of}
-use Rattle.oslog.specs.Logs.{is_call_representable, is_item_representable}
-use Rattle.oslog.specs.Rows.{keyword_text, row_of}
 use Rattle.oslog.specs.Words.{call_of, cores_from, read_words, tail_words, with_tail, word_text}
-use Rattle.oslog.specs.declared.forms.Parts.{Parts}
-use Rattle.oslog.specs.declared.rows.Keyword.{Keyword as Word}
-use Rattle.oslog.specs.declared.rows.Kind.{Kind}
 use Rattle.oslog.specs.declared.rows.Kind.TheVariants as K
-use Rattle.oslog.specs.declared.rows.Line.{Line}
 use Rattle.oslog.specs.declared.rows.Line.TheVariants as L
-use Rattle.oslog.specs.declared.rows.Tail.{Tail}
 use Rattle.oslog.specs.declared.rows.Tail.TheVariants as T
-use Rattle.oslog.specs.declared.rows.TheConstants.{LINES}
-use Rattle.oslog.proofs.Calls.{call-back}
-use Rattle.oslog.proofs.Cores.{cores-back}
-use Rattle.oslog.proofs.Joining.{text-of-words}
-use Rattle.oslog.proofs.ReadWords.{are_apart, reads-back}
-use Rattle.oslog.proofs.WordKinds.{is_part_representable, part_view}
+use Rattle.oslog.proofs.{Calls.call-back, Cores.cores-back, Joining.text-of-words, ReadWords.are_apart, ReadWords.reads-back, WordKinds.is_part_representable, WordKinds.part_view}
 
 -- ---- what is true of every row, one case for each, found by the check itself
 

@@ -4,10 +4,7 @@ use Rattle.std.specs.Borrow.{Bor}
 use Rattle.ossyntax.specs.ParsedOp.{rest_words, words_of}
 use Rattle.ossyntax.proofs.Wording.{some-word}
 use Rattle.osplan.specs.declared.plans.Plan.{Plan}
-use Rattle.oslog.specs.Words.{read_words, with_tail}
-use Rattle.oslog.specs.declared.forms.Parts.{Parts}
-use Rattle.oslog.specs.declared.rows.Kind.{Kind}
-use Rattle.oslog.specs.declared.rows.Tail.{Tail}
+use Rattle.oslog.specs.{Words.read_words, Words.with_tail, declared.forms.Parts.Parts, declared.rows.Kind.Kind, declared.rows.Tail.Tail}
 use Rattle.oslog.specs.declared.rows.Tail.TheVariants as T
 
 -- ---- the words of a row

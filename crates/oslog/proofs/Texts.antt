@@ -1,26 +1,15 @@
 -- The text of items, and the items of a text.
-use Rattle.std.proofs.lemmas.Option.{same_Some}
+use Rattle.std.proofs.{lemmas.Option.same_Some, Math.Dec.eqb-suc-zero, lemmas.List.append-nil, lemmas.List.append_assoc, lemmas.List.Folds.flat_map-map, lemmas.List.Splits.join_with_byte-slice_split, lemmas.List.Splits.length-slice_split, lemmas.List.Sums.count_by-le-length}
 use Rattle.std.proofs.Common.{◌≡◌, ◌≢◌, ◌⊎◌, ℕ, ◌≤◌, ◌==◌, Bool, true, false, not, cond, nat_le, Some, None, option_map, option_and_then, List, [], ◌∷◌, ◌++◌, ◌+◌, length, map, IsTrue, IfOk, Result, Ok, Err, inl, inr, refl, sym, ap, ◌∙◌, arith}
 use Rattle.std.specs.List.{flat_map, join_with_byte, list_all, slice_split}
 use Rattle.std.proofs.lemmas.Bool.{and_from, and_parts, eqb-true, le-leb, not-true}
-use Rattle.std.proofs.Math.Dec.{eqb-suc-zero}
-use Rattle.std.proofs.lemmas.List.{append-nil, append_assoc}
-use Rattle.std.proofs.lemmas.List.Folds.{flat_map-map}
-use Rattle.std.proofs.lemmas.List.Splits.{join_with_byte-slice_split, length-slice_split}
-use Rattle.std.proofs.lemmas.List.Sums.{count_by-le-length}
 use Rattle.osbase.specs.declared.items.Item.{Item}
-use Rattle.ossyntax.proofs.Joining.{has_none, some-more as more-of, split-joined}
-use Rattle.ossyntax.proofs.KindTexts.{mapped}
-use Rattle.ossyntax.proofs.RoundTrip.{chained}
-use Rattle.osplan.specs.Representable.{is_representable}
-use Rattle.osplan.specs.Limits.{is_within_limits}
-use Rattle.osplan.specs.declared.plans.Plan.{Plan}
+use Rattle.ossyntax.proofs.{Joining.has_none, Joining.some-more as more-of, Joining.split-joined, KindTexts.mapped, RoundTrip.chained}
+use Rattle.osplan.specs.{Representable.is_representable, Limits.is_within_limits, declared.plans.Plan.Plan}
 use Rattle.osjson.specs.Reading.{each, each_of_few, parts_of}
-use Rattle.oslog.specs.Items.{item_of_text, line_of}
+use Rattle.oslog.specs.{Items.item_of_text, Items.line_of, declared.faults.LogFault.LogFault}
 use Rattle.oslog.specs.Logs.{IsLog, IsTextOf, before_end, is_item_representable, log_of_text, log_text, without_last_end}
-use Rattle.oslog.specs.declared.faults.LogFault.{LogFault}
-use Rattle.oslog.proofs.Complete.{line-none, line-read, line-some}
-use Rattle.oslog.proofs.Sound.{line-back}
+use Rattle.oslog.proofs.{Complete.line-none, Complete.line-read, Complete.line-some, Sound.line-back}
 
 -- ---- lines with their ends
 

@@ -1,42 +1,21 @@
 -- What a word of each kind says, and its text: a word that is read is the text of what it says, and that is representable.
 use Rattle.std.proofs.Common.{rules, inl, inr, ◌≡◌, ℕ, suc, ◌-◌, ◌<◌, ◌≤◌, ◌^◌, ◌==◌, ◌&&◌, nat_le, ℤ, pos, negsuc, Bool, true, false, Some, option_map, List, [], ◌∷◌, ◌++◌, length, get_or, IsTrue, refl, sym, ap, subst, ◌∙◌, arith}
-use Rattle.std.specs.Fmt.{decimal, signed_decimal}
-use Rattle.std.specs.Str.{bytes_eq}
-use Rattle.std.specs.Str.Parse.{digits_value}
-use Rattle.std.proofs.lemmas.Bool.{and_parts, eqb-true, le-leb}
-use Rattle.std.proofs.lemmas.Fmt.{decimal-digits_value}
-use Rattle.std.proofs.lemmas.Slice.Eq.{bytes_eq-Decides}
+use Rattle.std.specs.{Fmt.decimal, Fmt.signed_decimal, Str.bytes_eq, Str.Parse.digits_value}
+use Rattle.std.proofs.{lemmas.Bool.and_parts, lemmas.Bool.eqb-true, lemmas.Bool.le-leb, lemmas.Fmt.decimal-digits_value, lemmas.Slice.Eq.bytes_eq-Decides}
 use Rattle.osbase.proofs.Same.{same_kind-true}
 use Rattle.osbase.specs.Objects.{isr_object, isr_of, mode_of, mode_place, place_on, spinlock_of, spinlock_place}
-use Rattle.osbase.specs.declared.objects.Object.{Object}
-use Rattle.osbase.specs.Words.{status_name}
-use Rattle.osbase.specs.declared.objects.ObjectKind.{ObjectKind}
-use Rattle.osbase.specs.declared.objects.Place.{Place}
-use Rattle.osbase.specs.declared.references.CoreId.{CoreId}
-use Rattle.osbase.specs.declared.references.IsrRef.{IsrRef}
-use Rattle.osbase.specs.declared.references.ModeId.{ModeId}
-use Rattle.osbase.specs.declared.references.SpinlockId.{SpinlockId}
-use Rattle.osbase.specs.declared.statuses.Status.{Status}
+use Rattle.osbase.specs.{declared.objects.Object.Object, Words.status_name, declared.objects.ObjectKind.ObjectKind, declared.objects.Place.Place, declared.references.CoreId.CoreId, declared.references.IsrRef.IsrRef, declared.references.ModeId.ModeId, declared.references.SpinlockId.SpinlockId, declared.statuses.Status.Status, declared.statuses.TheConstants.STATUS_LIST}
 use Rattle.oscript.specs.Rows.{is_int}
 use Rattle.ossyntax.specs.Word.{bounded, int_of, is_decimal, is_unpadded, number_in}
-use Rattle.ossyntax.proofs.KindTexts.{cond-some, either, mapped}
-use Rattle.ossyntax.proofs.Numerals.{decimal-digits, decimal-some, own}
-use Rattle.ossyntax.proofs.RoundTrip.{chained}
-use Rattle.osplan.proofs.Tests.{find-holds}
-use Rattle.osplan.specs.Representable.{is_representable}
+use Rattle.ossyntax.proofs.{KindTexts.cond-some, KindTexts.either, KindTexts.mapped, Numerals.decimal-digits, Numerals.decimal-some, Numerals.own, RoundTrip.chained}
+use Rattle.osplan.proofs.{Tests.find-holds, ModeObjects.mode-named, ModeObjects.mode-there, ModeObjects.nobody, SpinlockObjects.spinlock-there, Within.limit-parts}
+use Rattle.osplan.specs.{Representable.is_representable, declared.plans.Plan.Plan}
 use Rattle.osplan.specs.Limits.{is_mode, is_object, is_spinlock, is_within_limits}
 use Rattle.osplan.specs.Names.{isr_name, name_of, name_of_mode, spinlock_name}
-use Rattle.osplan.specs.declared.plans.Plan.{Plan}
 use Rattle.oslog.specs.Naming.{all_named, if_object, isr_named, mode_named, name_of_object, named_by, place_named, spinlock_named}
-use Rattle.oslog.specs.Rows.{keyword_text}
+use Rattle.oslog.specs.{Rows.keyword_text, declared.forms.Parts.Parts, declared.rows.Kind.Kind}
 use Rattle.oslog.specs.Words.{behind, core_of, irq_of, irq_prefix, status_of, with_word, word_text}
-use Rattle.oslog.specs.declared.forms.Parts.{Parts}
-use Rattle.osplan.proofs.ModeObjects.{mode-named, mode-there, nobody}
-use Rattle.osplan.proofs.SpinlockObjects.{spinlock-there}
-use Rattle.osplan.proofs.Within.{limit-parts}
-use Rattle.oslog.specs.declared.rows.Kind.{Kind}
 use Rattle.oslog.specs.declared.rows.Kind.TheVariants as K
-use Rattle.osbase.specs.declared.statuses.TheConstants.{STATUS_LIST}
 use Rattle.oslog.proofs.Named.{named-there}
 
 -- ---- numbers

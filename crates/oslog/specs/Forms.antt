@@ -1,14 +1,10 @@
 -- Items as forms: which form an item has, with the parts of its line, and the item of them again. [own]
 use Rattle.std.specs.Prelude.{pos, true, false, if◌then◌else◌, Some, None}
-use Rattle.osbase.specs.History.{no_cores}
+use Rattle.osbase.specs.{History.no_cores, declared.items.Item.Item, declared.messages.Message.Message, declared.statuses.Status.TheVariants.EOk}
 use Rattle.osbase.specs.declared.items.Agreement.TheVariants as Agreement
-use Rattle.osbase.specs.declared.items.Item.{Item}
 use Rattle.osbase.specs.declared.items.Stimulus.TheVariants as Stimulus
-use Rattle.osbase.specs.declared.messages.Message.{Message}
-use Rattle.osbase.specs.declared.statuses.Status.TheVariants.{EOk}
 use Rattle.oscript.specs.Calls.{any_action}
-use Rattle.oslog.specs.declared.forms.Parts.{Parts}
-use Rattle.oslog.specs.declared.rows.Line.{Line}
+use Rattle.oslog.specs.{declared.forms.Parts.Parts, declared.rows.Line.Line}
 use Rattle.oslog.specs.declared.rows.Line.TheVariants as L
 
 -- What parts say before any is read.

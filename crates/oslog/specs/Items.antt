@@ -1,16 +1,11 @@
 -- The line of an item, and the item of a line. [own]
 use Rattle.std.specs.Prelude.{ℕ, ◌++◌, Option, None, option_map, option_and_then, if◌then◌else◌, List, [], ◌∷◌, map}
-use Rattle.std.specs.Option.{option_or}
-use Rattle.std.specs.Str.{bytes_eq}
+use Rattle.std.specs.{Option.option_or, Str.bytes_eq}
 use Rattle.osbase.specs.declared.items.Item.{Item}
 use Rattle.ossyntax.specs.ParsedOp.{words_of}
 use Rattle.osplan.specs.declared.plans.Plan.{Plan}
-use Rattle.oslog.specs.Forms.{form_of, item_of, no_parts}
-use Rattle.oslog.specs.Rows.{keyword_text, row_of}
+use Rattle.oslog.specs.{Forms.form_of, Forms.item_of, Forms.no_parts, Rows.keyword_text, Rows.row_of, declared.forms.Parts.Parts, declared.rows.Line.Line, declared.rows.TheConstants.LINES}
 use Rattle.oslog.specs.Words.{read_words, tail_words, with_tail, word_text}
-use Rattle.oslog.specs.declared.forms.Parts.{Parts}
-use Rattle.oslog.specs.declared.rows.Line.{Line}
-use Rattle.oslog.specs.declared.rows.TheConstants.{LINES}
 
 -- ---- writing
 

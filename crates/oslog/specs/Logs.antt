@@ -1,18 +1,9 @@
 -- The log of items, and the items of a log. [own]
 use Rattle.std.specs.Prelude.{◌≡◌, ◌⊎◌, ℕ, ◌==◌, ◌&&◌, ◌++◌, nat_le, if◌then◌else◌, Bool, true, Option, Some, List, [], ◌∷◌, codes, length}
 use Rattle.std.specs.List.{flat_map, list_all}
-use Rattle.osbase.specs.Objects.{isr_object, object_of_call}
-use Rattle.osbase.specs.declared.items.Agreement.{Agreement}
-use Rattle.osbase.specs.declared.items.Item.{Item}
-use Rattle.osbase.specs.declared.items.Stimulus.{Stimulus}
-use Rattle.osbase.specs.declared.limits.TheConstants.{CORES}
-use Rattle.osbase.specs.declared.messages.Message.{Message}
-use Rattle.osbase.specs.declared.messages.RemoteCall.{RemoteCall}
-use Rattle.osbase.specs.declared.references.CoreId.{CoreId}
-use Rattle.oscript.specs.Calls.{op_of_call}
-use Rattle.oscript.specs.Rows.{has_masks, is_in_form, is_int}
-use Rattle.osplan.specs.Limits.{is_mode, is_object, is_spinlock}
-use Rattle.osplan.specs.declared.plans.Plan.{Plan}
+use Rattle.osbase.specs.{Objects.isr_object, Objects.object_of_call, declared.items.Agreement.Agreement, declared.items.Item.Item, declared.items.Stimulus.Stimulus, declared.limits.TheConstants.CORES, declared.messages.Message.Message, declared.messages.RemoteCall.RemoteCall, declared.references.CoreId.CoreId}
+use Rattle.oscript.specs.{Calls.op_of_call, Rows.has_masks, Rows.is_in_form, Rows.is_int}
+use Rattle.osplan.specs.{Limits.is_mode, Limits.is_object, Limits.is_spinlock, declared.plans.Plan.Plan}
 use Rattle.osjson.specs.Reading.{each, parts_of}
 use Rattle.oslog.specs.Items.{item_of_text, line_of}
 

@@ -1,24 +1,9 @@
 -- What the names of a configuration refer to: its application modes, its spinlocks and its objects. All of them differ. [own]
 use Rattle.std.specs.Prelude.{◌≡◌, ℕ, ◌≤◌, ◌++◌, Option, Some, None, option_and_then, option_map, if◌then◌else◌, List, map, find, length}
-use Rattle.std.specs.Borrow.{Bor}
-use Rattle.std.specs.HashMap.{HashMap, get_by}
-use Rattle.std.specs.List.{flat_map}
-use Rattle.std.specs.Str.{bytes_eq}
+use Rattle.std.specs.{Borrow.Bor, HashMap.HashMap, HashMap.get_by, List.flat_map, Str.bytes_eq}
 use Rattle.osbase.specs.Objects.{isr_of, mode_of, object_at, place_on, same_kind, spinlock_of}
-use Rattle.osbase.specs.declared.objects.Object.{Object}
-use Rattle.osbase.specs.declared.objects.TheConstants.{NOBODY}
-use Rattle.osbase.specs.declared.references.CoreId.{CoreId}
-use Rattle.osbase.specs.Sets.{numbers_from}
-use Rattle.osbase.specs.declared.objects.ObjectKind.{ObjectKind}
-use Rattle.osbase.specs.declared.objects.Place.{Place}
-use Rattle.osbase.specs.declared.references.IsrRef.{IsrRef}
-use Rattle.osbase.specs.declared.references.ModeId.{ModeId}
-use Rattle.osbase.specs.declared.references.SpinlockId.{SpinlockId}
-use Rattle.osplan.specs.Names.{name_of}
-use Rattle.osplan.specs.Objects.{common_names, object_count}
-use Rattle.osplan.specs.declared.plans.Core.{Core}
-use Rattle.osplan.specs.declared.plans.Plan.{Plan}
-use Rattle.osplan.specs.declared.plans.TheConstants.{COMMON, KINDS}
+use Rattle.osbase.specs.{declared.objects.Object.Object, declared.objects.TheConstants.NOBODY, declared.references.CoreId.CoreId, Sets.numbers_from, declared.objects.ObjectKind.ObjectKind, declared.objects.Place.Place, declared.references.IsrRef.IsrRef, declared.references.ModeId.ModeId, declared.references.SpinlockId.SpinlockId}
+use Rattle.osplan.specs.{Names.name_of, Objects.common_names, Objects.object_count, declared.plans.Core.Core, declared.plans.Plan.Plan, declared.plans.TheConstants.COMMON, declared.plans.TheConstants.KINDS}
 
 -- ---- what has a name
 

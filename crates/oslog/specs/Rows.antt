@@ -1,13 +1,9 @@
 -- The grammar of a log: a row for each form of an item. [own]
 use Rattle.std.specs.Prelude.{ℕ, List, [], ◌∷◌, codes}
-use Rattle.oslog.specs.declared.rows.Keyword.{Keyword as Word}
+use Rattle.oslog.specs.{declared.rows.Keyword.Keyword as Word, declared.rows.Kind.Kind, declared.rows.Line.Line, declared.rows.Row.Row, declared.rows.Tail.Tail}
 use Rattle.oslog.specs.declared.rows.Keyword.TheVariants as W
-use Rattle.oslog.specs.declared.rows.Kind.{Kind}
 use Rattle.oslog.specs.declared.rows.Kind.TheVariants as K
-use Rattle.oslog.specs.declared.rows.Line.{Line}
 use Rattle.oslog.specs.declared.rows.Line.TheVariants as L
-use Rattle.oslog.specs.declared.rows.Row.{Row}
-use Rattle.oslog.specs.declared.rows.Tail.{Tail}
 use Rattle.oslog.specs.declared.rows.Tail.TheVariants as T
 
 -- The words of a log's own.

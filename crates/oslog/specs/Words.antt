@@ -1,33 +1,16 @@
 -- The words of a line: what they say, and how they are written. [own]
 use Rattle.std.specs.Prelude.{ℕ, ◌+◌, ◌==◌, ◌++◌, Option, Some, None, option_map, option_and_then, if◌then◌else◌, List, [], ◌∷◌, codes, filter, find, map, slice_set, true}
-use Rattle.std.specs.Fmt.{decimal, signed_decimal}
-use Rattle.std.specs.Str.{bytes_eq}
-use Rattle.osbase.specs.History.{no_cores}
-use Rattle.osbase.specs.Sets.{core_ids, has_core}
-use Rattle.osbase.specs.Words.{status_name}
-use Rattle.osbase.specs.declared.items.CoreSet.{CoreSet}
-use Rattle.osbase.specs.declared.messages.RemoteCall.{RemoteCall}
-use Rattle.osbase.specs.declared.references.CoreId.{CoreId}
-use Rattle.osbase.specs.declared.references.IsrRef.{IsrRef}
-use Rattle.osbase.specs.declared.statuses.Status.{Status}
-use Rattle.oscript.specs.Calls.{named_call}
-use Rattle.oscript.specs.Rows.{has_masks}
-use Rattle.oscript.specs.declared.Op.{Op}
-use Rattle.ossyntax.specs.Call.{call_words}
-use Rattle.ossyntax.specs.ParsedOp.{form_of_words}
-use Rattle.ossyntax.specs.Operation.{resolved}
-use Rattle.ossyntax.specs.Word.{int_of, number_in}
+use Rattle.std.specs.{Fmt.decimal, Fmt.signed_decimal, Str.bytes_eq}
+use Rattle.osbase.specs.{History.no_cores, Sets.core_ids, Sets.has_core, Words.status_name, declared.items.CoreSet.CoreSet, declared.messages.RemoteCall.RemoteCall, declared.references.CoreId.CoreId, declared.references.IsrRef.IsrRef, declared.statuses.Status.Status, declared.statuses.TheConstants.STATUS_LIST}
+use Rattle.oscript.specs.{Calls.named_call, Rows.has_masks, declared.Op.Op}
+use Rattle.ossyntax.specs.{Call.call_words, ParsedOp.form_of_words, Operation.resolved, Word.int_of, Word.number_in}
 use Rattle.osplan.specs.Names.{isr_name, name_of, name_of_mode, spinlock_name}
 use Rattle.osplan.specs.declared.plans.Plan.{Plan}
 use Rattle.oscript.specs.Rows as rows
 use Rattle.oslog.specs.Naming.{isr_named, mode_named, place_named, spinlock_named}
-use Rattle.oslog.specs.Rows.{keyword_text}
-use Rattle.oslog.specs.declared.forms.Parts.{Parts}
-use Rattle.oslog.specs.declared.rows.Kind.{Kind}
+use Rattle.oslog.specs.{Rows.keyword_text, declared.forms.Parts.Parts, declared.rows.Kind.Kind, declared.rows.Tail.Tail}
 use Rattle.oslog.specs.declared.rows.Kind.TheVariants as K
-use Rattle.oslog.specs.declared.rows.Tail.{Tail}
 use Rattle.oslog.specs.declared.rows.Tail.TheVariants as T
-use Rattle.osbase.specs.declared.statuses.TheConstants.{STATUS_LIST}
 
 -- ---- writing
 

@@ -3,7 +3,6 @@
 ghost use Rattle.std.specs.Prelude.{◌≡◌, true};
 ghost use Rattle.osbase.specs.History.{no_cores};
 ghost use Rattle.oslog.specs.Forms.{form_of, item_of, message_form, no_parts, received};
-ghost use Rattle.oslog.specs.declared.rows.Line.{Line as LineValue};
 
 use crate::rows::Line;
 use osbase::{

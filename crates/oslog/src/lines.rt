@@ -3,8 +3,7 @@
 ghost use Rattle.std.specs.Prelude.{◌≡◌, List as ListOf, Err, IfOk, IsSome, None, Some};
 ghost use Rattle.osbase.specs.declared.items.Item.{Item as ItemValue};
 ghost use Rattle.osplan.specs.View.{core_of};
-ghost use Rattle.oslog.specs.Items.{item_of_text};
-ghost use Rattle.oslog.specs.Logs.{IsLog, log_of_text, without_last_end};
+ghost use Rattle.oslog.specs.{Items.item_of_text, Logs.IsLog, Logs.log_of_text, Logs.without_last_end};
 
 use crate::faults::LogFault;
 use crate::names::NameIndex;

@@ -1,10 +1,8 @@
 //! What the names of a configuration refer to, by an index.
 
 ghost use Rattle.std.specs.Prelude.{◌≡◌, ◌≤◌, ◌++◌, IfOk, IsTrue, OnOk};
-ghost use Rattle.osplan.specs.Representable.{is_representable};
-ghost use Rattle.osplan.specs.Limits.{is_within_limits};
+ghost use Rattle.osplan.specs.{Representable.is_representable, Limits.is_within_limits, declared.plans.TheConstants.COMMON};
 ghost use Rattle.oslog.specs.Naming.{HasFew, HasFewCommon, Indexes, all_named, common_in, isr_named, mode_named, name_of_object, named_in, object_under, objects_under, spinlock_named};
-ghost use Rattle.osplan.specs.declared.plans.TheConstants.{COMMON};
 ghost use Rattle.std.specs.List.{flat_map};
 
 use osbase::{

@@ -3,10 +3,9 @@
 ghost use Rattle.std.specs.Prelude.{◌≡◌, ◌∷◌, List, Option, option_map, ℕ};
 ghost use Rattle.std.specs.Borrow.{Bor};
 ghost use Rattle.ossyntax.specs.ParsedOp.{rest_words, words_of};
-ghost use Rattle.oslog.specs.Items.{first_item, item_as, item_behind, item_of_text};
+ghost use Rattle.oslog.specs.Items.{first_item, item_as, item_of_text};
 ghost use Rattle.oslog.specs.Words.{call_of, irq_of, read_words, with_tail, with_word};
-ghost use Rattle.oslog.specs.Forms.{no_parts};
-ghost use Rattle.oslog.specs.declared.forms.Parts.{Parts as PartsValue};
+ghost use Rattle.oslog.specs.{Forms.no_parts, declared.forms.Parts.Parts as PartsValue};
 
 use crate::forms::{Parts, item_of};
 use crate::names::NameIndex;

@@ -1,10 +1,8 @@
 //! Writing: the text of items.
 
-ghost use Rattle.std.specs.Prelude.{◌≡◌, ◌++◌, ◌∷◌, IfErr, IfOk, OnOk, List, ℕ, map, string_bytes};
+ghost use Rattle.std.specs.Prelude.{◌≡◌, ◌++◌, ◌∷◌, IfErr, IfOk, OnOk, map, string_bytes};
 ghost use Rattle.std.specs.Fmt.{decimal};
-ghost use Rattle.oslog.specs.Items.{led, line_of};
-ghost use Rattle.oslog.specs.Logs.{log_text};
-ghost use Rattle.oslog.specs.Words.{core_words, word_text};
+ghost use Rattle.oslog.specs.{Items.led, Items.line_of, Logs.log_text, Words.core_words, Words.word_text};
 ghost use Rattle.ossyntax.specs.Call.{call_words};
 ghost use Rattle.osplan.specs.Names.{name_of};
 

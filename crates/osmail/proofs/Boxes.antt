@@ -1,9 +1,7 @@
 -- What stands in one mailbox after a change of one mailbox.
 use Rattle.std.proofs.Common.{◌≡◌, ◌<◌, ◌*◌, ◌≢◌, ℕ, List, [], length, arith, get_or-set_same, get_or-set_other}
 use Rattle.std.proofs.lemmas.List.{get_or-replicate}
-use Rattle.osbase.specs.declared.references.CoreId.{CoreId}
-use Rattle.osbase.specs.declared.messages.Letter.{Letter}
-use Rattle.osbase.specs.declared.limits.TheConstants.{CORES}
+use Rattle.osbase.specs.{declared.references.CoreId.CoreId, declared.messages.Letter.Letter, declared.limits.TheConstants.CORES}
 use Rattle.osmail.specs.Mail.{Mail, box_of, empty_mail, place_of, with_box}
 
 -- each ordered pair has a place of its own

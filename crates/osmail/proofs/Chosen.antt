@@ -1,9 +1,7 @@
 -- Some of the numbers that a configured core may have are cores for which rings can be made, as the crates above need it.
 use Rattle.std.proofs.Common.{◌<◌, ◌≤◌, ◌+◌, ℕ, zero, suc, Bool, true, false, cond, List, ◌∷◌, map, filter, arith}
 use Rattle.std.specs.List.{AllByRecursion}
-use Rattle.osbase.specs.Sets.{core_ids, numbers_from}
-use Rattle.osbase.specs.declared.limits.TheConstants.{CORES}
-use Rattle.osbase.specs.declared.references.CoreId.{CoreId}
+use Rattle.osbase.specs.{Sets.core_ids, Sets.numbers_from, declared.limits.TheConstants.CORES, declared.references.CoreId.CoreId}
 use Rattle.osmail.specs.Rings.{AreApart, AreCores, IsApart, IsInRange}
 use Rattle.osmail.proofs.Through.{all-map}
 

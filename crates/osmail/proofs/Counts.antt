@@ -1,15 +1,8 @@
 -- How many letters wait for a core, before and after a change of one mailbox.
 use native.Mathlib.Omega.{arith}
 use Rattle.std.proofs.Common.{◌≡◌, ◌<◌, ◌≤◌, ◌+◌, ◌*◌, ◌^◌, ◌≢◌, ℕ, zero, suc, List, [], ◌∷◌, length, map, refl, sym, ap, ◌∙◌, get_or, set, sum_by, get_or-set_same, get_or-set_other, length-set, replicate, false, ◌⊎◌, inl, inr}
-use Rattle.std.proofs.lemmas.Bool.{cases_eq}
-use Rattle.std.proofs.lemmas.Bool.Decides.{nat_tests}
-use Rattle.std.proofs.lemmas.List.{get_or_default, get_or-replicate, length-replicate}
-use Rattle.std.proofs.lemmas.Grind.{get_or-set_at}
-use Rattle.std.proofs.lemmas.List.Sums.{get_or-le-sum_by, sum_by-cons, sum_by-set}
-use Rattle.osbase.specs.Sets.{numbers_from}
-use Rattle.osbase.specs.declared.references.CoreId.{CoreId}
-use Rattle.osbase.specs.declared.messages.Letter.{Letter}
-use Rattle.osbase.specs.declared.limits.TheConstants.{CORES}
+use Rattle.std.proofs.{lemmas.Bool.cases_eq, lemmas.Bool.Decides.nat_tests, lemmas.List.get_or_default, lemmas.List.get_or-replicate, lemmas.List.length-replicate, lemmas.Grind.get_or-set_at, lemmas.List.Sums.get_or-le-sum_by, lemmas.List.Sums.sum_by-cons, lemmas.List.Sums.sum_by-set}
+use Rattle.osbase.specs.{Sets.numbers_from, declared.references.CoreId.CoreId, declared.messages.Letter.Letter, declared.limits.TheConstants.CORES}
 use Rattle.osbase.proofs.Tables.{table-at, table-same, table-set}
 use Rattle.osmail.specs.Mail.{AreCounted, box_of, has_mail, IsWithin, Mail, place_of, waiting_in}
 use Rattle.osmail.proofs.Boxes.{place_below}

@@ -3,16 +3,11 @@ use native.Mathlib.Omega.{arith}
 use Rattle.std.proofs.Common.{◌≡◌, ◌<◌, ◌+◌, ◌⊎◌, inl, inr, ℕ, zero, suc, Option, Some, None, List, [], ◌∷◌, length, map, take, get_or, set, replicate, refl, sym, ap, subst, ◌∙◌, length-set, get_or-set_same, get_or-set_other}
 use Rattle.std.proofs.lemmas.Bool.{cases_eq}
 use Rattle.std.proofs.lemmas.List.{length-map, length-replicate, map-set, take_more}
-use Rattle.std.specs.List.{AllByRecursion}
-use Rattle.std.specs.Global.{Vec}
-use Rattle.std.specs.Option.{option_map}
+use Rattle.std.specs.{List.AllByRecursion, Global.Vec, Option.option_map}
 use Rattle.rtrb.specs.Ring.{IsPair, known_free, received, sent}
-use Rattle.osbase.specs.declared.limits.TheConstants.{CORES}
-use Rattle.osbase.specs.declared.references.CoreId.{CoreId}
-use Rattle.osbase.specs.declared.messages.Letter.{Letter}
-use Rattle.osmail.specs.declared.rings.RingEnd.{RingEnd}
-use Rattle.osmail.specs.Ends.{letters_of}
-use Rattle.osmail.specs.Rings.{AreApart, AreCores, AreLinked, AreMade, EndId, HasFreshRings, HasPlaces, HasRoom, IsApart, IsInRange, IsLinked, IsUnsent, IsUntaken, IsUnused, RingId, Sender, Taker, core_at, core_of_end, end_id, free_at, free_of, free_to, ring_from, ring_to, sent_by, taken_by}
+use Rattle.osbase.specs.{declared.limits.TheConstants.CORES, declared.references.CoreId.CoreId, declared.messages.Letter.Letter}
+use Rattle.osmail.specs.{declared.rings.RingEnd.RingEnd, Ends.letters_of}
+use Rattle.osmail.specs.Rings.{AreApart, AreCores, AreLinked, AreMade, EndId, HasFreshRings, HasPlaces, HasRoom, IsApart, IsBare, IsInRange, IsLinked, IsUnsent, IsUntaken, IsUnused, RingId, Sender, Taker, core_at, core_of_end, end_id, free_at, free_of, free_to, ring_from, ring_to, sent_by, taken_by}
 use Rattle.osmail.proofs.Through.{all-get, all-map, all-snoc, read_at, read_same}
 
 -- ---- all of a list
@@ -336,22 +331,19 @@ none-there f zero k = refl
 none-there f (suc n) zero = refl
 none-there f (suc n) (suc k) = none-there f n k
 
-abbrev pub IsBare : RingEnd → Type 0
-IsBare end = (end.to.items ≡ replicate CORES None) × (end.from.items ≡ replicate CORES None)
-
 pub bare_made : (ends : List RingEnd) → AreCores (map core_of_end ends) → AllByRecursion IsBare ends → AreMade ends
 bare_made ends cores bare = record {
   cores = cores;
-  places = all-map IsBare HasPlaces ends (λ end is. (ap length is.0 ∙ length-replicate {A = Option Sender} CORES None, ap length is.1 ∙ length-replicate {A = Option Taker} CORES None)) bare;
+  places = all-map IsBare HasPlaces ends (λ end is. (ap length is.to ∙ length-replicate {A = Option Sender} CORES None, ap length is.from ∙ length-replicate {A = Option Taker} CORES None)) bare;
   linked = all-mapped IsBare (λ (a : EndId). AllByRecursion (IsLinked a) (map end_id ends)) end_id ends (λ a is. all-mapped IsBare (IsLinked (end_id a)) end_id ends (λ b is'. to-none a b is ∙ sym (from-none a b is')) bare) bare;
-  fresh = all-map IsBare HasFreshRings ends (λ end is. (subst (AllByRecursion IsUnsent) (sym is.0) (all-replicate IsUnsent CORES None refl), subst (AllByRecursion IsUntaken) (sym is.1) (all-replicate IsUntaken CORES None refl))) bare;
+  fresh = all-map IsBare HasFreshRings ends (λ end is. (subst (AllByRecursion IsUnsent) (sym is.to) (all-replicate IsUnsent CORES None refl), subst (AllByRecursion IsUntaken) (sym is.from) (all-replicate IsUntaken CORES None refl))) bare;
 }
   where
     to-none : (a b : RingEnd) → IsBare a → get_or (map (option_map ring_to) a.to.items) b.core.number None ≡ None
-    to-none a b is = ap (λ (row : List (Option Sender)). get_or (map (option_map ring_to) row) b.core.number None) is.0 ∙ none-there ring_to CORES b.core.number
+    to-none a b is = ap (λ (row : List (Option Sender)). get_or (map (option_map ring_to) row) b.core.number None) is.to ∙ none-there ring_to CORES b.core.number
 
     from-none : (a b : RingEnd) → IsBare b → get_or (map (option_map ring_from) b.from.items) a.core.number None ≡ None
-    from-none a b is = ap (λ (row : List (Option Taker)). get_or (map (option_map ring_from) row) a.core.number None) is.1 ∙ none-there ring_from CORES a.core.number
+    from-none a b is = ap (λ (row : List (Option Taker)). get_or (map (option_map ring_from) row) a.core.number None) is.from ∙ none-there ring_from CORES a.core.number
 
 -- ---- ends that were not used
 

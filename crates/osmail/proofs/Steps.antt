@@ -1,13 +1,9 @@
 -- What an end sent and took, with one step more; and a mailbox with one letter more.
 use Rattle.std.proofs.Common.{◌≡◌, ◌+◌, ℕ, Bool, true, false, List, [], ◌∷◌, ◌++◌, length, refl, ap, ◌∙◌, append-nil, arith}
 use Rattle.std.specs.Prelude.{if◌then◌else◌}
-use Rattle.osbase.specs.declared.references.CoreId.{CoreId}
-use Rattle.osbase.specs.declared.messages.Letter.{Letter}
-use Rattle.osbase.specs.History.{same_core}
-use Rattle.osmail.specs.declared.ends.MailStep.{MailStep}
-use Rattle.osmail.specs.declared.ends.MailStep.TheVariants.{Sent, Taken}
+use Rattle.osbase.specs.{declared.references.CoreId.CoreId, declared.messages.Letter.Letter, History.same_core}
+use Rattle.osmail.specs.{declared.ends.MailStep.MailStep, declared.ends.MailStep.TheVariants.Sent, declared.ends.MailStep.TheVariants.Taken, Mailboxes.AreNumbered}
 use Rattle.osmail.specs.Ends.{AreUnchanged, HasOneMore, sent_to, taken_from}
-use Rattle.osmail.specs.Mailboxes.{AreNumbered}
 
 put_in : (b : Bool) (e : Letter) (xs ys : List Letter) → (if b then e ∷ (xs ++ ys) else (xs ++ ys)) ≡ (if b then e ∷ xs else xs) ++ ys
 put_in true e xs ys = refl

@@ -1,16 +1,10 @@
 -- What went through rings, where one of them changed; and what both ends of a ring show together.
 use Rattle.std.proofs.Common.{◌≡◌, ◌==◌, ◌<◌, ◌≤◌, ◌+◌, ℕ, zero, suc, Option, Some, None, List, [], ◌∷◌, ◌++◌, length, map, take, get_or, set, refl, sym, ap, subst, ◌∙◌, arith}
-use Rattle.std.proofs.Math.Dec.{eqb-suc-zero, eqb-zero-suc, eqb-suc-suc}
-use Rattle.std.proofs.lemmas.List.{length-map, map-append, take_more}
-use Rattle.std.proofs.lemmas.Option.{none-some, same_Some}
-use Rattle.std.specs.List.{AllByRecursion}
-use Rattle.std.specs.Option.{option_map}
-use Rattle.std.specs.Prelude.{if◌then◌else◌}
+use Rattle.std.proofs.{Math.Dec.eqb-suc-zero, Math.Dec.eqb-zero-suc, Math.Dec.eqb-suc-suc, lemmas.List.length-map, lemmas.List.map-append, lemmas.List.take_more, lemmas.Option.none-some, lemmas.Option.same_Some}
+use Rattle.std.specs.{List.AllByRecursion, Option.option_map, Prelude.if◌then◌else◌}
 use Rattle.rtrb.specs.Ring.{IsPair, known_items, received, sent}
-use Rattle.osbase.specs.declared.messages.Envelope.{Envelope}
-use Rattle.osbase.specs.declared.messages.Letter.{Letter}
-use Rattle.osmail.specs.declared.rings.RingEnd.{RingEnd}
-use Rattle.osmail.specs.Ends.{letters_of}
+use Rattle.osbase.specs.{declared.messages.Envelope.Envelope, declared.messages.Letter.Letter}
+use Rattle.osmail.specs.{declared.rings.RingEnd.RingEnd, Ends.letters_of}
 use Rattle.osmail.specs.Rings.{AreBothDelivered, AreBothLinked, AreDelivered, AreLinked, EndId, EndPast, IsDelivered, IsLinked, IsRingDelivered, RingId, Sender, Taker, end_id, past_of, ring_from, ring_to, sent_by, taken_by}
 
 -- ---- what is read off a list, where one element was replaced

@@ -1,12 +1,8 @@
 -- What one core's end of the mail sent and took.
 use Rattle.std.specs.Prelude.{◌≡◌, if◌then◌else◌, Option, List, [], ◌∷◌, ◌++◌, map}
 use Rattle.std.specs.Option.{option_map}
-use Rattle.osbase.specs.declared.references.CoreId.{CoreId}
-use Rattle.osbase.specs.declared.messages.Envelope.{Envelope}
-use Rattle.osbase.specs.declared.messages.Letter.{Letter}
-use Rattle.osbase.specs.History.{same_core}
-use Rattle.osmail.specs.declared.ends.MailStep.{MailStep}
-use Rattle.osmail.specs.declared.ends.MailStep.TheVariants.{Sent, Taken}
+use Rattle.osbase.specs.{declared.references.CoreId.CoreId, declared.messages.Envelope.Envelope, declared.messages.Letter.Letter, History.same_core}
+use Rattle.osmail.specs.{declared.ends.MailStep.MailStep, declared.ends.MailStep.TheVariants.Sent, declared.ends.MailStep.TheVariants.Taken}
 
 -- The letters in envelopes. All that is said of mail is said of letters, and nothing of what else an envelope has.
 abbrev pub letters_of : List Envelope → List Letter

@@ -1,7 +1,6 @@
 -- The mailbox of one ordered pair of cores, as contracts see it.
 use Rattle.std.specs.Prelude.{◌≡◌, ℕ, ◌+◌, ◌≤◌, ◌<◌, ◌^◌, List, [], ◌∷◌, ◌++◌, length}
-use Rattle.osbase.specs.declared.references.CoreId.{CoreId}
-use Rattle.osbase.specs.declared.messages.Letter.{Letter}
+use Rattle.osbase.specs.{declared.references.CoreId.CoreId, declared.messages.Letter.Letter}
 
 -- Who sends and who receives, how many letters may stand here, the number of the next one that leaves, and the letters,
 -- the oldest first. [own]

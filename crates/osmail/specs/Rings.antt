@@ -1,20 +1,11 @@
 -- The rings between cores: which ring an end of one belongs to, which rings a core's end has, and what went through them.
-use Rattle.std.specs.Prelude.{◌≡◌, ℕ, ◌<◌, Option, None, List, [], ◌∷◌, ◌++◌, length, map, slice_index_or}
-use Rattle.std.specs.List.{AllByRecursion}
-use Rattle.std.specs.Option.{option_map, option_map_or}
-use Rattle.std.specs.Global.{Global}
+use Rattle.std.specs.Prelude.{◌≡◌, ℕ, ◌<◌, Option, None, List, [], ◌∷◌, ◌++◌, length, map, replicate, slice_index_or}
+use Rattle.std.specs.{List.AllByRecursion, Option.option_map, Option.option_map_or, Global.Global}
 use denote.RawPtr.{Ptr}
-use Rattle.rtrb.specs.declared.AnyItems.{AnyItems}
-use Rattle.rtrb.specs.declared.producer.Producer.{Producer}
-use Rattle.rtrb.specs.declared.consumer.Consumer.{Consumer}
-use Rattle.rtrb.specs.Shared.{Names}
+use Rattle.rtrb.specs.{declared.AnyItems.AnyItems, declared.producer.Producer.Producer, declared.consumer.Consumer.Consumer, Shared.Names}
 use Rattle.rtrb.specs.Ring.{known_free, known_items, received, sent}
-use Rattle.osbase.specs.declared.limits.TheConstants.{CORES}
-use Rattle.osbase.specs.declared.references.CoreId.{CoreId}
-use Rattle.osbase.specs.declared.messages.Envelope.{Envelope}
-use Rattle.osbase.specs.declared.messages.Letter.{Letter}
-use Rattle.osmail.specs.declared.rings.RingEnd.{RingEnd}
-use Rattle.osmail.specs.Ends.{letters_of}
+use Rattle.osbase.specs.{declared.limits.TheConstants.CORES, declared.references.CoreId.CoreId, declared.messages.Envelope.Envelope, declared.messages.Letter.Letter}
+use Rattle.osmail.specs.{declared.rings.RingEnd.RingEnd, Ends.letters_of}
 
 -- The end of a ring that sends, and the one that takes.
 abbrev pub Sender : Type 0
@@ -148,6 +139,11 @@ HasRoom cores cap end = AllByRecursion (λ d. free_to d end ≡ cap) cores
 -- It has a place for a ring to and from each core.
 abbrev pub HasPlaces : RingEnd → Type 0
 HasPlaces end = (length end.to.items ≡ CORES) × (length end.from.items ≡ CORES)
+
+-- It has a place for each core, and no ring yet.
+pub record IsBare (end : RingEnd) : Type 0 where
+  pub to : end.to.items ≡ replicate CORES None
+  pub from : end.from.items ≡ replicate CORES None
 
 -- Ends of cores, any two of which are linked, and by which nothing went yet.
 pub record AreMade (ends : List RingEnd) : Type 0 where

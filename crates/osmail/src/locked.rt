@@ -1,9 +1,7 @@
 //! The mailboxes of cores on threads of their own, each under a lock.
 
 ghost use Rattle.std.specs.Prelude.{◌≡◌, ◌<◌, ◌≤◌, ◌∷◌, ◌++◌, [], slice_get, IfErr, OnOk, IfSome, IfNone, vec_len, vec_capacity};
-ghost use Rattle.osmail.specs.Ends.{letter_in, sent_to, taken_from};
-ghost use Rattle.osmail.specs.Mailboxes.{after_pop, after_push};
-ghost use Rattle.osmail.specs.declared.ends.MailStep.TheVariants.{Sent, Taken};
+ghost use Rattle.osmail.specs.{Ends.letter_in, Ends.sent_to, Ends.taken_from, Mailboxes.after_pop, Mailboxes.after_push, declared.ends.MailStep.TheVariants.Sent, declared.ends.MailStep.TheVariants.Taken};
 
 use crate::ends::{Mail, MailStep};
 use crate::mailbox::Mailbox;

@@ -24,10 +24,8 @@ pub struct Mailbox<const CAP: usize> {
 }
 
 impl<const CAP: usize> Model for Mailbox<CAP> {
-    ghost use Rattle.std.specs.Prelude.{◌≤◌};
-    ghost use Rattle.std.specs.VecDeque.{deque_capacity};
-    ghost use Rattle.osmail.specs.Ends.{letters_of};
-    ghost use Rattle.osmail.specs.Mailboxes.{IsMailbox, MailboxState};
+    ghost use Rattle.std.specs.{Prelude.◌≤◌, VecDeque.deque_capacity};
+    ghost use Rattle.osmail.specs.{Ends.letters_of, Mailboxes.IsMailbox, Mailboxes.MailboxState};
 
     ghost Value = { MailboxState };
 

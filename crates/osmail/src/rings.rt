@@ -1,11 +1,10 @@
 //! The mailboxes of cores on threads of their own, each a ring that one core fills and another one empties, without a lock.
 
 ghost use Rattle.std.specs.Prelude.{◌≡◌, ◌<◌, ◌≤◌, ◌++◌, ◌∷◌, [], ℕ, None, Some, length, map, replicate, slice_set, IfErr, IfNone, IfOk, IfSome, IsOk, IsSome, OnOk, vec_len};
-ghost use Rattle.std.specs.List.{AllByRecursion};
-ghost use Rattle.std.specs.Option.{option_map};
+ghost use Rattle.std.specs.{List.AllByRecursion, Option.option_map};
 ghost use Rattle.osbase.specs.declared.references.CoreId.{CoreId as CoreNumber};
 ghost use Rattle.osmail.specs.Ends.{AreUnchanged, HasOneMore};
-ghost use Rattle.osmail.specs.Rings.{AreBothDelivered, AreBothLinked, AreCores, AreDelivered, AreMade, HasRoom, IsDelivered, IsLinked, IsRingDelivered, IsUnused, core_at, core_of_end, end_id, free_at, free_of, free_to, known_by, known_from, past_of, ring_from, ring_sent, ring_taken, ring_to, sent_by, taken_by};
+ghost use Rattle.osmail.specs.Rings.{AreBothDelivered, AreBothLinked, AreCores, AreDelivered, AreMade, HasRoom, IsBare, IsDelivered, IsLinked, IsRingDelivered, IsUnused, core_at, core_of_end, end_id, free_at, free_of, free_to, known_by, known_from, past_of, ring_from, ring_sent, ring_taken, ring_to, sent_by, taken_by};
 
 use crate::ends::Mail;
 use osbase::{CORES, CoreId, Envelope};
@@ -306,9 +305,7 @@ fn link(
 impl RingEnd {
     // A core's end without rings.
     fn bare(alloc: Global, core: CoreId) -> Result<Self, AllocError>
-        ensures core { IfOk result (λ end. end.core ≡ core) }
-        ensures to { IfOk result (λ end. end.to.items ≡ replicate CORES None) }
-        ensures from { IfOk result (λ end. end.from.items ≡ replicate CORES None) }
+        ensures { IfOk result (λ end. (end.core ≡ core) × IsBare end) }
     {
         Ok(RingEnd {
             core,

@@ -2,13 +2,11 @@
 use Rattle.std.proofs.Common.{◌≡◌, true, ◌&&◌, Some, Option, List, flat_map, map, slice_get, option_and_then, refl, ap, sym, subst, ◌∙◌, arith}
 use Rattle.std.specs.{List.list_all, Option.option_map_or}
 use Rattle.std.proofs.lemmas.List.Folds.{list_all-map}
-use Rattle.osbase.specs.{declared.references.CounterRef.CounterRef, declared.objects.Object.Object, History.same_core, Objects.counter_object, Objects.object_of_call}
+use Rattle.osbase.specs.{declared.references.CounterRef.CounterRef, declared.objects.Object.Object, History.same_core, Objects.counter_object, Objects.object_of_call, declared.messages.RemoteCall.RemoteCall}
 use Rattle.osbase.proofs.Same.{same_core-true}
-use Rattle.osplan.specs.{declared.plans.Alarm.Alarm, declared.plans.Core.Core, declared.plans.Plan.Plan, declared.plans.Table.Table, Clocked.is_alarm_attached, Clocked.is_table_attached}
-use Rattle.osbase.specs.declared.messages.RemoteCall.{RemoteCall}
+use Rattle.osplan.specs.{declared.plans.Alarm.Alarm, declared.plans.Core.Core, declared.plans.Plan.Plan, declared.plans.Table.Table, Clocked.is_alarm_attached, Clocked.is_table_attached, View.core_of, View.counter_in, View.own_counter}
 use Rattle.osplan.specs.Limits.{alarm_sizes, is_action_known, is_alarm_known, is_alarm_local, is_core_known, is_core_timed, is_object, is_table_known, is_table_local, is_table_timed, is_script_known, is_task_known, table_sizes}
 use Rattle.osplan.specs.Objects.{core_actions, core_scripts, has_index, is_common, may_act, may_name, table_actions}
-use Rattle.osplan.specs.View.{core_of, counter_in, own_counter}
 use Rattle.osplan.proofs.Tests.{all-append, all-both, all-flat, all-weaker, map-where}
 
 module _ (plan : Plan) (core : Core) (found : core_of plan core.id ≡ Some core) where

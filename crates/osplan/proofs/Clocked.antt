@@ -4,11 +4,9 @@ use Rattle.std.specs.List.{list_all}
 use Rattle.std.proofs.{lemmas.Bool.and_parts, lemmas.Bool.Decides.nat_tests, lemmas.List.length-map, lemmas.List.Folds.list_all-map}
 use Rattle.osbase.specs.{declared.references.CoreId.CoreId, History.same_core}
 use Rattle.osbase.proofs.Same.{same_core-true}
-use Rattle.osplan.specs.{declared.plans.Alarm.Alarm, declared.plans.AlarmStart.AlarmStart, declared.plans.Core.Core, declared.plans.Counter.Counter, declared.plans.Plan.Plan}
-use Rattle.osplan.specs.{declared.plans.Table.Table, Clocked.are_clocks_within, Clocked.is_alarm_attached, Clocked.is_table_attached, Clocked.own_table_sizes, View.core_of, View.own_counter}
+use Rattle.osplan.specs.{declared.plans.Alarm.Alarm, declared.plans.AlarmStart.AlarmStart, declared.plans.Core.Core, declared.plans.Counter.Counter, declared.plans.Plan.Plan, declared.plans.Table.Table, Clocked.are_clocks_within, Clocked.is_alarm_attached, Clocked.is_table_attached, Clocked.own_table_sizes, View.core_of, View.own_counter}
 use Rattle.osplan.specs.Limits.{CoreSizes, alarm_sizes, are_alarms_within, are_counters_within, are_tables_within, is_core_timed, is_table_timed, is_table_within, is_cycle, core_sizes, counter_sizes, is_alarm_within, is_core_known, has_local_references, is_core_within, is_counter_within, is_within_limits}
-use Rattle.osplan.proofs.{Alarming.attached, Alarming.known-parts, Alarming.own-sizes, Alarming.own-tables, Alarming.own-timed, Alarming.tables-attached, Within.limit-parts, Within.near-parts}
-use Rattle.osplan.proofs.Tests.{all-weaker, find-holds, find-passes}
+use Rattle.osplan.proofs.{Alarming.attached, Alarming.known-parts, Alarming.own-sizes, Alarming.own-tables, Alarming.own-timed, Alarming.tables-attached, Within.limit-parts, Within.near-parts, Tests.all-weaker, Tests.find-holds, Tests.find-passes}
 
 -- The counters, alarms and tables of sizes that are within the limits.
 parts-within : (s : CoreSizes) → is_core_within s ≡ true → (are_counters_within s.counters ≡ true) × ((are_alarms_within s.alarms ≡ true) × (are_tables_within s.tables ≡ true))

@@ -2,11 +2,9 @@
 use Rattle.std.proofs.Common.{IsTrue, List, None, Option, Some, [], arith, codes, false, length, nat_lt, refl, slice_get, suc, true, unwrap_or, zero, ℕ, ◌<◌, ◌∷◌, ◌≡◌}
 use Rattle.std.specs.{List.list_all, Option.option_map_or, Str.bytes_eq}
 use Rattle.std.proofs.lemmas.Bool.{and_parts, eqb-true, ltb-true}
-use Rattle.osbase.specs.{History.same_core, Names.is_name, Objects.mode_object, Objects.mode_of, Objects.mode_place, Objects.object_at, declared.objects.ObjectKind.ObjectKind}
-use Rattle.osbase.specs.{declared.objects.Place.Place, declared.objects.TheConstants.NOBODY, declared.references.ModeId.ModeId}
+use Rattle.osbase.specs.{History.same_core, Names.is_name, Objects.mode_object, Objects.mode_of, Objects.mode_place, Objects.object_at, declared.objects.ObjectKind.ObjectKind, declared.objects.Place.Place, declared.objects.TheConstants.NOBODY, declared.references.ModeId.ModeId}
 use Rattle.osbase.proofs.Same.{same_core-true}
-use Rattle.osplan.specs.{declared.plans.Core.Core, declared.plans.Plan.Plan, Representable.dont_care, Representable.is_representable, Representable.is_mode_representable, Names.name_of, Names.name_of_mode}
-use Rattle.osplan.specs.{Limits.core_sizes, Limits.is_core_within, Limits.is_mode, Limits.is_object, Objects.common_names, Objects.has_index, Objects.is_common, Objects.object_count, View.core_of}
+use Rattle.osplan.specs.{declared.plans.Core.Core, declared.plans.Plan.Plan, Representable.dont_care, Representable.is_representable, Representable.is_mode_representable, Names.name_of, Names.name_of_mode, Limits.core_sizes, Limits.is_core_within, Limits.is_mode, Limits.is_object, Objects.common_names, Objects.has_index, Objects.is_common, Objects.object_count, View.core_of}
 use Rattle.osplan.proofs.{Tests.find-holds, Tests.find-passes, Within.fits, Within.text-parts}
 
 pub nobody : (plan : Plan) → list_all (λ (c : Core). is_core_within (core_sizes plan c)) plan.cores ≡ true → core_of plan NOBODY ≡ None

@@ -1,8 +1,7 @@
 -- The spinlocks of a configuration as objects, and where objects stand.
 use Rattle.std.proofs.Common.{None, ap, refl, sym, true, ◌≡◌}
 use Rattle.std.proofs.lemmas.List.{length-map}
-use Rattle.osbase.specs.{Objects.object_at, Objects.place_on, Objects.spinlock_object, Objects.spinlock_of, declared.objects.Object.Object, declared.objects.ObjectKind.ObjectKind}
-use Rattle.osbase.specs.{declared.objects.Place.Place, declared.objects.TheConstants.NOBODY, declared.references.CoreId.CoreId, declared.references.SpinlockId.SpinlockId}
+use Rattle.osbase.specs.{Objects.object_at, Objects.place_on, Objects.spinlock_object, Objects.spinlock_of, declared.objects.Object.Object, declared.objects.ObjectKind.ObjectKind, declared.objects.Place.Place, declared.objects.TheConstants.NOBODY, declared.references.CoreId.CoreId, declared.references.SpinlockId.SpinlockId}
 use Rattle.oscript.proofs.Homes.{home}
 use Rattle.osplan.specs.{declared.plans.Plan.Plan, Limits.is_object, Limits.is_spinlock, View.core_of}
 use Rattle.osplan.proofs.ModeObjects.{common-there, mode-there}

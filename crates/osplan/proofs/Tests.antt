@@ -2,9 +2,8 @@
 use Rattle.std.proofs.Common.{◌≡◌, ℕ, ◌≤◌, Bool, true, false, not, ◌&&◌, ◌||◌, nat_eq, List, [], ◌∷◌, ◌++◌, flat_map, length, filter, map, Option, Some, None, is_some, refl, sym, ap, ◌∙◌}
 use Rattle.std.specs.{List.list_all, List.list_any, List.find, List.position_or_len, List.slice_get, Option.option_copied, Borrow.Bor}
 use Rattle.std.proofs.lemmas.Bool.{and_parts, and_from, cond_both, eqb-true, false≢true, not-true, not_from_false, or_left, or_parts, true_from_ne_false}
-use Rattle.std.proofs.{lemmas.List.nil_from_length, lemmas.List.Elements.All-filter, lemmas.List.Folds.find_at, lemmas.List.Folds.list_all-append, lemmas.List.Folds.list_any-append}
+use Rattle.std.proofs.{lemmas.List.nil_from_length, lemmas.List.Elements.All-filter, lemmas.List.Folds.find_at, lemmas.List.Folds.list_all-append, lemmas.List.Folds.list_any-append, lemmas.Option.get_or_from_slice_get, lemmas.Option.slice_get-map, lemmas.Option.slice_get_within}
 use Rattle.std.proofs.lemmas.List.Sums.{AllPass-from_list_all, count_by-le-length, length-filter, list_all-from_AllPass, passes_at_first}
-use Rattle.std.proofs.lemmas.Option.{get_or_from_slice_get, slice_get-map, slice_get_within}
 use Rattle.osbase.proofs.Places.{passes-at}
 
 pub all-weaker : {X : Type 0} (p q : X → Bool) → ((x : X) → p x ≡ true → q x ≡ true) → (xs : List X) → list_all p xs ≡ true → list_all q xs ≡ true

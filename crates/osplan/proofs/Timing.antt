@@ -1,11 +1,9 @@
 -- The limits of a core's tables, by name: their numbers, their points, and what their counter admits.
 use Rattle.std.proofs.Common.{◌≡◌, ℕ, is_some, ◌-◌, ◌≤◌, Bool, true, not, ◌&&◌, ◌||◌, nat_le, nat_lt, List, [], ◌∷◌, length, map, Option, Some, None, refl, sym, ap, subst, ◌∙◌, arith}
 use Rattle.std.specs.List.{list_all, slice_get}
-use Rattle.std.proofs.{lemmas.Bool.and_parts, lemmas.Bool.and_from, lemmas.Bool.false≢true, lemmas.Bool.leb-true, lemmas.Bool.le-leb, lemmas.Bool.ltb-true, lemmas.List.length-map}
-use Rattle.std.proofs.lemmas.List.Folds.{list_all-map}
+use Rattle.std.proofs.{lemmas.Bool.and_parts, lemmas.Bool.and_from, lemmas.Bool.false≢true, lemmas.Bool.leb-true, lemmas.Bool.le-leb, lemmas.Bool.ltb-true, lemmas.List.length-map, lemmas.List.Folds.list_all-map}
 use Rattle.osbase.specs.{declared.references.CounterRef.CounterRef, declared.references.TableRef.TableRef, History.same_core, Objects.counter_object}
-use Rattle.osplan.specs.{declared.plans.Core.Core, declared.plans.Counter.Counter, declared.plans.ExpiryPoint.ExpiryPoint, declared.plans.Table.Table, declared.plans.TableStart.TableStart}
-use Rattle.osplan.specs.{Clocked.are_clocks_within, Clocked.is_table_attached, Clocked.own_table_sizes, Objects.is_own_object, View.own_counter, View.own_table}
+use Rattle.osplan.specs.{declared.plans.Core.Core, declared.plans.Counter.Counter, declared.plans.ExpiryPoint.ExpiryPoint, declared.plans.Table.Table, declared.plans.TableStart.TableStart, Clocked.are_clocks_within, Clocked.is_table_attached, Clocked.own_table_sizes, Objects.is_own_object, View.own_counter, View.own_table}
 use Rattle.osplan.specs.Limits.{TableSizes, are_ascending, counter_sizes, delays, final_delay, first_offset, is_counter_within, is_delay, is_initial, is_point_within, is_table_timed, is_table_within, is_timed_by, last_offset, point_sizes, table_sizes}
 use Rattle.osplan.proofs.{Clocked.clock-parts, Counters.counter-is, Counters.counter-place, Within.between}
 use Rattle.osbase.proofs.Places.{own-passes, passes-at, some-at}

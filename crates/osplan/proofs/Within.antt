@@ -3,9 +3,7 @@ use Rattle.std.proofs.Common.{◌≡◌, ℕ, ◌≤◌, Bool, true, nat_le, nat
 use Rattle.std.specs.List.{list_all}
 use Rattle.std.proofs.{lemmas.Bool.and_parts, lemmas.Bool.leb-true, lemmas.Bool.Decides.nat_tests, lemmas.List.length-map, lemmas.List.Folds.fold-map, lemmas.List.Folds.list_all-map}
 use Rattle.osbase.specs.{declared.references.CoreId.CoreId, declared.objects.ObjectKind.ObjectKind, History.same_core, Names.is_name}
-use Rattle.osplan.specs.{declared.plans.Plan.Plan, declared.plans.Alarm.Alarm, declared.plans.Core.Core, declared.plans.Counter.Counter, declared.plans.Isr.Isr, declared.plans.Resource.Resource}
-use Rattle.osplan.specs.{declared.plans.Table.Table, declared.plans.Task.Task, Objects.core_scripts, Objects.names_in, Objects.object_count, Objects.most_posts_per_tick, View.core_of}
-use Rattle.osplan.specs.Spinlocks.{are_links_ordered, links_of}
+use Rattle.osplan.specs.{declared.plans.Plan.Plan, declared.plans.Alarm.Alarm, declared.plans.Core.Core, declared.plans.Counter.Counter, declared.plans.Isr.Isr, declared.plans.Resource.Resource, declared.plans.Table.Table, declared.plans.Task.Task, Objects.core_scripts, Objects.names_in, Objects.object_count, Objects.most_posts_per_tick, View.core_of, Spinlocks.are_links_ordered, Spinlocks.links_of}
 use Rattle.osplan.specs.Limits.{CoreSizes, Sizes, count_in, most_of, is_between, is_by, is_core_numbered, is_versioned, task_sizes, core_sizes, sizes_of, is_task_within, is_alarm_local, is_core_timed, is_table_local, is_local_to, is_core_within, is_within, is_resource_within, resource_sizes, is_core_known, has_local_references, is_spinlock_known, numbers_of, are_numbers_distinct, is_within_limits}
 use Rattle.osplan.specs.Representable.{is_isr_representable, is_mode_representable, is_spinlock_representable, are_distinct, declared_names, is_task_representable, is_resource_representable, is_counter_representable, is_alarm_representable, is_table_representable, is_core_representable, is_representable}
 use Rattle.osplan.proofs.Tests.{all-weaker, find-passes}

@@ -1,13 +1,8 @@
 -- What a kernel has room for of a core's counters, alarms and schedule tables.
-use Rattle.std.specs.Prelude.{◌&&◌, Bool, map}
-use Rattle.std.specs.List.{list_all}
+use Rattle.std.specs.{Prelude.◌&&◌, Prelude.Bool, Prelude.map, List.list_all}
 use Rattle.osbase.specs.Objects.{counter_object}
-use Rattle.osplan.specs.declared.plans.Alarm.{Alarm}
-use Rattle.osplan.specs.declared.plans.Core.{Core}
-use Rattle.osplan.specs.declared.plans.Table.{Table}
+use Rattle.osplan.specs.{declared.plans.Alarm.Alarm, declared.plans.Core.Core, declared.plans.Table.Table, Objects.is_own_object, View.own_counter}
 use Rattle.osplan.specs.Limits.{TableSizes, alarm_sizes, are_alarms_within, are_counters_within, are_tables_within, counter_sizes, is_table_timed, table_sizes}
-use Rattle.osplan.specs.Objects.{is_own_object}
-use Rattle.osplan.specs.View.{own_counter}
 
 -- An alarm is attached to a counter of its own core. [AUTOSAR SWS OS 4.x, OsAlarmCounterRef; of the same core: own]
 abbrev pub is_alarm_attached : Core → Alarm → Bool

@@ -1,8 +1,6 @@
 -- The counters of a core, and its objects of one kind that go by them.
 use Rattle.std.specs.Prelude.{ℕ, List, filter, length, map}
-use Rattle.osbase.specs.declared.references.CounterRef.{CounterRef}
-use Rattle.osbase.specs.Families.{Family, IsObjectOf, goes_by}
-use Rattle.osbase.specs.Sets.{numbers_from}
+use Rattle.osbase.specs.{declared.references.CounterRef.CounterRef, Families.Family, Families.IsObjectOf, Families.goes_by, Sets.numbers_from}
 use Rattle.osplan.specs.declared.plans.Core.{Core}
 
 -- A counter of the core by its index.

@@ -2,38 +2,12 @@
 -- is written of it are judged by one test of their numbers. And that each reference of a configuration names an object of it.
 -- Each is a test, so that a literal configuration passes it by computation.
 use Rattle.std.specs.Prelude.{ℕ, ◌-◌, ◌==◌, ◌&&◌, ◌||◌, if◌then◌else◌, nat_le, nat_lt, Bool, true, false, not, Option, Some, None, is_some, option_map, unwrap_or, List, [], ◌∷◌, length, map, sum_by}
-use Rattle.std.specs.List.{list_all, list_any}
-use Rattle.std.specs.Option.{option_map_or}
+use Rattle.std.specs.{List.list_all, List.list_any, Option.option_map_or}
 use Rattle.osbase.specs.declared.limits.TheConstants.{ACTIONS, ALARMS, CORES, COUNTERS, FIRST_CORES, GREATEST_BUDGET, GREATEST_DURATION, GREATEST_VALUE, ISRS, JOBS, LEVELS, MAILBOX, MODES, OPERATIONS, POINTS, POSTED, RESOURCES, SPINLOCKS, TABLES, TASKS}
-use Rattle.osbase.specs.declared.references.CoreId.{CoreId}
-use Rattle.osbase.specs.declared.references.CounterRef.{CounterRef}
-use Rattle.osbase.specs.declared.references.ModeId.{ModeId}
-use Rattle.osbase.specs.declared.references.SpinlockId.{SpinlockId}
-use Rattle.osbase.specs.declared.messages.RemoteCall.{RemoteCall}
-use Rattle.osbase.specs.declared.objects.Object.{Object}
-use Rattle.osbase.specs.declared.objects.ObjectKind.{ObjectKind}
-use Rattle.osbase.specs.Objects.{counter_object, object_of_call}
-use Rattle.oscript.specs.declared.Op.{Op}
-use Rattle.oscript.specs.Calls.{is_action}
-use Rattle.oscript.specs.Rows.{refers_to_own_only, objects_of}
-use Rattle.osplan.specs.declared.plans.Alarm.{Alarm}
-use Rattle.osplan.specs.declared.plans.AlarmStart.{AlarmStart}
-use Rattle.osplan.specs.declared.plans.ExpiryPoint.{ExpiryPoint}
-use Rattle.osplan.specs.declared.plans.Plan.{Plan}
-use Rattle.osplan.specs.declared.plans.Core.{Core}
-use Rattle.osplan.specs.declared.plans.Counter.{Counter}
-use Rattle.osplan.specs.declared.plans.Isr.{Isr}
-use Rattle.osplan.specs.declared.plans.Resource.{Resource}
-use Rattle.osplan.specs.declared.plans.Spinlock.{Spinlock}
-use Rattle.osplan.specs.declared.plans.Table.{Table}
-use Rattle.osplan.specs.declared.plans.TableStart.{TableStart}
-use Rattle.osplan.specs.declared.plans.Task.{Task}
-use Rattle.osbase.specs.declared.items.CoreMode.{CoreMode}
-use Rattle.osbase.specs.declared.items.CoreMode.TheVariants.{Named, DontCare}
+use Rattle.osbase.specs.{declared.references.CoreId.CoreId, declared.references.CounterRef.CounterRef, declared.references.ModeId.ModeId, declared.references.SpinlockId.SpinlockId, declared.messages.RemoteCall.RemoteCall, declared.objects.Object.Object, declared.objects.ObjectKind.ObjectKind, Objects.counter_object, Objects.object_of_call, declared.items.CoreMode.CoreMode, declared.items.CoreMode.TheVariants.Named, declared.items.CoreMode.TheVariants.DontCare}
+use Rattle.oscript.specs.{declared.Op.Op, Calls.is_action, Rows.refers_to_own_only, Rows.objects_of}
+use Rattle.osplan.specs.{declared.plans.Alarm.Alarm, declared.plans.AlarmStart.AlarmStart, declared.plans.ExpiryPoint.ExpiryPoint, declared.plans.Plan.Plan, declared.plans.Core.Core, declared.plans.Counter.Counter, declared.plans.Isr.Isr, declared.plans.Resource.Resource, declared.plans.Spinlock.Spinlock, declared.plans.Table.Table, declared.plans.TableStart.TableStart, declared.plans.Task.Task, Naming.is_on, Naming.names_other, Spinlocks.are_links_ordered, Spinlocks.links_of, View.core_of, View.counter_in}
 use Rattle.osplan.specs.Objects.{alarm_modes, core_scripts, has_index, is_common, most_posts_per_tick, table_actions, table_modes}
-use Rattle.osplan.specs.Naming.{is_on, names_other}
-use Rattle.osplan.specs.Spinlocks.{are_links_ordered, links_of}
-use Rattle.osplan.specs.View.{core_of, counter_in}
 
 -- ---- the numbers that have limits. A number that a text has below 0 is none.
 
@@ -225,7 +199,7 @@ is_table_within s =
 abbrev pub are_tables_within : List TableSizes → Bool
 are_tables_within tables = nat_le (length tables) (most_of ObjectKind.Table) && list_all is_table_within tables
 
--- How many jobs of the task there may be at once; 0 where that number is not there, with which no task is within its limits.
+-- How many jobs of the task there may be at once. A task without that number counts as 0; it is not within the limits anyhow.
 abbrev pub jobs_of : TaskSizes → ℕ
 jobs_of s = unwrap_or s.activations 0
 

@@ -1,23 +1,9 @@
 -- The names of modes and objects, by their places. What the configuration lacks has the empty name. [own]
 use Rattle.std.specs.Prelude.{ℕ, if◌then◌else◌, List, [], slice_get, unwrap_or}
 use Rattle.std.specs.Option.{option_map_or}
-use Rattle.osbase.specs.declared.objects.ObjectKind.{ObjectKind}
-use Rattle.osbase.specs.declared.objects.Place.{Place}
-use Rattle.osbase.specs.declared.objects.TheConstants.{NOBODY}
-use Rattle.osbase.specs.declared.references.AlarmRef.{AlarmRef}
-use Rattle.osbase.specs.declared.references.IsrRef.{IsrRef}
-use Rattle.osbase.specs.declared.references.ModeId.{ModeId}
-use Rattle.osbase.specs.declared.references.ResourceRef.{ResourceRef}
-use Rattle.osbase.specs.declared.references.Runner.{Runner}
-use Rattle.osbase.specs.declared.references.SpinlockId.{SpinlockId}
-use Rattle.osbase.specs.declared.references.TableRef.{TableRef}
-use Rattle.osbase.specs.declared.references.TaskRef.{TaskRef}
-use Rattle.osbase.specs.History.{same_core}
+use Rattle.osbase.specs.{declared.objects.ObjectKind.ObjectKind, declared.objects.Place.Place, declared.objects.TheConstants.NOBODY, declared.references.AlarmRef.AlarmRef, declared.references.IsrRef.IsrRef, declared.references.ModeId.ModeId, declared.references.ResourceRef.ResourceRef, declared.references.Runner.Runner, declared.references.SpinlockId.SpinlockId, declared.references.TableRef.TableRef, declared.references.TaskRef.TaskRef, History.same_core}
 use Rattle.osbase.specs.Objects.{alarm_place, isr_place, resource_place, spinlock_place, table_place, task_place}
-use Rattle.osplan.specs.declared.plans.Core.{Core}
-use Rattle.osplan.specs.declared.plans.Plan.{Plan}
-use Rattle.osplan.specs.Objects.{common_names, names_in}
-use Rattle.osplan.specs.View.{core_of}
+use Rattle.osplan.specs.{declared.plans.Core.Core, declared.plans.Plan.Plan, Objects.common_names, Objects.names_in, View.core_of}
 
 abbrev pub name_of_mode : Plan → ModeId → List ℕ
 name_of_mode plan mode = unwrap_or (slice_get plan.modes mode.index) []

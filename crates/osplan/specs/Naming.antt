@@ -1,21 +1,9 @@
 -- What the scripts, alarms and tables of a core name: objects of one core, or of another, or a spinlock.
 use Rattle.std.specs.Prelude.{◌==◌, ◌&&◌, ◌||◌, not, Bool}
 use Rattle.std.specs.List.{list_any}
-use Rattle.osbase.specs.declared.references.CoreId.{CoreId}
-use Rattle.osbase.specs.declared.references.SpinlockId.{SpinlockId}
-use Rattle.osbase.specs.declared.messages.RemoteCall.{RemoteCall}
-use Rattle.osbase.specs.declared.objects.Object.{Object}
-use Rattle.osbase.specs.declared.objects.ObjectKind.TheVariants.{Spinlock as SpinlockKind}
-use Rattle.osbase.specs.History.{same_core}
-use Rattle.osbase.specs.Objects.{object_of_call, same_kind}
-use Rattle.oscript.specs.declared.Op.{Op}
-use Rattle.oscript.specs.Rows.{asks_shared, halts_all, objects_of}
-use Rattle.osplan.specs.declared.plans.Core.{Core}
-use Rattle.osplan.specs.declared.sides.Side.{Side}
-use Rattle.osplan.specs.declared.sides.Side.TheVariants.{On, Off, Spinlock}
-use Rattle.osplan.specs.declared.operations.OpTest.{OpTest}
-use Rattle.osplan.specs.declared.operations.OpTest.TheVariants.{Names, AsksShared, HaltsAll}
-use Rattle.osplan.specs.Objects.{core_actions, core_scripts}
+use Rattle.osbase.specs.{declared.references.CoreId.CoreId, declared.references.SpinlockId.SpinlockId, declared.messages.RemoteCall.RemoteCall, declared.objects.Object.Object, declared.objects.ObjectKind.TheVariants.Spinlock as SpinlockKind, History.same_core, Objects.object_of_call, Objects.same_kind}
+use Rattle.oscript.specs.{declared.Op.Op, Rows.asks_shared, Rows.halts_all, Rows.objects_of}
+use Rattle.osplan.specs.{declared.plans.Core.Core, declared.sides.Side.Side, declared.sides.Side.TheVariants.On, declared.sides.Side.TheVariants.Off, declared.sides.Side.TheVariants.Spinlock, declared.operations.OpTest.OpTest, declared.operations.OpTest.TheVariants.Names, declared.operations.OpTest.TheVariants.AsksShared, declared.operations.OpTest.TheVariants.HaltsAll, Objects.core_actions, Objects.core_scripts}
 
 -- The object stands on this core.
 abbrev pub is_on : CoreId → Object → Bool

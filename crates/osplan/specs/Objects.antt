@@ -1,29 +1,10 @@
 -- The objects of a configuration and of each core, kind by kind, its scripts, and what its alarms and schedule tables name.
 use Rattle.std.specs.Prelude.{ℕ, ◌+◌, ◌&&◌, ◌||◌, nat_lt, Bool, not, List, [], ◌∷◌, ◌++◌, count_by, flat_map, length, map, sum_by}
 use Rattle.std.specs.Option.{option_map_or}
-use Rattle.osbase.specs.declared.objects.ObjectKind.{ObjectKind}
+use Rattle.osbase.specs.{declared.objects.ObjectKind.ObjectKind, declared.objects.Object.Object, declared.objects.TheConstants.NOBODY, declared.limits.TheConstants.CALLS_AT_ONCE, declared.messages.RemoteCall.RemoteCall, declared.references.ModeId.ModeId, History.greater, History.same_core, Objects.object_of_call}
 use Rattle.osbase.specs.declared.objects.ObjectKind.TheVariants.{Mode, Spinlock, Task, Isr, Resource, Counter, Alarm, Table}
-use Rattle.osbase.specs.declared.objects.Object.{Object}
-use Rattle.osbase.specs.declared.objects.TheConstants.{NOBODY}
-use Rattle.osbase.specs.declared.limits.TheConstants.{CALLS_AT_ONCE}
-use Rattle.osbase.specs.declared.messages.RemoteCall.{RemoteCall}
-use Rattle.osbase.specs.declared.references.ModeId.{ModeId}
-use Rattle.osbase.specs.History.{greater, same_core}
-use Rattle.osbase.specs.Objects.{object_of_call}
-use Rattle.oscript.specs.declared.Op.{Op}
-use Rattle.oscript.specs.Calls.{is_action}
-use Rattle.osplan.specs.declared.plans.Alarm.{Alarm as AlarmValue}
-use Rattle.osplan.specs.declared.plans.AlarmStart.{AlarmStart}
-use Rattle.osplan.specs.declared.plans.Core.{Core}
-use Rattle.osplan.specs.declared.plans.Counter.{Counter as CounterValue}
-use Rattle.osplan.specs.declared.plans.ExpiryPoint.{ExpiryPoint}
-use Rattle.osplan.specs.declared.plans.Isr.{Isr as IsrValue}
-use Rattle.osplan.specs.declared.plans.Plan.{Plan}
-use Rattle.osplan.specs.declared.plans.Resource.{Resource as ResourceValue}
-use Rattle.osplan.specs.declared.plans.Spinlock.{Spinlock as SpinlockValue}
-use Rattle.osplan.specs.declared.plans.Table.{Table as TableValue}
-use Rattle.osplan.specs.declared.plans.TableStart.{TableStart}
-use Rattle.osplan.specs.declared.plans.Task.{Task as TaskValue}
+use Rattle.oscript.specs.{declared.Op.Op, Calls.is_action}
+use Rattle.osplan.specs.{declared.plans.Alarm.Alarm as AlarmValue, declared.plans.AlarmStart.AlarmStart, declared.plans.Core.Core, declared.plans.Counter.Counter as CounterValue, declared.plans.ExpiryPoint.ExpiryPoint, declared.plans.Isr.Isr as IsrValue, declared.plans.Plan.Plan, declared.plans.Resource.Resource as ResourceValue, declared.plans.Spinlock.Spinlock as SpinlockValue, declared.plans.Table.Table as TableValue, declared.plans.TableStart.TableStart, declared.plans.Task.Task as TaskValue}
 
 -- ---- the objects that all cores have in common
 

@@ -1,8 +1,7 @@
 -- The words of a configuration's text for how a core answers a time fault. [AUTOSAR SWS OS 4.x, ProtectionReturnType]
 use Rattle.std.specs.Prelude.{ℕ, Option, List, codes, find}
 use Rattle.std.specs.Str.{bytes_eq}
-use Rattle.osplan.specs.declared.protection.Protection.{Protection}
-use Rattle.osplan.specs.declared.protection.TheConstants.{PROTECTIONS}
+use Rattle.osplan.specs.{declared.protection.Protection.Protection, declared.protection.TheConstants.PROTECTIONS}
 
 abbrev pub protection_word : Protection → List ℕ
 protection_word Protection.Ignore = codes "PRO_IGNORE"

@@ -3,27 +3,10 @@
 -- likewise. [own]
 -- Each is a test, so that a literal configuration passes it by computation.
 use Rattle.std.specs.Prelude.{ℕ, ◌&&◌, ◌||◌, nat_le, Bool, true, not, List, [], ◌∷◌, ◌++◌, length, codes}
-use Rattle.std.specs.List.{list_all, list_any, flat_map}
-use Rattle.std.specs.Option.{option_map_or}
-use Rattle.std.specs.Str.{bytes_eq}
-use Rattle.osbase.specs.declared.objects.ObjectKind.{ObjectKind}
-use Rattle.osbase.specs.declared.messages.RemoteCall.{RemoteCall}
-use Rattle.osbase.specs.Names.{is_name}
-use Rattle.oscript.specs.declared.Op.{Op}
-use Rattle.oscript.specs.Calls.{op_of_call}
-use Rattle.oscript.specs.Frames.{position_of}
-use Rattle.oscript.specs.Rows.{has_masks, is_in_form, uses_resource}
-use Rattle.osplan.specs.declared.plans.Alarm.{Alarm}
-use Rattle.osplan.specs.declared.plans.Plan.{Plan}
-use Rattle.osplan.specs.declared.plans.Core.{Core}
-use Rattle.osplan.specs.declared.plans.Counter.{Counter}
-use Rattle.osplan.specs.declared.plans.Isr.{Isr}
-use Rattle.osplan.specs.declared.plans.Resource.{Resource}
-use Rattle.osplan.specs.declared.plans.Spinlock.{Spinlock}
-use Rattle.osplan.specs.declared.plans.Table.{Table}
-use Rattle.osplan.specs.declared.plans.Task.{Task}
-use Rattle.osplan.specs.declared.plans.TheConstants.{COMMON, KINDS}
-use Rattle.osplan.specs.Objects.{common_names, names_in, table_actions}
+use Rattle.std.specs.{List.list_all, List.list_any, List.flat_map, Option.option_map_or, Str.bytes_eq}
+use Rattle.osbase.specs.{declared.objects.ObjectKind.ObjectKind, declared.messages.RemoteCall.RemoteCall, Names.is_name}
+use Rattle.oscript.specs.{declared.Op.Op, Calls.op_of_call, Frames.position_of, Rows.has_masks, Rows.is_in_form, Rows.uses_resource}
+use Rattle.osplan.specs.{declared.plans.Alarm.Alarm, declared.plans.Plan.Plan, declared.plans.Core.Core, declared.plans.Counter.Counter, declared.plans.Isr.Isr, declared.plans.Resource.Resource, declared.plans.Spinlock.Spinlock, declared.plans.Table.Table, declared.plans.Task.Task, declared.plans.TheConstants.COMMON, declared.plans.TheConstants.KINDS, Objects.common_names, Objects.names_in, Objects.table_actions}
 
 -- The word for the mode of a core that goes with any. [AUTOSAR SWS OS 4.x, DONOTCARE]
 abbrev pub dont_care : List ℕ

@@ -1,10 +1,8 @@
 -- The order in which a job may get spinlocks while it holds others: each spinlock may have a successor.
 -- Each is a test, so that a literal configuration passes it by computation.
 use Rattle.std.specs.Prelude.{ℕ, zero, suc, ◌||◌, Bool, true, false, not, Option, None, List, length, map, slice_get, unwrap_or}
-use Rattle.std.specs.List.{list_all}
-use Rattle.std.specs.Option.{option_map_or}
-use Rattle.osbase.specs.declared.references.SpinlockId.{SpinlockId}
-use Rattle.osbase.specs.Spins.{same_spinlock}
+use Rattle.std.specs.{List.list_all, Option.option_map_or}
+use Rattle.osbase.specs.{declared.references.SpinlockId.SpinlockId, Spins.same_spinlock}
 use Rattle.osplan.specs.declared.plans.Spinlock.{Spinlock}
 
 -- The successor of each spinlock, if it has one. [AUTOSAR SWS OS 4.x, OsSpinlockSuccessor]
@@ -15,8 +13,8 @@ links_of spinlocks = map (λ (spinlock : Spinlock). spinlock.next) spinlocks
 abbrev pub next_in : List (Option SpinlockId) → SpinlockId → Option SpinlockId
 next_in links l = unwrap_or (slice_get links l.index) None
 
--- One spinlock comes after another if one to n links, from successor to successor, result in it. As many links as there are spinlocks
--- are enough: a way that visits none twice has no more. [AUTOSAR SWS OS 4.x, SWS_Os_00660, SWS_Os_00661]
+-- `to` comes after `from` if one to n steps lead there, each from a spinlock to its successor. As many steps as there are spinlocks are
+-- enough: a way that visits none twice has no more. [AUTOSAR SWS OS 4.x, SWS_Os_00660, SWS_Os_00661]
 abbrev pub comes_after : List (Option SpinlockId) → ℕ → SpinlockId → SpinlockId → Bool
 comes_after links zero from to = false
 comes_after links (suc n) from to = option_map_or (λ (next : SpinlockId). same_spinlock next to || comes_after links n next to) (next_in links from) false

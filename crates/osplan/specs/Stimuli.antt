@@ -1,13 +1,8 @@
 -- Which stimuli the cores of a configuration know.
 use Rattle.std.specs.Prelude.{◌≡◌, ◌^◌, ◌≤◌, Bool, true, is_some, List, length}
 use Rattle.std.specs.List.{list_all}
-use Rattle.osbase.specs.declared.references.CoreId.{CoreId}
-use Rattle.osbase.specs.declared.items.Stimulus.{Stimulus}
-use Rattle.osbase.specs.declared.turns.CoreStimuli.{CoreStimuli}
-use Rattle.osbase.specs.Runs.{stimuli_of}
-use Rattle.osplan.specs.declared.plans.Core.{Core}
-use Rattle.osplan.specs.declared.plans.Plan.{Plan}
-use Rattle.osplan.specs.View.{own_isr, view_of}
+use Rattle.osbase.specs.{declared.references.CoreId.CoreId, declared.items.Stimulus.Stimulus, declared.turns.CoreStimuli.CoreStimuli, Runs.stimuli_of}
+use Rattle.osplan.specs.{declared.plans.Core.Core, declared.plans.Plan.Plan, View.own_isr, View.view_of}
 
 -- Which stimulus the core knows: the running job's next operation, a tick of its hardware counters, and an interrupt of one of its
 -- ISRs.

@@ -1,25 +1,7 @@
 -- What one core sees of a configuration.
 use Rattle.std.specs.Prelude.{ℕ, if◌then◌else◌, Bool, Option, None, List, [], find, map, is_some, option_and_then, slice_get, unwrap_or}
-use Rattle.osbase.specs.declared.references.AlarmRef.{AlarmRef}
-use Rattle.osbase.specs.declared.references.CoreId.{CoreId}
-use Rattle.osbase.specs.declared.references.CounterRef.{CounterRef}
-use Rattle.osbase.specs.declared.references.IsrRef.{IsrRef}
-use Rattle.osbase.specs.declared.references.ResourceRef.{ResourceRef}
-use Rattle.osbase.specs.declared.references.SpinlockId.{SpinlockId}
-use Rattle.osbase.specs.declared.references.TableRef.{TableRef}
-use Rattle.osbase.specs.declared.references.TaskRef.{TaskRef}
-use Rattle.osbase.specs.History.{same_core}
-use Rattle.osplan.specs.Spinlocks.{links_of}
-use Rattle.osplan.specs.declared.plans.Plan.{Plan}
-use Rattle.osplan.specs.declared.plans.Alarm.{Alarm}
-use Rattle.osplan.specs.declared.plans.Core.{Core}
-use Rattle.osplan.specs.declared.plans.Counter.{Counter}
-use Rattle.osplan.specs.declared.plans.Isr.{Isr}
-use Rattle.osplan.specs.declared.plans.Resource.{Resource}
-use Rattle.osplan.specs.declared.plans.Table.{Table}
-use Rattle.osplan.specs.declared.plans.Task.{Task}
-use Rattle.osbase.specs.declared.items.CoreMode.TheVariants.{DontCare}
-use Rattle.osplan.specs.declared.protection.Protection.TheVariants.{Shutdown}
+use Rattle.osbase.specs.{declared.references.AlarmRef.AlarmRef, declared.references.CoreId.CoreId, declared.references.CounterRef.CounterRef, declared.references.IsrRef.IsrRef, declared.references.ResourceRef.ResourceRef, declared.references.SpinlockId.SpinlockId, declared.references.TableRef.TableRef, declared.references.TaskRef.TaskRef, History.same_core, declared.items.CoreMode.TheVariants.DontCare}
+use Rattle.osplan.specs.{Spinlocks.links_of, declared.plans.Plan.Plan, declared.plans.Alarm.Alarm, declared.plans.Core.Core, declared.plans.Counter.Counter, declared.plans.Isr.Isr, declared.plans.Resource.Resource, declared.plans.Table.Table, declared.plans.Task.Task, declared.protection.Protection.TheVariants.Shutdown}
 
 -- The core of this number, if one is configured.
 abbrev pub core_of : Plan → CoreId → Option Core

@@ -1,8 +1,7 @@
 //! Why a configuration, stimuli or a schedule was not read, or a core's configuration not cut from the whole.
 
 ghost use Rattle.std.specs.Prelude.{◌≡◌};
-ghost use Rattle.osplan.specs.Fault.{fault_number, fault_name};
-ghost use Rattle.osplan.specs.declared.faults.ConfFault.TheVariants.{NoMemory};
+ghost use Rattle.osplan.specs.{Fault.fault_number, Fault.fault_name, declared.faults.ConfFault.TheVariants.NoMemory};
 
 use std::alloc::{AllocError, AllocFailed};
 use thiserror::Error;

@@ -1,10 +1,7 @@
 //! Which operations the scripts of a core have.
 
-ghost use Rattle.std.specs.Prelude.{◌≡◌};
-ghost use Rattle.std.specs.List.{list_any};
-ghost use Rattle.osplan.specs.declared.plans.Isr.{Isr as IsrValue};
-ghost use Rattle.osplan.specs.declared.plans.Task.{Task as TaskValue};
-ghost use Rattle.osplan.specs.Naming.{has_operation, passes_test};
+ghost use Rattle.std.specs.{Prelude.◌≡◌, List.list_any};
+ghost use Rattle.osplan.specs.{declared.plans.Isr.Isr as IsrValue, declared.plans.Task.Task as TaskValue, Naming.has_operation, Naming.passes_test};
 
 use crate::plans::Core;
 use crate::sides::Side;

@@ -1,14 +1,10 @@
 //! The parts of a configuration, and the configuration that keeps its limits.
 
-ghost use Rattle.std.specs.Prelude.{◌≡◌, ◌↔◌, IsTrue, length, Option, option_copied, slice_get};
+ghost use Rattle.std.specs.Prelude.{◌≡◌, IsTrue, length, option_copied, slice_get};
 ghost use Rattle.std.specs.List.{list_all};
 ghost use Rattle.osplan.specs.Objects.{common_names, core_scripts, is_own_object, names_in, object_count};
-ghost use Rattle.osplan.specs.Stimuli.{knows_stimulus};
-ghost use Rattle.osplan.specs.View.{core_of};
+ghost use Rattle.osplan.specs.{Stimuli.knows_stimulus, View.core_of, Representable.is_representable, declared.plans.Isr.Isr as IsrValue, declared.plans.Task.Task as TaskValue};
 ghost use Rattle.osplan.specs.Limits.{is_alarm_local, has_local_references, is_table_local, is_within_limits, is_local_to};
-ghost use Rattle.osplan.specs.Representable.{is_representable};
-ghost use Rattle.osplan.specs.declared.plans.Isr.{Isr as IsrValue};
-ghost use Rattle.osplan.specs.declared.plans.Task.{Task as TaskValue};
 
 use crate::own::isr_of;
 use crate::protection::Protection;
@@ -180,9 +176,7 @@ pub struct Config {
 
 impl Model for Config {
     ghost use Rattle.std.specs.Prelude.{IsTrue};
-    ghost use Rattle.osplan.specs.declared.plans.Plan.{Plan};
-    ghost use Rattle.osplan.specs.Limits.{is_within_limits};
-    ghost use Rattle.osplan.specs.Representable.{is_representable};
+    ghost use Rattle.osplan.specs.{declared.plans.Plan.Plan, Limits.is_within_limits, Representable.is_representable};
 
     ghost Value = { Plan };
 

@@ -1,13 +1,8 @@
 //! What scripts, alarms and tables name: objects of one core, or of another, or a spinlock.
 
-ghost use Rattle.std.specs.Prelude.{◌≡◌, false};
-ghost use Rattle.std.specs.List.{list_any};
-ghost use Rattle.std.specs.Option.{option_map_or};
+ghost use Rattle.std.specs.{Prelude.◌≡◌, Prelude.false, List.list_any, Option.option_map_or};
 ghost use Rattle.osbase.specs.Objects.{object_of_call};
-ghost use Rattle.osplan.specs.Limits.{is_local_to};
-ghost use Rattle.osplan.specs.declared.plans.Alarm.{Alarm as AlarmValue};
-ghost use Rattle.osplan.specs.declared.plans.ExpiryPoint.{ExpiryPoint as PointValue};
-ghost use Rattle.osplan.specs.declared.plans.Table.{Table as TableValue};
+ghost use Rattle.osplan.specs.{Limits.is_local_to, declared.plans.Alarm.Alarm as AlarmValue, declared.plans.ExpiryPoint.ExpiryPoint as PointValue, declared.plans.Table.Table as TableValue};
 ghost use Rattle.osplan.specs.Naming.{acts_on, is_at, is_on, is_that_spinlock, names_object, op_names};
 
 use crate::operations::{OpTest, has_operation};

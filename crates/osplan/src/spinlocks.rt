@@ -59,8 +59,8 @@ pub fn are_links_ordered(spinlocks: &[Spinlock]) -> bool
 }
 
 impl Plan {
-    /// Whether one spinlock comes after another: it is the successor of that one, or of one that comes after that one
-    /// (AUTOSAR SWS OS 4.x, SWS_Os_00660). What is no spinlock of the plan comes after none, and none after it.
+    /// Whether `to` comes after `from`: it is the successor of `from`, or it comes after that successor (AUTOSAR SWS OS 4.x,
+    /// SWS_Os_00660). It does not if either is no spinlock of the plan.
     pub fn comes_after(&self, from: SpinlockId, to: SpinlockId) -> bool
         ensures { result ≡ comes_after (links_of self.now.spinlocks) (length (links_of self.now.spinlocks)) from to }
     {

@@ -1,12 +1,9 @@
 -- One bit of a word.
-use Rattle.std.proofs.Common.{◌≡◌, inl, inr, ℕ, suc, ◌*◌, ◌/◌, ◌%◌, ◌^◌, ◌≤◌, ◌<◌, min, ap, arith}
-use Rattle.std.specs.Int.{bit_at, bit_not}
-use Rattle.std.specs.Int.Bits.{bit_and}
-use Rattle.std.specs.Int.{w32}
-use Rattle.std.proofs.lemmas.Bool.{cases_eq, cases_lt}
-use Rattle.std.proofs.lemmas.Nat.{and_le_l}
+use Rattle.std.proofs.Common.{◌≡◌, inl, inr, ℕ, suc, ◌*◌, ◌/◌, ◌%◌, ◌^◌, ◌≤◌, ◌<◌, nat_eq, Bool, cond, min, refl, ap, sym, ◌∙◌, arith}
+use Rattle.std.specs.{Int.bit_at, Int.bit_not, Int.Bits.bit_and, Int.w32}
+use Rattle.std.proofs.lemmas.Bool.{cases_eq, cases_lt, eq-eqb, ne_eqb}
+use Rattle.std.proofs.{lemmas.Nat.and_le_l, Math.Nat.div-eq_of_lt-le, Math.Nat.pow-succ'}
 use Rattle.std.proofs.lemmas.Nat.Bits.{bit_at_above, bit_at_and, bit_at_clear_other, bit_at_clear_same}
-use Rattle.std.proofs.Math.Nat.{div-eq_of_lt-le, pow-succ'}
 
 pub clear-other : (n k q : ℕ) → n < 2 ^ 32 → k < 32 → (q ≡ k → ⊥) → bit_at (bit_and n (bit_not w32 (1 * 2 ^ k % 2 ^ 32))) q ≡ bit_at n q
 clear-other n k q word within other = elim (cases_lt q 32) [
@@ -30,3 +27,19 @@ top-set n k low high =
 
 pub above-top : (n k q : ℕ) → n < 2 * 2 ^ k → k < q → bit_at n q ≡ 0
 above-top n k q high above = bit_at_above n (suc k) q (omega (arith, high, pow-succ' 2 k)) (omega (arith, above))
+
+-- ---- a word whose bits are those of another but for one
+
+module _ (word new p v : ℕ) where
+  pub changed : bit_at new p ≡ v → ((q : ℕ) → (q ≡ p → ⊥) → bit_at new q ≡ bit_at word q) → (q : ℕ) → bit_at new q ≡ cond (nat_eq q p) v (bit_at word q)
+  changed here others q = elim (cases_eq q p) [
+    | inl same ↦ ap (bit_at new) same ∙ here ∙ sym (ap (λ (b : Bool). cond b v (bit_at word q)) (eq-eqb q p same))
+    | inr other ↦ others q other ∙ sym (ap (λ (b : Bool). cond b v (bit_at word q)) (ne_eqb q p other))
+  ]
+
+  module _ (each : (q : ℕ) → bit_at new q ≡ cond (nat_eq q p) v (bit_at word q)) where
+    pub changed-here : bit_at new p ≡ v
+    changed-here = each p ∙ ap (λ (b : Bool). cond b v (bit_at word p)) (eq-eqb p p refl)
+
+    pub changed-others : (q : ℕ) → (q ≡ p → ⊥) → bit_at new q ≡ bit_at word q
+    changed-others q other = each q ∙ ap (λ (b : Bool). cond b v (bit_at word q)) (ne_eqb q p other)

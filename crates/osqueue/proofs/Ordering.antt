@@ -2,12 +2,10 @@
 use Rattle.std.proofs.Common.{◌≡◌, inl, inr, ℕ, zero, suc, ◌≤◌, ◌<◌, ◌&&◌, nat_eq, nat_lt, Bool, true, false, cond, Option, Some, None, is_some, List, [], ◌∷◌, length, refl, ap, sym, subst, ◌∙◌, arith, get_or-set_same, get_or-set_other, length-set}
 use Rattle.std.specs.List.{All, Contains, slice_set}
 use Rattle.std.proofs.lemmas.Bool.{false≢true, true≢false, eq-eqb, and_from, cases_eq, cases_lt}
-use Rattle.std.proofs.lemmas.Bool.Decides.{nat_tests}
-use Rattle.std.proofs.lemmas.List.{set-set, set-get_or, get_or_past}
+use Rattle.std.proofs.{lemmas.Bool.Decides.nat_tests, lemmas.List.set-set, lemmas.List.set-get_or, lemmas.List.get_or_past}
 use Rattle.std.proofs.lemmas.List.Elements.{All-nil, All-cons, All-head, All-tail, All-contains}
-use Rattle.osqueue.specs.declared.ready.Ready.{Ready}
+use Rattle.osqueue.specs.{declared.ready.Ready.Ready, Links.at}
 use Rattle.osqueue.specs.Ordered.{is_same, ordered, placed, precedes, without}
-use Rattle.osqueue.specs.Links.{at}
 
 -- ---- the order
 

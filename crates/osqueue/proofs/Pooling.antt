@@ -1,13 +1,8 @@
 -- A pool's places that have no job, and lists changed at one place.
 use Rattle.std.proofs.Common.{◌≡◌, inl, inr, ℕ, ◌+◌, ◌-◌, ◌<◌, true, false, Option, Some, None, is_some, List, [], length, replicate, refl, ap, sym, subst, ◌∙◌, arith, get_or-set_same, get_or-set_other, length-set}
-use Rattle.std.specs.List.{slice_index, slice_set}
-use Rattle.std.specs.Int.{bit_at}
-use Rattle.std.proofs.lemmas.Bool.{false≢true, cases_eq, cases_lt}
-use Rattle.std.proofs.lemmas.List.{length-replicate, get_or-replicate, get_or_past}
-use Rattle.std.proofs.lemmas.Nat.Bits.{bit_at-zero}
-use Rattle.osqueue.specs.declared.ready.Ready.{Ready}
-use Rattle.osqueue.specs.Ordered.{ordered}
-use Rattle.osqueue.specs.Links.{IsPool, IsQueued, at}
+use Rattle.std.specs.{List.slice_index, List.slice_set, Int.bit_at}
+use Rattle.std.proofs.{lemmas.Bool.false≢true, lemmas.Bool.cases_eq, lemmas.Bool.cases_lt, lemmas.List.length-replicate, lemmas.List.get_or-replicate, lemmas.List.get_or_past, lemmas.Nat.Bits.bit_at-zero}
+use Rattle.osqueue.specs.{declared.ready.Ready.Ready, Ordered.ordered, Links.IsPool, Links.IsQueued, Links.at}
 use Rattle.osqueue.proofs.Ordering.{inside, length-cleared, length-filled, ordered-none}
 use Rattle.osqueue.proofs.Linking.{Clears, Puts, Sets}
 

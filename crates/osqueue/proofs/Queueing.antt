@@ -3,8 +3,7 @@ use Rattle.std.proofs.Common.{◌≡◌, inl, inr, ℕ, ◌≤◌, ◌<◌, true
 use Rattle.std.specs.List.{All, Contains, slice_index, slice_set}
 use Rattle.std.specs.Int.{bit_at}
 use Rattle.std.proofs.lemmas.Bool.{false≢true, cases_eq, cases_lt}
-use Rattle.osqueue.specs.declared.ready.Ready.{Ready}
-use Rattle.osqueue.specs.declared.ready.TheConstants.{PRIORITIES}
+use Rattle.osqueue.specs.{declared.ready.Ready.Ready, declared.ready.TheConstants.PRIORITIES}
 use Rattle.osqueue.specs.Ordered.{ComesAfter, ComesBefore, IsBest, is_same, ordered, placed, precedes, without}
 use Rattle.osqueue.specs.Links.{IsBefore, IsFirst, IsOnTheWay, IsQueued, IsWay, at, priority_of, stamp_of}
 use Rattle.osqueue.proofs.Ordering.{all-ordered, filled, inside, is-apart, is-before, ordered-all, ordered-none, place-of, popped, taken-out}

@@ -2,9 +2,7 @@
 -- names no other place but by priority and stamp, so no queue is followed from its front to say it. [own]
 use Rattle.std.specs.Prelude.{◌≡◌, ℕ, ◌+◌, ◌<◌, ◌≤◌, true, Option, Some, None, is_some, List, length, slice_index, slice_index_or}
 use Rattle.std.specs.Int.{bit_at}
-use Rattle.osqueue.specs.declared.ready.Ready.{Ready}
-use Rattle.osqueue.specs.declared.ready.TheConstants.{PRIORITIES}
-use Rattle.osqueue.specs.Ordered.{ordered}
+use Rattle.osqueue.specs.{declared.ready.Ready.Ready, declared.ready.TheConstants.PRIORITIES, Ordered.ordered}
 
 -- The priority and the stamp of a place's job.
 abbrev pub priority_of : Option Ready → ℕ
@@ -77,6 +75,13 @@ pub record IsStep (pool : List (Option Ready)) (j : ℕ) (ready : Ready) (stamp 
 -- From each such place the link leads on, and not beyond the job.
 abbrev pub IsWay : List (Option Ready) → List ℕ → Ready → Type 0
 IsWay pool next ready = (i : ℕ) → IsOnTheWay pool ready i → IsStep pool (slice_index next i) ready (stamp_of (at pool i))
+
+-- The job can be found from this place of a pool of this size: the place is on the way to the job, and from each place on the way the
+-- link leads on.
+pub record IsReachable (room : ℕ) (pool : List (Option Ready)) (next : List ℕ) (ready : Ready) (i : ℕ) : Type 0 where
+  pub size : length pool ≡ room
+  pub first : IsOnTheWay pool ready i
+  pub way : IsWay pool next ready
 
 -- The link of a place on the way leads to the job.
 pub record IsBefore (pool : List (Option Ready)) (next : List ℕ) (ready : Ready) (i : ℕ) : Type 0 where

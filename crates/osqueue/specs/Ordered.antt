@@ -1,7 +1,7 @@
 -- The order in which ready jobs run, and lists of them in that order.
-use Rattle.std.specs.Prelude.{◌≡◌, ◌<◌, ◌≤◌, ◌==◌, ◌&&◌, nat_lt, Bool, if◌then◌else◌, Option, Some, None, List, [], ◌∷◌}
+use Rattle.std.specs.Prelude.{◌≡◌, ℕ, ◌<◌, ◌≤◌, ◌==◌, ◌&&◌, nat_lt, Bool, if◌then◌else◌, Option, Some, None, List, [], ◌∷◌, length}
 use Rattle.std.specs.List.{All, Contains}
-use Rattle.osqueue.specs.declared.ready.Ready.{Ready}
+use Rattle.osqueue.specs.{declared.ready.Ready.Ready, declared.ready.TheConstants.PRIORITIES}
 
 -- The first of two jobs runs first: its priority is greater, or is the same, and then its stamp is smaller.
 -- [OSEK/VDX OS 2.2.3, section 4.5]
@@ -34,6 +34,18 @@ ComesBefore x y = y.priority ≡ x.priority → y.job.stamp < x.job.stamp
 
 abbrev pub ComesAfter : Ready → Ready → Type 0
 ComesAfter x y = y.priority ≡ x.priority → x.job.stamp < y.job.stamp
+
+-- A job can be put into a queue for so many priorities and jobs: there is room for one more, and its priority has a queue and a bit in the
+-- word of priorities.
+pub record HasPlaceFor (priorities jobs : ℕ) (x : Ready) (queue : List Ready) : Type 0 where
+  pub room : length queue < jobs
+  pub priority : x.priority < priorities
+  pub marked : x.priority < PRIORITIES
+
+-- How often a pop reads: the word of priorities and, if it finds a job, the front of one queue.
+abbrev pub pop_reads : Option Ready → ℕ
+pop_reads None = 1
+pop_reads (Some x) = 2
 
 -- The job is one of these, none has a greater priority, and none of its priority a smaller stamp.
 pub record IsBest (x : Ready) (all : List Ready) : Type 0 where

@@ -1,6 +1,6 @@
 //! The word of the priorities that have entries, and where the queue of each begins. Whoever reads one of these counts it.
 
-ghost use Rattle.std.specs.Prelude.{◌≡◌, ◌+◌, ◌<◌, ◌^◌, length, slice_index, slice_set};
+ghost use Rattle.std.specs.Prelude.{◌≡◌, ◌+◌, ◌<◌, ◌^◌, replicate, slice_index, slice_set};
 
 use crate::reads::Reads;
 
@@ -14,8 +14,7 @@ pub(crate) struct Fronts<const P: usize> {
 impl<const P: usize> Fronts<P> {
     /// No priority has any.
     pub(crate) fn new() -> Self
-        ensures word { result.word ≡ 0 }
-        ensures places { length result.places ≡ P }
+        ensures { result ≡ record { word = 0; places = replicate P 0 } }
     {
         Fronts {
             word: 0,

@@ -1,6 +1,6 @@
 //! Places for ready jobs.
 
-ghost use Rattle.std.specs.Prelude.{◌≡◌, ◌==◌, ◌<◌, ◌≤◌, Some, None, IsTrue, ◌↔◌, is_some, true, length, replicate, slice_index_or, slice_set};
+ghost use Rattle.std.specs.Prelude.{◌≡◌, ◌<◌, Some, None, IsTrue, ◌↔◌, is_some, true, length, replicate, slice_index_or, slice_set};
 ghost use Rattle.osqueue.specs.Ordered.{ordered};
 
 use crate::ready::Ready;
@@ -17,8 +17,7 @@ pub(crate) struct Pool<const J: usize> {
 
 impl<const J: usize> Model for Pool<J> {
     ghost use Rattle.std.specs.Prelude.{Option, List};
-    ghost use Rattle.osqueue.specs.declared.ready.Ready.{Ready};
-    ghost use Rattle.osqueue.specs.Links.{IsPool};
+    ghost use Rattle.osqueue.specs.{declared.ready.Ready.Ready, Links.IsPool};
 
     ghost Value = { List (Option Ready) };
 

@@ -1,11 +1,9 @@
 //! The queues.
 
-ghost use Rattle.std.specs.Prelude.{◌≡◌, ◌+◌, ◌<◌, ◌≤◌, ◌^◌, ◌↔◌, [], drop, length, slice_get, slice_index, slice_index_or, slice_set, None, IsTrue, IfSome, IfNone, OnSome};
-ghost use Rattle.std.specs.List.{All, Contains};
-ghost use Rattle.std.specs.Int.{bit_at};
-ghost use Rattle.osqueue.specs.declared.ready.TheConstants.{PRIORITIES};
-ghost use Rattle.osqueue.specs.Ordered.{ComesAfter, ComesBefore, IsBest, placed, without};
-ghost use Rattle.osqueue.specs.Links.{IsBefore, IsOnTheWay, IsWay};
+ghost use Rattle.std.specs.Prelude.{◌≡◌, ◌+◌, ◌<◌, ◌≤◌, ◌^◌, ◌↔◌, [], drop, length, slice_get, None, IsTrue, IfSome, IfNone};
+ghost use Rattle.std.specs.{List.All, List.Contains};
+ghost use Rattle.osqueue.specs.Ordered.{ComesAfter, ComesBefore, HasPlaceFor, IsBest, placed, pop_reads, without};
+ghost use Rattle.osqueue.specs.Links.{IsBefore, IsReachable};
 
 use crate::fronts::Fronts;
 use crate::pool::Pool;
@@ -32,8 +30,7 @@ impl<const P: usize, const J: usize> Model for ReadyQueue<P, J> {
 
     ghost Value = { List Ready };
 
-    ghost use Rattle.osqueue.specs.Ordered.{ordered};
-    ghost use Rattle.osqueue.specs.Links.{IsQueued};
+    ghost use Rattle.osqueue.specs.{Ordered.ordered, Links.IsQueued};
 
     ghost view = { λ q. ordered q.pool };
 
@@ -62,9 +59,7 @@ impl<const P: usize, const J: usize> ReadyQueue<P, J> {
 
     /// A job comes behind all others of its priority.
     pub fn push_back(&mut self, ready: Ready, reads: &mut Reads)
-        requires room { length self.old < J }
-        requires priority { ready.priority < P }
-        requires marked { ready.priority < PRIORITIES }
+        requires place { HasPlaceFor P J ready self.old }
         requires newest { All (ComesBefore ready) self.old }
         requires count { reads.old < 2 ^ 48 }
         ensures list { self.new ≡ placed ready self.old }
@@ -86,9 +81,7 @@ impl<const P: usize, const J: usize> ReadyQueue<P, J> {
 
     /// A job comes before all others of its priority.
     pub fn push_front(&mut self, ready: Ready, reads: &mut Reads)
-        requires room { length self.old < J }
-        requires priority { ready.priority < P }
-        requires marked { ready.priority < PRIORITIES }
+        requires place { HasPlaceFor P J ready self.old }
         requires oldest { All (ComesAfter ready) self.old }
         requires count { reads.old < 2 ^ 48 }
         ensures list { self.new ≡ placed ready self.old }
@@ -117,8 +110,7 @@ impl<const P: usize, const J: usize> ReadyQueue<P, J> {
         ensures none { IfNone result (self.old ≡ []) }
         ensures first { result ≡ slice_get self.old 0 }
         ensures rest { self.new ≡ drop 1 self.old }
-        ensures two { OnSome result (reads.new ≡ reads.old + 2) }
-        ensures one { IfNone result (reads.new ≡ reads.old + 1) }
+        ensures reads { reads.new ≡ reads.old + pop_reads result }
     {
         let word = self.fronts.word(reads);
         if word == 0 {
@@ -182,9 +174,7 @@ fn place_before<const J: usize>(
     first: usize,
     ready: Ready,
 ) -> usize
-    requires size { length pool.now ≡ J }
-    requires first { IsOnTheWay pool.now ready first }
-    requires way { IsWay pool.now next.now ready }
+    requires { IsReachable J pool.now next.now ready first }
     ensures { IsBefore pool.now next.now ready result }
 {
     let mut before = first;

@@ -1,14 +1,13 @@
 //! Words with a bit for each priority.
 
-ghost use Rattle.std.specs.Prelude.{◌≡◌, ℕ, ◌<◌, IsTrue, false};
+ghost use Rattle.std.specs.Prelude.{◌≡◌, ℕ, ◌<◌, ◌==◌, if◌then◌else◌};
 ghost use Rattle.std.specs.Int.{bit_at};
 ghost use Rattle.osqueue.specs.declared.ready.TheConstants.{PRIORITIES};
 
 /// Whether the priority's bit is set.
 pub fn is_marked(word: u32, priority: u8) -> bool
     requires { priority < PRIORITIES }
-    ensures marked { IsTrue result → bit_at word priority ≡ 1 }
-    ensures unmarked { result ≡ false → bit_at word priority ≡ 0 }
+    ensures { bit_at word priority ≡ (if result then 1 else 0) }
 {
     (word >> u32::from(priority)) & 1 == 1
 }
@@ -16,8 +15,7 @@ pub fn is_marked(word: u32, priority: u8) -> bool
 /// The word with the priority's bit set.
 pub fn marked(word: u32, priority: u8) -> u32
     requires { priority < PRIORITIES }
-    ensures here { bit_at result priority ≡ 1 }
-    ensures others { (q : ℕ) → (q ≡ priority → ⊥) → bit_at result q ≡ bit_at word q }
+    ensures { (q : ℕ) → bit_at result q ≡ (if q == priority then 1 else bit_at word q) }
 {
     word | (1 << u32::from(priority))
 }
@@ -25,8 +23,7 @@ pub fn marked(word: u32, priority: u8) -> u32
 /// The word without the priority's bit.
 pub fn unmarked(word: u32, priority: u8) -> u32
     requires { priority < PRIORITIES }
-    ensures here { bit_at result priority ≡ 0 }
-    ensures others { (q : ℕ) → (q ≡ priority → ⊥) → bit_at result q ≡ bit_at word q }
+    ensures bits { (q : ℕ) → bit_at result q ≡ (if q == priority then 0 else bit_at word q) }
     ensures fewer { bit_at word priority ≡ 1 → result < word }
 {
     word & !(1 << u32::from(priority))

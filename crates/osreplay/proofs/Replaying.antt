@@ -1,20 +1,12 @@
 -- A seat that took the first of some items.
 use Rattle.std.proofs.Common.{◌≡◌, ◌<◌, ◌+◌, ℕ, Bool, true, false, Some, List, [], ◌∷◌, ◌++◌, length, take, sym, ap, ◌∙◌}
 use Rattle.std.specs.List.{slice_get}
-use Rattle.std.proofs.lemmas.List.{take_more}
-use Rattle.std.proofs.lemmas.Option.{get_or_from_slice_get, slice_get_within}
-use Rattle.osbase.specs.declared.items.Item.{Item}
-use Rattle.osbase.specs.declared.references.CoreId.{CoreId}
-use Rattle.osbase.specs.declared.turns.Report.{Report}
-use Rattle.osplan.specs.declared.plans.Plan.{Plan}
-use Rattle.osplan.specs.View.{view_of}
+use Rattle.std.proofs.{lemmas.List.take_more, lemmas.Option.get_or_from_slice_get, lemmas.Option.slice_get_within}
+use Rattle.osbase.specs.{declared.items.Item.Item, declared.references.CoreId.CoreId, declared.turns.Report.Report}
+use Rattle.osplan.specs.{declared.plans.Plan.Plan, View.view_of}
 use Rattle.osstate.specs.Does.{Reads}
 use Rattle.oskernel.specs.Step.{outbox_size, takes}
-use Rattle.osrun.specs.declared.core_runs.CoreRun.{CoreRun}
-use Rattle.osrun.specs.Fits.{history_by}
-use Rattle.osrun.specs.CoreRuns.{IsCoreRun, report_of}
-use Rattle.osrun.specs.Sound.{report_by}
-use Rattle.osrun.specs.CoreRuns.{Keeps, Took}
+use Rattle.osrun.specs.{declared.core_runs.CoreRun.CoreRun, Fits.history_by, CoreRuns.IsCoreRun, CoreRuns.report_of, Sound.report_by, CoreRuns.Keeps, CoreRuns.Took}
 use Rattle.osrun.proofs.CoreRunning.{seated-kept, seated-on, seated-own, took-kept}
 use Rattle.osreplay.specs.Replays.{IsCutShort, IsRefused, IsReplayed}
 

@@ -1,15 +1,10 @@
 -- A core alone with the items that another run gave it. [own]
 use Rattle.std.specs.Prelude.{◌≡◌, ◌<◌, ℕ, ◌+◌, false, Some, List, length, slice_get, take}
-use Rattle.osbase.specs.declared.items.Item.{Item}
-use Rattle.osbase.specs.declared.references.CoreId.{CoreId}
-use Rattle.osbase.specs.declared.turns.Report.{Report}
-use Rattle.osplan.specs.View.{view_of}
-use Rattle.osplan.specs.declared.plans.Plan.{Plan}
+use Rattle.osbase.specs.{declared.items.Item.Item, declared.references.CoreId.CoreId, declared.turns.Report.Report}
+use Rattle.osplan.specs.{View.view_of, declared.plans.Plan.Plan}
 use Rattle.oskernel.specs.Step.{outbox_size, solo, takes}
-use Rattle.osrun.specs.Fits.{history_by}
-use Rattle.osrun.specs.Sound.{report_by}
-use Rattle.osreplay.specs.declared.replays.ReplayFault.{ReplayFault}
-use Rattle.osreplay.specs.declared.replays.ReplayFault.TheVariants.{ItemRefused, NoMemory}
+use Rattle.osrun.specs.{Fits.history_by, Sound.report_by}
+use Rattle.osreplay.specs.{declared.replays.ReplayFault.ReplayFault, declared.replays.ReplayFault.TheVariants.ItemRefused, declared.replays.ReplayFault.TheVariants.NoMemory}
 
 -- The core may take each of the items in its turn, and this is its report. [own]
 pub record IsReplayed (plan : Plan) (id : CoreId) (items : List Item) (report : Report) : Type 0 where

@@ -16,8 +16,7 @@ pub struct Held {
 
 impl Model for Held {
     ghost use Rattle.std.specs.Prelude.{◌≡◌, List};
-    ghost use Rattle.osbase.specs.declared.histories.HeldResource.{HeldResource};
-    ghost use Rattle.osbase.specs.History.{greatest_ceiling};
+    ghost use Rattle.osbase.specs.{declared.histories.HeldResource.HeldResource, History.greatest_ceiling};
 
     ghost Value = { List HeldResource };
 

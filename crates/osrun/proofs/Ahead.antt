@@ -1,44 +1,22 @@
 -- What a separate core prints by what it took, its configuration alone prints by what it takes alone.
 use mathlib.Core.List.{IsPrefix}
 use Rattle.std.proofs.Common.{◌≡◌, ◌^◌, ◌+◌, ◌<◌, ◌≤◌, ◌||◌, ℕ, suc, Bool, true, false, not, cond, Option, Some, None, is_none, List, [], ◌∷◌, ◌++◌, length, map, refl, sym, ap, subst, ◌∙◌, arith, append-nil, add-one}
-use Rattle.std.specs.List.{list_all, slice_get}
-use Rattle.std.specs.Option.{option_map_or}
+use Rattle.std.specs.{List.list_all, List.slice_get, Option.option_map_or}
 use Rattle.std.proofs.lemmas.Bool.{and_parts, and_from, false≢true, true≢false, eqb-true, eq-eqb, lt-ltb, not-true}
-use Rattle.osbase.specs.declared.references.CoreId.{CoreId}
-use Rattle.osbase.specs.declared.references.ModeId.{ModeId}
-use Rattle.osbase.specs.declared.items.Agreement.{Agreement}
-use Rattle.osbase.specs.declared.items.CoreSet.{CoreSet}
-use Rattle.osbase.specs.declared.items.Item.{Item}
-use Rattle.osbase.specs.declared.items.Stimulus.{Stimulus}
-use Rattle.osbase.specs.declared.marks.Mark.{Mark}
-use Rattle.osbase.specs.declared.histories.GotSpinlock.{GotSpinlock}
-use Rattle.osbase.specs.declared.histories.OpenCall.{OpenCall}
-use Rattle.osbase.specs.declared.histories.Phase.{Phase}
+use Rattle.osbase.specs.{declared.references.CoreId.CoreId, declared.references.ModeId.ModeId, declared.items.Agreement.Agreement, declared.items.CoreSet.CoreSet, declared.items.Item.Item, declared.items.Stimulus.Stimulus, declared.marks.Mark.Mark, declared.histories.GotSpinlock.GotSpinlock, declared.histories.OpenCall.OpenCall, declared.histories.Phase.Phase, Sets.core_ids, Sets.has_core, declared.items.CoreMode.CoreMode, declared.items.CoreMode.TheVariants.Named, Phases.is_going, Phases.stands_in}
 use Rattle.osbase.specs.History.{History, Took, Printed, began_count, course_of, item_count, marks_of, open_call, phase_of}
-use Rattle.osbase.specs.Sets.{core_ids, has_core}
 use Rattle.osbase.specs.Spins.{got_spinlocks, is_owing, newest_owed, same_spinlock}
-use Rattle.osbase.specs.declared.items.CoreMode.{CoreMode}
-use Rattle.osbase.specs.declared.items.CoreMode.TheVariants.{Named}
-use Rattle.osplan.specs.Stimuli.{knows_stimulus}
-use Rattle.osplan.specs.View.{View, is_configured}
-use Rattle.osstate.specs.Readings.{knows_started, next_start, phase_at}
+use Rattle.osplan.specs.{Stimuli.knows_stimulus, View.View, View.is_configured}
+use Rattle.osstate.specs.{Readings.knows_started, Readings.next_start, Readings.phase_at, State.state_of}
 use Rattle.osservice.proofs.Kept.{nobody}
-use Rattle.osbase.specs.Phases.{is_going, stands_in}
-use Rattle.osstate.specs.State.{state_of}
 use Rattle.osadmit.specs.Admission.{admits, are_started_cores, awaits_get, awaits_try, is_agreement, is_for, is_get_of, is_next_release, is_release_of, is_start_answer, is_try_of}
 use Rattle.oskernel.specs.Step.{after, history_from, outbox_size, solo, solo_from, takes}
 use Rattle.oskernel.proofs.Among.{among, base_of, course-same, got-same, marks-same, open-same, phase-same}
-use Rattle.oskernel.proofs.Calm.{Calm, calm-after, settled}
-use Rattle.oskernel.proofs.Carried.{NamesAllow}
-use Rattle.oskernel.proofs.Holding.{kept_after, quiet_after}
-use Rattle.oskernel.proofs.Idling.{Idle, drained-idle, end-idle}
+use Rattle.oskernel.proofs.{Calm.Calm, Calm.calm-after, Calm.settled, Carried.NamesAllow, Holding.kept_after, Holding.quiet_after, Idling.Idle, Idling.drained-idle, Idling.end-idle}
 use Rattle.oskernel.proofs.Stages.{is_mail, solo-parts, stage, stage_of}
 use Rattle.oskernel.proofs.Stepping.{alone_view, same-drained, same-gate, same-stimulus}
-use Rattle.osrun.specs.Fits.{has_drained, stimuli_in}
-use Rattle.osrun.specs.Sound.{until_down}
-use Rattle.osrun.proofs.Beginnings.{begins-itself, begins-longer, begins-through}
-use Rattle.osrun.proofs.Ending.{phase-after}
-use Rattle.osrun.proofs.Going.{calm-goes, drained-course, stimulus-going}
+use Rattle.osrun.specs.{Fits.has_drained, Fits.stimuli_in, Sound.until_down}
+use Rattle.osrun.proofs.{Beginnings.begins-itself, Beginnings.begins-longer, Beginnings.begins-through, Ending.phase-after, Going.calm-goes, Going.drained-course, Going.stimulus-going}
 use Rattle.osrun.proofs.Sane.{AreAgreed, AreQuiet, is_conflict, is_halting}
 
 -- An item of a spinlock.

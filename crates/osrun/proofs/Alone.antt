@@ -1,42 +1,21 @@
 -- Where the items of all cores fit, a separate core prints what its configuration alone prints.
 use mathlib.Core.List.{IsPrefix}
 use Rattle.std.proofs.Common.{◌≡◌, ◌<◌, ℕ, Bool, true, false, not, ◌||◌, cond, Option, Some, None, is_some, IsTrue, List, [], ◌∷◌, ◌++◌, inl, inr, refl, sym, ap, subst, ◌∙◌, arith, unwrap_or}
-use Rattle.std.specs.List.{list_all}
-use Rattle.std.specs.Option.{option_map_or}
-use Rattle.std.proofs.lemmas.Bool.{and_from, false≢true}
-use Rattle.std.proofs.Math.Bool.{or-false}
-use Rattle.osbase.specs.declared.references.CoreId.{CoreId}
-use Rattle.osbase.specs.declared.references.ModeId.{ModeId}
-use Rattle.osbase.specs.declared.items.CoreSet.{CoreSet}
-use Rattle.osbase.specs.declared.items.Item.{Item}
-use Rattle.osbase.specs.declared.items.Stimulus.{Stimulus}
-use Rattle.osbase.specs.declared.marks.Mark.{Mark}
-use Rattle.osbase.specs.declared.turns.CoreStimuli.{CoreStimuli}
+use Rattle.std.specs.{List.list_all, Option.option_map_or}
+use Rattle.std.proofs.{lemmas.Bool.and_from, lemmas.Bool.false≢true, Math.Bool.or-false}
+use Rattle.osbase.specs.{declared.references.CoreId.CoreId, declared.references.ModeId.ModeId, declared.items.CoreSet.CoreSet, declared.items.Item.Item, declared.items.Stimulus.Stimulus, declared.marks.Mark.Mark, declared.turns.CoreStimuli.CoreStimuli, Runs.stimuli_of, Sets.core_ids, Sets.has_core, declared.items.CoreMode.CoreMode, declared.items.CoreMode.TheVariants.Named, declared.items.CoreMode.TheVariants.DontCare}
 use Rattle.osbase.specs.History.{marks_of, no_cores, received, same_core}
-use Rattle.osbase.specs.Runs.{stimuli_of}
-use Rattle.osbase.specs.Sets.{core_ids, has_core}
 use Rattle.osbase.proofs.Same.{same_core-true, same_core-refl}
-use Rattle.osplan.specs.declared.plans.Plan.{Plan}
-use Rattle.osplan.specs.declared.plans.Core.{Core}
-use Rattle.osbase.specs.declared.items.CoreMode.{CoreMode}
-use Rattle.osbase.specs.declared.items.CoreMode.TheVariants.{Named, DontCare}
-use Rattle.osplan.specs.Limits.{is_within_limits}
-use Rattle.osplan.proofs.Within.{limit-parts}
+use Rattle.osplan.specs.{declared.plans.Plan.Plan, declared.plans.Core.Core, Limits.is_within_limits, Stimuli.AreKnown}
+use Rattle.osplan.proofs.{Within.limit-parts, Numbered.configured-low, Tests.all-weaker, Tests.find-holds}
 use Rattle.osseparate.specs.Separate.{alone_of, cut_of, is_agreed_mode, is_named_elsewhere, is_separate_core, names_mode}
-use Rattle.osplan.specs.Stimuli.{AreKnown}
 use Rattle.osplan.specs.View.{Around, View, core_of, is_configured, no_core, view_of}
 use Rattle.osseparate.proofs.Separating.{SeparateParts, separate-parts}
-use Rattle.osplan.proofs.Numbered.{configured-low}
-use Rattle.osplan.proofs.Tests.{all-weaker, find-holds}
 use Rattle.osstate.specs.Readings.{is_this_core}
 use Rattle.osservice.proofs.Kept.{nobody}
 use Rattle.osadmit.specs.Admission.{are_started_cores}
 use Rattle.oskernel.specs.Step.{history_from, solo}
-use Rattle.oskernel.proofs.Carried.{NamesAllow}
-use Rattle.oskernel.proofs.Own.{inside-items}
-use Rattle.oskernel.proofs.Scripts.{all_but, other-allow, own-allow}
-use Rattle.oskernel.proofs.Stages.{is_mail}
-use Rattle.oskernel.proofs.Stepping.{alone_view, around_master}
+use Rattle.oskernel.proofs.{Carried.NamesAllow, Own.inside-items, Scripts.all_but, Scripts.other-allow, Scripts.own-allow, Stages.is_mail, Stepping.alone_view, Stepping.around_master}
 use Rattle.ostrace_text.specs.Trace.{line_end, line_of, lines_of, title_of}
 use Rattle.ostrace_text.proofs.Named.{lines-same}
 use Rattle.osrun.specs.Sound.{alone_block, alone_items, alone_report, ArePrintedAlone, IsAlone, own_agreement, until_down}
@@ -44,11 +23,7 @@ use Rattle.osboard.specs.Boards.{with_core}
 use Rattle.osrun.specs.Requests.{Calls}
 use Rattle.osrun.specs.Fits.{Fits, FitsBy, has_drained, history_by, items_of}
 use Rattle.osrun.proofs.Ahead.{boot_items, Goes, goes-alone, live_items, solo-alone}
-use Rattle.osrun.proofs.Beginnings.{begins-all_pass, begins-flat_map}
-use Rattle.osrun.proofs.Drained.{drained-where-ended}
-use Rattle.osrun.proofs.Mailed.{is_reply, posts-replies, takes-no-mail}
-use Rattle.osrun.proofs.Members.{has_core-more, nobody-there, only-own}
-use Rattle.osrun.proofs.Sane.{AreAgreed, AreQuiet, never-conflict}
+use Rattle.osrun.proofs.{Beginnings.begins-all_pass, Beginnings.begins-flat_map, Drained.drained-where-ended, Mailed.is_reply, Mailed.posts-replies, Mailed.takes-no-mail, Members.has_core-more, Members.nobody-there, Members.only-own, Sane.AreAgreed, Sane.AreQuiet, Sane.never-conflict}
 
 -- ---- the set of one core
 

@@ -1,21 +1,15 @@
 -- The calls to whose answers the items of cores lead.
 use Rattle.std.proofs.Common.{◌≡◌, false, List, [], ◌∷◌, ◌++◌, refl, sym, ap, ◌∙◌, append_assoc, append-nil}
 use Rattle.std.proofs.lemmas.Bool.{eq-eqb, false≢true}
-use Rattle.osbase.specs.declared.references.CoreId.{CoreId}
-use Rattle.osbase.specs.declared.items.Item.{Item}
-use Rattle.osbase.specs.History.{History, same_core}
+use Rattle.osbase.specs.{declared.references.CoreId.CoreId, declared.items.Item.Item, History.History, History.same_core}
 use Rattle.osplan.specs.View.{View}
 use Rattle.oskernel.specs.Step.{after, history_from}
 use Rattle.osshared.specs.Histories.{calls_by, entry}
 use Rattle.osshared.proofs.Steps.{calls_by-append, calls_by-hit, calls_by-miss}
 use Rattle.osboard.specs.Boards.{BoardEntry}
 use Rattle.osspin.specs.Spins.{SpinEntry}
-use Rattle.osrun.specs.declared.requests.Request.{Request}
-use Rattle.osrun.specs.declared.requests.Request.TheVariants.{OfBoard, OfSpins}
-use Rattle.osrun.specs.declared.requests.Reply.{Reply}
-use Rattle.osrun.specs.declared.requests.Reply.TheVariants.{Replied, Spun}
+use Rattle.osrun.specs.{declared.requests.Request.Request, declared.requests.Request.TheVariants.OfBoard, declared.requests.Request.TheVariants.OfSpins, declared.requests.Reply.Reply, declared.requests.Reply.TheVariants.Replied, declared.requests.Reply.TheVariants.Spun, Fits.AreAnswered, Fits.ResultsIn}
 use Rattle.osrun.specs.Requests.{Calls, calls_of, joined, no_calls, spin_call_of, call_of_turn}
-use Rattle.osrun.specs.Fits.{AreAnswered, ResultsIn}
 
 abbrev calls_from : List BoardEntry → List SpinEntry → Calls
 calls_from board spins = record { board = board; spins = spins }

@@ -1,19 +1,13 @@
 -- What a core's turn asks is its own.
 use Rattle.std.proofs.Common.{◌≡◌, Bool, true, false, cond, Option, Some, None, refl, sym, ◌∙◌}
 use Rattle.std.proofs.lemmas.Bool.{false≢true}
-use Rattle.osbase.specs.declared.items.Stimulus.{Stimulus}
-use Rattle.osbase.specs.declared.turns.Choice.{Choice}
-use Rattle.osbase.specs.Phases.{is_going}
+use Rattle.osbase.specs.{declared.items.Stimulus.Stimulus, declared.turns.Choice.Choice, Phases.is_going}
 use Rattle.osplan.specs.View.{View, is_configured}
 use Rattle.osstate.specs.State.{KernelState}
 use Rattle.osadmit.specs.Admission.{has_asked_halt}
-use Rattle.oskernel.specs.declared.wants.Want.{Want}
-use Rattle.oskernel.specs.declared.wants.Watch.{Watch}
-use Rattle.oskernel.specs.Wants.{want_in, watch_in}
+use Rattle.oskernel.specs.{declared.wants.Want.Want, declared.wants.Watch.Watch, Wants.want_in, Wants.watch_in}
 use Rattle.osboard.specs.declared.calls.BoardCall.TheVariants.{AskHalt, Drain, Enter, Start}
-use Rattle.osrun.specs.declared.requests.Request.{Request}
-use Rattle.osrun.specs.declared.requests.Request.TheVariants.{OfBoard, StartUnknown, TakeStimulus}
-use Rattle.osrun.specs.Requests.{request_by, look_request}
+use Rattle.osrun.specs.{declared.requests.Request.Request, declared.requests.Request.TheVariants.OfBoard, declared.requests.Request.TheVariants.StartUnknown, declared.requests.Request.TheVariants.TakeStimulus, Requests.request_by, Requests.look_request}
 use Rattle.osrun.proofs.Going.{WantsOwn, wants-own}
 
 -- What a core's turn requests is its own: it starts a configured core, names its own mode, takes its next stimulus, and drains where

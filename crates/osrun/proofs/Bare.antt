@@ -1,35 +1,22 @@
 -- A core without its objects takes, of what the core took, what such a core takes.
 use Rattle.std.proofs.Common.{◌≡◌, ◌^◌, ◌<◌, ◌≤◌, ◌&&◌, ◌||◌, ℕ, suc, nat_lt, Bool, true, false, cond, Some, None, is_none, List, [], ◌∷◌, filter, refl, sym, ap, subst, ◌∙◌, arith, add-one}
 use Rattle.std.proofs.lemmas.Bool.{and_parts, and_from, false≢true, true≢false, lt-ltb, ltb-true, or_right}
-use Rattle.osbase.specs.declared.items.Agreement.{Agreement}
-use Rattle.osbase.specs.declared.items.CoreMode.{CoreMode}
-use Rattle.osbase.specs.declared.items.Item.{Item}
-use Rattle.osbase.specs.declared.marks.Mark.{Mark}
-use Rattle.osbase.specs.declared.histories.Course.{Course}
-use Rattle.osbase.specs.declared.histories.Phase.{Phase}
+use Rattle.osbase.specs.{declared.items.Agreement.Agreement, declared.items.CoreMode.CoreMode, declared.items.Item.Item, declared.marks.Mark.Mark, declared.histories.Course.Course, declared.histories.Phase.Phase}
 use Rattle.osbase.specs.History.{History, Took, Printed, began_count, course_of, item_count, phase_on, started_cores}
 use Rattle.osbase.specs.Phases.{halted_from, is_down, is_going, stands_in}
 use Rattle.oscript.specs.Rows.{asks_shared, halts_all}
 use Rattle.osplan.specs.View.{View}
 use Rattle.osgroup.specs.Groups.{bare_core}
 use Rattle.osacts.specs.Acts.{does}
-use Rattle.osservice.proofs.Called.{locks-none}
-use Rattle.osservice.proofs.Kept.{anybody, nobody}
-use Rattle.osstate.specs.Readings.{next_start, phase_at}
-use Rattle.osstate.specs.State.{state_of}
+use Rattle.osservice.proofs.{Called.locks-none, Kept.anybody, Kept.nobody}
+use Rattle.osstate.specs.{Readings.next_start, Readings.phase_at, State.state_of}
 use Rattle.osadmit.specs.Admission.{admits, are_started_cores, has_asked_halt, is_agreement, is_for, is_start_answer, may_halt}
 use Rattle.osawait.specs.Free.{is_settled, may_look_halt}
 use Rattle.oskernel.specs.Step.{after, effect, history_from, outbox_size, solo_from, takes}
-use Rattle.oskernel.proofs.Calm.{Calm, calm-after, settled}
-use Rattle.oskernel.proofs.Carried.{NamesAllow}
-use Rattle.oskernel.proofs.Holding.{quiet_after}
-use Rattle.oskernel.proofs.Opened.{Asks, asks-after}
+use Rattle.oskernel.proofs.{Calm.Calm, Calm.calm-after, Calm.settled, Carried.NamesAllow, Holding.quiet_after, Opened.Asks, Opened.asks-after, Stages.is_mail, Stages.solo-parts}
 use Rattle.oskernel.proofs.Scripts.{but_halt, names-allow, script-fails, script-none}
-use Rattle.oskernel.proofs.Stages.{is_mail, solo-parts}
 use Rattle.osrun.specs.Groups.{is_bare_item}
-use Rattle.osrun.proofs.Ending.{phase-after}
-use Rattle.osrun.proofs.Going.{dispatch-course, going-before}
-use Rattle.osrun.proofs.Sane.{never-asked}
+use Rattle.osrun.proofs.{Ending.phase-after, Going.dispatch-course, Going.going-before, Sane.never-asked}
 
 -- Of these items, what a core without objects takes.
 abbrev pub bare_items : List Item → List Item

@@ -2,41 +2,23 @@
 use Rattle.std.proofs.Common.{◌≡◌, ℕ, Bool, true, false, not, cond, Option, Some, None, List, [], ◌∷◌, ◌++◌, refl, sym, ap, subst, ◌∙◌, append-nil}
 use Rattle.std.proofs.lemmas.Bool.{and_parts, both_ways, false≢true, true≢false}
 use Rattle.std.proofs.lemmas.Option.{same_Some}
-use Rattle.osbase.specs.declared.references.CoreId.{CoreId}
-use Rattle.osbase.specs.declared.statuses.Status.{Status}
-use Rattle.osbase.specs.declared.items.Item.{Item}
-use Rattle.osbase.specs.declared.items.Stimulus.{Stimulus}
-use Rattle.osbase.specs.declared.turns.Choice.{Choice}
-use Rattle.osbase.specs.declared.histories.Course.{Course}
-use Rattle.osbase.specs.declared.histories.Phase.{Phase}
-use Rattle.osbase.specs.declared.histories.Sent.{Sent}
+use Rattle.osbase.specs.{declared.references.CoreId.CoreId, declared.statuses.Status.Status, declared.items.Item.Item, declared.items.Stimulus.Stimulus, declared.turns.Choice.Choice, declared.histories.Course.Course, declared.histories.Phase.Phase, declared.histories.Sent.Sent, Phases.stands_in}
 use Rattle.osbase.specs.History.{History, began_count, course_of, outbox}
-use Rattle.osbase.specs.Phases.{stands_in}
 use Rattle.osplan.specs.View.{View}
-use Rattle.osstate.specs.Readings.{next_start, phase_at}
-use Rattle.osstate.specs.State.{KernelState, state_of}
+use Rattle.osstate.specs.{Readings.next_start, Readings.phase_at, State.KernelState, State.state_of}
 use Rattle.osadmit.specs.Admission.{admits, has_asked_halt, may_halt}
 use Rattle.oskernel.specs.Step.{after, history_from, outbox_size, solo_from}
 use Rattle.oskernel.specs.Wants.{go_on_by, post_or, start_or_enter, want_from, watch_from, watch_of}
-use Rattle.oskernel.specs.declared.wants.Want.{Want}
-use Rattle.oskernel.specs.declared.wants.Watch.{Watch}
-use Rattle.oskernel.proofs.Carried.{NamesAllow}
-use Rattle.oskernel.proofs.Opened.{Asks, asks-after}
-use Rattle.oskernel.proofs.Scripts.{but_halt}
-use Rattle.oskernel.proofs.Stages.{solo-parts, stage, stage_of}
-use Rattle.osboard.specs.declared.calls.BoardCall.{BoardCall}
+use Rattle.oskernel.specs.{declared.wants.Want.Want, declared.wants.Watch.Watch}
+use Rattle.oskernel.proofs.{Carried.NamesAllow, Opened.Asks, Opened.asks-after, Scripts.but_halt, Stages.solo-parts, Stages.stage, Stages.stage_of}
+use Rattle.osboard.specs.{declared.calls.BoardCall.BoardCall, declared.calls.BoardReply.BoardReply, Boards.BoardEntry}
 use Rattle.osboard.specs.declared.calls.BoardCall.TheVariants.{Start, Enter, MakeReady, Drain, Look, LookDrained, AskHalt, LookHalt}
-use Rattle.osboard.specs.declared.calls.BoardReply.{BoardReply}
 use Rattle.osboard.specs.declared.calls.BoardReply.TheVariants.{Started, Acknowledged, Shown, Drained, Decided, Halting}
-use Rattle.osboard.specs.Boards.{BoardEntry}
 use Rattle.osspin.specs.Spins.{SpinEntry}
-use Rattle.osrun.specs.declared.requests.Request.{Request}
+use Rattle.osrun.specs.{declared.requests.Request.Request, declared.requests.Reply.Reply, Fits.AreAnswered, Fits.ResultsIn, Fits.is_drain, Groups.is_bare_item}
 use Rattle.osrun.specs.declared.requests.Request.TheVariants.{OfBoard, OfSpins, Room, Oldest, StartUnknown, TakeStimulus}
-use Rattle.osrun.specs.declared.requests.Reply.{Reply}
 use Rattle.osrun.specs.declared.requests.Reply.TheVariants.{Replied, Spun, HasRoom, Found, Unasked}
 use Rattle.osrun.specs.Requests.{Calls, request_of_turn, item_of_halt, look_request, item_for_reply, item_by, own_request, item_of_board, call_of_turn}
-use Rattle.osrun.specs.Fits.{AreAnswered, ResultsIn, is_drain}
-use Rattle.osrun.specs.Groups.{is_bare_item}
 use Rattle.osrun.proofs.Asked.{IsOwnRequest, asks-own}
 use Rattle.osrun.proofs.Bare.{Alike, bare, bare-mail, bare_items, is_halt, keeps, looks-halt, skips, unasked}
 use Rattle.osrun.proofs.Resulting.{drained-item, halt-item, look-item, spinlock-item}

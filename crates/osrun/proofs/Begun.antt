@@ -2,46 +2,27 @@
 use Rattle.std.proofs.Common.{◌≡◌, ◌⊎◌, ℕ, zero, suc, ◌+◌, ◌≤◌, nat_lt, ◌&&◌, ◌||◌, Bool, true, false, cond, Option, Some, None, is_none, List, [], ◌∷◌, inl, inr, refl, sym, ap, subst, ◌∙◌, arith}
 use Rattle.std.specs.List.{list_any, slice_get}
 use Rattle.std.proofs.lemmas.Bool.{and_from, and_parts, both_ways, cases_lt, false≢true, or_cases, or_left, or_right}
-use Rattle.std.proofs.lemmas.List.Folds.{list_any-append}
-use Rattle.std.proofs.lemmas.Option.{same_Some}
-use Rattle.osbase.specs.declared.statuses.Status.{Status}
-use Rattle.osbase.specs.declared.statuses.Status.TheVariants.{EOk, EOsId, EOsState}
-use Rattle.osbase.specs.declared.references.CoreId.{CoreId}
-use Rattle.osbase.specs.declared.items.Item.{Item}
-use Rattle.osbase.specs.declared.histories.Phase.{Phase}
+use Rattle.std.proofs.{lemmas.List.Folds.list_any-append, lemmas.Option.same_Some}
+use Rattle.osbase.specs.{declared.statuses.Status.Status, declared.statuses.Status.TheVariants.EOk, declared.statuses.Status.TheVariants.EOsId, declared.statuses.Status.TheVariants.EOsState, declared.references.CoreId.CoreId, declared.items.Item.Item, declared.histories.Phase.Phase, Phases.is_scheduling, Phases.place_of, Sets.has_core}
 use Rattle.osbase.specs.History.{History, Took, began_count, first_phase, same_core}
-use Rattle.osbase.specs.Phases.{is_scheduling, place_of}
-use Rattle.osbase.specs.Sets.{has_core}
 use Rattle.osbase.proofs.Same.{same_core-comm, same_core-refl, same_core-true}
 use Rattle.osseparate.specs.Separate.{is_among}
 use Rattle.osplan.specs.View.{View, is_configured}
-use Rattle.osstate.specs.Readings.{next_start, phase_at}
-use Rattle.osstate.specs.State.{state_of}
-use Rattle.oskernel.specs.declared.wants.Watch.{Watch}
+use Rattle.osstate.specs.{Readings.next_start, Readings.phase_at, State.state_of}
+use Rattle.oskernel.specs.{declared.wants.Watch.Watch, Wants.watch_of}
 use Rattle.osadmit.specs.Admission.{admits, is_for, is_start_answer, is_started_now_or_before}
 use Rattle.oskernel.specs.Step.{after, history_from, outbox_size, solo, solo_from}
-use Rattle.oskernel.specs.Wants.{watch_of}
-use Rattle.oskernel.proofs.Holding.{quiet_after}
-use Rattle.oskernel.proofs.Stages.{mail-schedules, solo-parts, stage}
+use Rattle.oskernel.proofs.{Holding.quiet_after, Stages.mail-schedules, Stages.solo-parts, Stages.stage}
 use Rattle.osshared.specs.Histories.{IsLegalFrom, calls_by}
-use Rattle.osboard.specs.declared.calls.BoardCall.{BoardCall}
+use Rattle.osboard.specs.{declared.calls.BoardCall.BoardCall, declared.calls.BoardReply.BoardReply, declared.calls.BoardState.BoardState}
 use Rattle.osboard.specs.declared.calls.BoardCall.TheVariants.{Start, Enter, MakeReady, Drain, Look, LookDrained, AskHalt, LookHalt}
-use Rattle.osboard.specs.declared.calls.BoardReply.{BoardReply}
 use Rattle.osboard.specs.declared.calls.BoardReply.TheVariants.{Started, Acknowledged, Shown, Drained, Decided, Halting}
-use Rattle.osboard.specs.declared.calls.BoardState.{BoardState}
 use Rattle.osboard.specs.Boards.{BoardEntry, board_after, board_reply, one_board}
-use Rattle.osrun.specs.declared.requests.Request.{Request}
+use Rattle.osrun.specs.{declared.requests.Request.Request, declared.requests.Reply.Reply, Requests.Calls, Requests.item_by, Requests.call_of_turn, Ends.starts, Fits.AreAnswered, CoreRuns.is_ended_phase, Sound.end_by}
 use Rattle.osrun.specs.declared.requests.Request.TheVariants.{OfBoard, OfSpins, Room, Oldest, StartUnknown, TakeStimulus}
-use Rattle.osrun.specs.declared.requests.Reply.{Reply}
 use Rattle.osrun.specs.declared.requests.Reply.TheVariants.{Replied, Spun, HasRoom, Found, Unasked}
-use Rattle.osrun.specs.Requests.{Calls, item_by, call_of_turn}
-use Rattle.osrun.specs.Ends.{starts}
-use Rattle.osrun.specs.Fits.{AreAnswered}
-use Rattle.osrun.specs.CoreRuns.{is_ended_phase}
-use Rattle.osrun.specs.Sound.{end_by}
-use Rattle.osrun.proofs.Ending.{ended-by, phase-after}
+use Rattle.osrun.proofs.{Ending.ended-by, Ending.phase-after, Members.has_core-more}
 use Rattle.osrun.proofs.Resulting.{drained-item, halt-item, look-item, spinlock-item}
-use Rattle.osrun.proofs.Members.{has_core-more}
 
 -- The item is the reply to a start of this core.
 abbrev pub begins : CoreId → Item → Bool

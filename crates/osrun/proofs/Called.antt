@@ -1,20 +1,14 @@
 -- The call of a spinlock in a reply is that of the item in which the reply results.
 use Rattle.std.proofs.Common.{◌≡◌, true, Some, [], refl, sym}
-use Rattle.osbase.specs.declared.statuses.Status.TheVariants.{EOsId}
-use Rattle.osbase.specs.declared.references.CoreId.{CoreId}
-use Rattle.osbase.specs.declared.items.Item.{Item}
-use Rattle.oskernel.specs.declared.wants.Watch.{Watch}
-use Rattle.oskernel.specs.declared.wants.SpinWish.{SpinWish}
+use Rattle.osbase.specs.{declared.statuses.Status.TheVariants.EOsId, declared.references.CoreId.CoreId, declared.items.Item.Item}
+use Rattle.oskernel.specs.{declared.wants.Watch.Watch, declared.wants.SpinWish.SpinWish}
 use Rattle.oskernel.specs.declared.wants.SpinWish.TheVariants as Wish
 use Rattle.osboard.specs.declared.calls.BoardCall.TheVariants.{Start, Enter, MakeReady, Drain, Look, LookDrained, AskHalt, LookHalt}
 use Rattle.osboard.specs.declared.calls.BoardReply.TheVariants.{Started, Acknowledged, Shown, Drained, Decided, Halting}
-use Rattle.osspin.specs.declared.calls.SpinReply.{SpinReply}
-use Rattle.osspin.specs.declared.calls.SpinReply.TheVariants.{Answered}
-use Rattle.osrun.specs.declared.requests.Request.{Request}
+use Rattle.osspin.specs.{declared.calls.SpinReply.SpinReply, declared.calls.SpinReply.TheVariants.Answered}
+use Rattle.osrun.specs.{declared.requests.Request.Request, declared.requests.Reply.Reply, Requests.call_of_item, Requests.item_by, Requests.call_of_turn}
 use Rattle.osrun.specs.declared.requests.Request.TheVariants.{OfBoard, OfSpins, Room, Oldest, StartUnknown, TakeStimulus}
-use Rattle.osrun.specs.declared.requests.Reply.{Reply}
 use Rattle.osrun.specs.declared.requests.Reply.TheVariants.{Replied, Spun, HasRoom, Found, Unasked}
-use Rattle.osrun.specs.Requests.{call_of_item, item_by, call_of_turn}
 use Rattle.osrun.proofs.Resulting.{drained-item, halt-item, is-item, look-item}
 
 module _ (id : CoreId) where

@@ -1,12 +1,8 @@
 -- The configured cores, by ascending numbers.
 use Rattle.std.proofs.Common.{◌≡◌, ℕ, ◌+◌, ◌<◌, ◌≤◌, Bool, true, false, cond, is_some, List, [], ◌∷◌, ◌++◌, take, ap, ◌∙◌, arith, filter, append-nil}
-use Rattle.std.proofs.lemmas.List.{take_more}
-use Rattle.std.proofs.lemmas.List.Elements.{filter-append}
-use Rattle.osbase.specs.declared.references.CoreId.{CoreId}
-use Rattle.osbase.specs.declared.limits.TheConstants.{CORES}
-use Rattle.osplan.specs.declared.plans.Plan.{Plan}
-use Rattle.osplan.specs.View.{core_of}
-use Rattle.osbase.specs.Sets.{core_ids}
+use Rattle.std.proofs.{lemmas.List.take_more, lemmas.List.Elements.filter-append}
+use Rattle.osbase.specs.{declared.references.CoreId.CoreId, declared.limits.TheConstants.CORES, Sets.core_ids}
+use Rattle.osplan.specs.{declared.plans.Plan.Plan, View.core_of}
 use Rattle.osbase.proofs.Tables.{table-at}
 use Rattle.osrun.specs.Fits.{ids_of}
 

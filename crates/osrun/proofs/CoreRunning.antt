@@ -1,25 +1,13 @@
 -- A core of a run by the items that it took.
 use Rattle.std.proofs.Common.{◌≡◌, ℕ, ◌+◌, Bool, true, Some, List, [], ◌∷◌, ◌++◌, drop, sym, ap, subst, ◌∙◌, arith, refl, Bor}
 use Rattle.std.proofs.lemmas.List.{drop-drop}
-use Rattle.osbase.specs.declared.references.CoreId.{CoreId}
-use Rattle.osbase.specs.declared.items.Item.{Item}
-use Rattle.osbase.specs.declared.items.Stimulus.{Stimulus}
-use Rattle.osbase.specs.declared.turns.CoreStimuli.{CoreStimuli}
-use Rattle.osbase.specs.History.{History}
-use Rattle.osbase.specs.Runs.{stimuli_of}
-use Rattle.osplan.specs.declared.plans.Plan.{Plan}
-use Rattle.osplan.specs.View.{View, view_of}
-use Rattle.osstate.specs.State.{KernelState, state_of}
-use Rattle.osstate.specs.Does.{Does, Tracks}
-use Rattle.oskernel.specs.Step.{after, solo, takes, outbox_size}
-use Rattle.osrun.specs.declared.core_runs.CoreRun.{CoreRun}
-use Rattle.osrun.specs.Fits.{history_by}
+use Rattle.osbase.specs.{declared.references.CoreId.CoreId, declared.items.Item.Item, declared.items.Stimulus.Stimulus, declared.turns.CoreStimuli.CoreStimuli, History.History, Runs.stimuli_of, declared.marks.Mark.Mark, declared.turns.Report.Report}
+use Rattle.osplan.specs.{declared.plans.Plan.Plan, View.View, View.view_of}
+use Rattle.osstate.specs.{State.KernelState, State.state_of, Does.Tracks}
+use Rattle.oskernel.specs.Step.{solo, takes, outbox_size}
+use Rattle.osrun.specs.{declared.core_runs.CoreRun.CoreRun, Fits.history_by, Sound.IsOwn, Sound.report_by}
 use Rattle.osrun.specs.CoreRuns.{Keeps, Took, stimulus_count, left_after, IsCoreRun, is_ended_phase, report_of}
-use Rattle.osrun.proofs.Longer.{history_from-push, solo-push, stimulus_count-push}
-use Rattle.osbase.specs.declared.marks.Mark.{Mark}
-use Rattle.osbase.specs.declared.turns.Report.{Report}
-use Rattle.osrun.specs.Sound.{IsOwn, report_by}
-use Rattle.osrun.proofs.Ending.{ended-by}
+use Rattle.osrun.proofs.{Longer.history_from-push, Longer.solo-push, Longer.stimulus_count-push, Ending.ended-by}
 
 -- A core that took nothing.
 pub seated-first : (plan : Plan) (stimuli : List CoreStimuli) (core_run : CoreRun) (id : CoreId) → core_run.id ≡ id → core_run.kernel ≡ state_of (view_of plan id) [] → core_run.stimuli.now ≡ stimuli_of stimuli id → core_run.items.items ≡ [] → core_run.marks.items ≡ [] → IsCoreRun plan stimuli core_run

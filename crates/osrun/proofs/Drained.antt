@@ -2,22 +2,14 @@
 use Rattle.std.proofs.Common.{◌≡◌, nat_lt, ◌||◌, Bool, true, false, not, Some, List, [], ◌∷◌, inl, inr, refl, sym, ap, ◌∙◌}
 use Rattle.std.proofs.lemmas.Bool.{and_parts, false≢true, or_cases, or_left, not-true, or_right, true≢false}
 use Rattle.std.proofs.lemmas.Option.{same_Some}
-use Rattle.osbase.specs.declared.items.Agreement.{Agreement}
-use Rattle.osbase.specs.declared.items.Item.{Item}
-use Rattle.osbase.specs.declared.histories.Phase.{Phase}
-use Rattle.osbase.specs.History.{History, first_phase, phase_on}
-use Rattle.osbase.specs.Phases.{place_of}
+use Rattle.osbase.specs.{declared.items.Agreement.Agreement, declared.items.Item.Item, declared.histories.Phase.Phase, History.History, History.first_phase, History.phase_on, Phases.place_of}
 use Rattle.osplan.specs.View.{View}
-use Rattle.osstate.specs.Readings.{phase_at}
-use Rattle.osstate.specs.State.{state_of}
+use Rattle.osstate.specs.{Readings.phase_at, State.state_of}
 use Rattle.osadmit.specs.Admission.{admits}
 use Rattle.oskernel.specs.Step.{after, history_from, outbox_size, solo, solo_from}
 use Rattle.oskernel.proofs.Stages.{solo-parts, stage}
-use Rattle.osrun.specs.Fits.{has_drained, is_drain}
-use Rattle.osrun.specs.CoreRuns.{is_ended_phase}
-use Rattle.osrun.specs.Sound.{end_by}
-use Rattle.osrun.proofs.Ending.{ended-by, phase-after}
-use Rattle.osrun.proofs.Sane.{AreAgreed, is_conflict}
+use Rattle.osrun.specs.{Fits.has_drained, Fits.is_drain, CoreRuns.is_ended_phase, Sound.end_by}
+use Rattle.osrun.proofs.{Ending.ended-by, Ending.phase-after, Sane.AreAgreed, Sane.is_conflict}
 
 -- The core has drained, or is past that.
 abbrev is_past_drain : Phase → Bool

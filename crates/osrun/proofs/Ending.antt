@@ -1,21 +1,14 @@
 -- A core has ended exactly where its items end.
 use Rattle.std.proofs.Common.{◌≡◌, Bool, true, false, Some, List, [], ◌∷◌, refl, ap, ◌∙◌}
-use Rattle.std.proofs.lemmas.Bool.{false≢true}
-use Rattle.std.proofs.lemmas.Option.{same_Some}
-use Rattle.osbase.specs.declared.items.Agreement.{Agreement}
-use Rattle.osbase.specs.declared.items.Item.{Item}
-use Rattle.osbase.specs.declared.histories.Phase.{Phase}
+use Rattle.std.proofs.{lemmas.Bool.false≢true, lemmas.Option.same_Some}
+use Rattle.osbase.specs.{declared.items.Agreement.Agreement, declared.items.Item.Item, declared.histories.Phase.Phase, Phases.is_scheduling}
 use Rattle.osbase.specs.History.{History, Took, first_phase, phase_on}
-use Rattle.osbase.specs.Phases.{is_scheduling}
 use Rattle.osplan.specs.View.{View}
-use Rattle.osstate.specs.Readings.{phase_at}
-use Rattle.osstate.specs.State.{state_of}
+use Rattle.osstate.specs.{Readings.phase_at, State.state_of}
 use Rattle.osadmit.specs.Admission.{admits}
 use Rattle.oskernel.specs.Step.{after, history_from, outbox_size, solo, solo_from}
-use Rattle.oskernel.proofs.Holding.{quiet_after}
-use Rattle.oskernel.proofs.Stages.{mail-schedules, solo-parts, stage}
-use Rattle.osrun.specs.CoreRuns.{is_ended_phase}
-use Rattle.osrun.specs.Sound.{end_by, is_end}
+use Rattle.oskernel.proofs.{Holding.quiet_after, Stages.mail-schedules, Stages.solo-parts, Stages.stage}
+use Rattle.osrun.specs.{CoreRuns.is_ended_phase, Sound.end_by, Sound.is_end}
 
 -- The phase is read off the items alone.
 pub phase-after : (v : View) (h : History) (i : Item) → phase_at v (after v h i) ≡ phase_at v (Took i ∷ h)

@@ -1,38 +1,22 @@
 -- Where every started core has ended, each separate core has drained: each core that the configuration starts was started, since
 -- whoever starts it ended only behind its start list.
 use Rattle.std.proofs.Common.{◌≡◌, ℕ, zero, suc, ◌<◌, not, ◌&&◌, ◌||◌, Bool, true, false, cond, IsTrue, Option, Some, None, is_some, List, [], ◌∷◌, length, map, find, inl, inr, refl, sym, ap, subst, ◌∙◌, unwrap_or, arith}
-use Rattle.std.specs.List.{AllByRecursion, list_all, list_any}
-use Rattle.std.specs.Option.{option_map_or}
+use Rattle.std.specs.{List.AllByRecursion, List.list_all, List.list_any, Option.option_map_or}
 use Rattle.std.proofs.lemmas.Bool.{and_from, and_parts, both_ways, false≢true, or_cases, or_left, or_right}
 use Rattle.std.proofs.lemmas.List.Folds.{list_any_at}
-use Rattle.osbase.specs.declared.references.CoreId.{CoreId}
-use Rattle.osbase.specs.declared.items.Item.{Item}
-use Rattle.osbase.specs.declared.limits.TheConstants.{CORES}
-use Rattle.osbase.specs.declared.turns.CoreStimuli.{CoreStimuli}
-use Rattle.osbase.specs.declared.turns.Report.{Report}
-use Rattle.osbase.specs.History.{no_cores, same_core}
-use Rattle.osbase.specs.Sets.{core_ids}
-use Rattle.osbase.proofs.Same.{same_core-refl, same_core-true}
-use Rattle.osbase.proofs.Tables.{table-at}
-use Rattle.osplan.specs.declared.plans.Plan.{Plan}
-use Rattle.osplan.specs.declared.plans.Core.{Core}
-use Rattle.osplan.specs.Limits.{is_within_limits}
+use Rattle.osbase.specs.{declared.references.CoreId.CoreId, declared.items.Item.Item, declared.limits.TheConstants.CORES, declared.turns.CoreStimuli.CoreStimuli, declared.turns.Report.Report, History.no_cores, History.same_core, Sets.core_ids}
+use Rattle.osbase.proofs.{Same.same_core-refl, Same.same_core-true, Tables.table-at}
+use Rattle.osplan.specs.{declared.plans.Plan.Plan, declared.plans.Core.Core, Limits.is_within_limits}
 use Rattle.osseparate.specs.Separate.{configured_ids, is_among, is_named_by, is_separate, is_separate_core, is_started, started_within}
 use Rattle.osplan.specs.View.{View, core_of, no_core, view_of}
-use Rattle.osplan.proofs.Found.{IsFound, each-found}
-use Rattle.osplan.proofs.Numbered.{configured-low}
+use Rattle.osplan.proofs.{Found.IsFound, Found.each-found, Numbered.configured-low, Tests.find-holds, Within.limit-parts}
 use Rattle.osseparate.proofs.Starting.{among-configured, kept}
-use Rattle.osplan.proofs.Tests.{find-holds}
-use Rattle.osplan.proofs.Within.{limit-parts}
 use Rattle.osstate.proofs.Begun.{is_some-core_of}
 use Rattle.osboard.specs.Boards.{first_board}
-use Rattle.osrun.specs.Requests.{Calls, calls_of}
-use Rattle.osrun.specs.Ends.{have_all_ended, starts, was_started}
-use Rattle.osrun.specs.Fits.{FitsBy, has_drained, items_of}
+use Rattle.osrun.specs.{Requests.Calls, Requests.calls_of, Ends.have_all_ended, Ends.starts, Ends.was_started, Fits.FitsBy, Fits.has_drained, Fits.items_of}
 use Rattle.osrun.specs.Sound.{AreSound, IsOwn, end_by, lists_in}
 use Rattle.osrun.proofs.Begun.{all-begun, all-called, all-calls, first-start, is_call_of, is_start_of, one-started, some-call}
-use Rattle.osrun.proofs.Configured.{id_at}
-use Rattle.osrun.proofs.Members.{has_core-more, nobody-there}
+use Rattle.osrun.proofs.{Configured.id_at, Members.has_core-more, Members.nobody-there}
 
 -- ---- a core's report
 

@@ -2,33 +2,19 @@
 use Rattle.std.proofs.Common.{◌≡◌, Bool, true, false, ◌&&◌, cond, Option, Some, None, List, [], ◌∷◌, refl, sym, ap, ◌∙◌}
 use Rattle.std.specs.Option.{option_map_or}
 use Rattle.std.proofs.lemmas.Bool.{and_parts, false≢true}
-use Rattle.osbase.specs.declared.references.CoreId.{CoreId}
-use Rattle.osbase.specs.declared.references.TaskRef.{TaskRef}
-use Rattle.osbase.specs.declared.references.Runner.{Runner}
-use Rattle.osbase.specs.declared.references.SpinlockId.{SpinlockId}
-use Rattle.osbase.specs.declared.items.Item.{Item}
-use Rattle.osbase.specs.declared.items.Stimulus.{Stimulus}
-use Rattle.osbase.specs.declared.histories.Awaited.{Awaited}
-use Rattle.osbase.specs.declared.histories.Course.{Course}
-use Rattle.osbase.specs.declared.histories.Job.{Job}
-use Rattle.osbase.specs.declared.histories.OpenCall.{OpenCall}
-use Rattle.osbase.specs.declared.histories.Phase.{Phase}
-use Rattle.osbase.specs.declared.histories.Sent.{Sent}
+use Rattle.osbase.specs.{declared.references.CoreId.CoreId, declared.references.TaskRef.TaskRef, declared.references.Runner.Runner, declared.references.SpinlockId.SpinlockId, declared.items.Item.Item, declared.items.Stimulus.Stimulus, declared.histories.Awaited.Awaited, declared.histories.Course.Course, declared.histories.Job.Job, declared.histories.OpenCall.OpenCall, declared.histories.Phase.Phase, declared.histories.Sent.Sent, Phases.halted_from, Phases.is_going, Phases.stands_in, Spins.newest_owed}
 use Rattle.osbase.specs.History.{History, Note, Noted, Took, WentDown, course_of, current_task, same_job}
-use Rattle.osbase.specs.Phases.{halted_from, is_going, stands_in}
-use Rattle.osbase.specs.Spins.{newest_owed}
-use Rattle.osplan.specs.Stimuli.{knows_stimulus}
-use Rattle.osplan.specs.View.{View}
+use Rattle.osplan.specs.{Stimuli.knows_stimulus, View.View}
 use Rattle.osstate.specs.Readings.{best_job, next_start, phase_at, running}
 use Rattle.osstate.specs.State.{KernelState, state_of}
+use Rattle.osacts.specs.Acts.{does}
 use Rattle.oskernel.specs.declared.wants.SpinWish.TheVariants as Wish
 use Rattle.oskernel.specs.declared.wants.Want.{Want}
 use Rattle.osadmit.specs.Admission.{admits, asks_halt, has_asked_halt}
 use Rattle.osawait.specs.Free.{is_free, may_dispatch, may_go_on}
-use Rattle.oskernel.specs.Step.{after, dispatches, enters, goes_to, leaves, outbox_size}
+use Rattle.oskernel.specs.Step.{after, dispatched, enters, goes_to, leaves, outbox_size}
 use Rattle.oskernel.specs.Wants.{go_on_by, post_or, start_or_enter, want_call, want_for, want_from, want_in, want_owed}
-use Rattle.oskernel.proofs.Calm.{Calm}
-use Rattle.oskernel.proofs.Holding.{kept_after}
+use Rattle.oskernel.proofs.{Calm.Calm, Holding.kept_after}
 
 -- If it runs after an item, it ran before.
 pub going-before : (v : View) (h : History) (i : Item) → is_going (course_of (after v h i)) ≡ true → is_going (course_of h) ≡ true
@@ -58,26 +44,26 @@ pub calm-goes : (v : View) (h : History) → Calm h → is_going (course_of h) �
 calm-goes v h calm going = rw (calm.closed, calm.empty, calm.none_got, going) refl
 
 -- Dispatch takes no core down.
-pub dispatch-course : (v : View) (h : History) → course_of (dispatches v h) ≡ course_of h
+pub dispatch-course : (v : View) (h : History) → course_of (dispatched v h) ≡ course_of h
 dispatch-course v h = by (may_dispatch (state_of v h))
   where
-    left : (current : Option TaskRef) → course_of (leaves current h) ≡ course_of h
+    left : (current : Option TaskRef) → course_of (does (leaves current) v h) ≡ course_of h
     left None = refl
     left (Some t) = refl
 
-    entered : (r : Runner) → course_of (enters r h) ≡ course_of h
+    entered : (r : Runner) → course_of (does (enters (current_task h) r) v h) ≡ course_of h
     entered (Runner.Task t) = left (current_task h)
     entered (Runner.Isr i) = refl
 
-    gone : (o : Option Job) → course_of (goes_to v o h) ≡ course_of h
+    gone : (o : Option Job) → course_of (does (goes_to (state_of v h) o) v h) ≡ course_of h
     gone None = refl
     gone (Some j) = choose (option_map_or (same_job j) (running v h) false)
       where
-        choose : (b : Bool) → course_of (cond b h (enters j.runner h)) ≡ course_of h
+        choose : (b : Bool) → course_of (cond b h (does (enters (current_task h) j.runner) v h)) ≡ course_of h
         choose true = refl
         choose false = entered j.runner
 
-    by : (b : Bool) → course_of (cond b (goes_to v (best_job v h) h) h) ≡ course_of h
+    by : (b : Bool) → course_of (cond b (does (goes_to (state_of v h) (best_job v h)) v h) h) ≡ course_of h
     by true = gone (best_job v h)
     by false = refl
 

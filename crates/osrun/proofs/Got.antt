@@ -2,30 +2,19 @@
 use Rattle.std.proofs.Common.{◌≡◌, ◌==◌, ◌||◌, ◌<◌, ◌++◌, Bool, true, false, cond, if◌then◌else◌, Option, Some, None, List, [], ◌∷◌, map, inl, inr, refl, sym, ap, subst, ◌∙◌}
 use Rattle.std.specs.Option.{option_map_or}
 use Rattle.std.proofs.lemmas.Bool.{and_parts, eqb-true, false≢true, or_parts}
-use Rattle.osbase.specs.declared.references.SpinlockId.{SpinlockId}
-use Rattle.osbase.specs.declared.references.Runner.{Runner}
-use Rattle.osbase.specs.declared.items.Item.{Item}
-use Rattle.osbase.specs.declared.marks.Mark.{Mark}
-use Rattle.osbase.specs.declared.histories.GotSpinlock.{GotSpinlock}
-use Rattle.osbase.specs.declared.histories.OpenCall.{OpenCall}
-use Rattle.osbase.specs.declared.limits.TheConstants.{SPINLOCKS}
+use Rattle.osbase.specs.{declared.references.SpinlockId.SpinlockId, declared.references.Runner.Runner, declared.items.Item.Item, declared.marks.Mark.Mark, declared.histories.GotSpinlock.GotSpinlock, declared.histories.OpenCall.OpenCall, declared.limits.TheConstants.SPINLOCKS}
 use Rattle.osbase.specs.History.{Entry, History, Note, Noted, Printed, Took, WentDown, open_call}
 use Rattle.osbase.specs.Spins.{got_spinlocks, has_spinlock, is_got_by, owed, same_spinlock, spins_after, with_spinlock, without_spinlock}
 use Rattle.osplan.specs.View.{View}
 use Rattle.osstate.specs.State.{state_of}
 use Rattle.osadmit.specs.Admission.{admits, is_get_of, is_try_of}
 use Rattle.oskernel.specs.Step.{after, history_from, outbox_size, solo, solo_from}
-use Rattle.oskernel.proofs.Holding.{quiet_after}
-use Rattle.oskernel.proofs.Stages.{solo-parts}
+use Rattle.oskernel.proofs.{Holding.quiet_after, Stages.solo-parts}
 use Rattle.osshared.specs.Histories.{IsLegal, Thinned, calls_by, state_after}
-use Rattle.osspin.specs.declared.calls.SpinAction.{SpinAction}
-use Rattle.osspin.specs.declared.calls.SpinAction.TheVariants.{Take, Free, Look}
-use Rattle.osspin.specs.declared.calls.SpinReply.TheVariants.{Answered}
-use Rattle.osspin.specs.Holding.{holds_after, holds_by}
+use Rattle.osspin.specs.{declared.calls.SpinAction.SpinAction, declared.calls.SpinAction.TheVariants.Take, declared.calls.SpinAction.TheVariants.Free, declared.calls.SpinAction.TheVariants.Look, declared.calls.SpinReply.TheVariants.Answered, Holding.holds_after, Holding.holds_by}
 use Rattle.osspin.specs.Spins.{IsRefusedCall, SpinEntry, holder_of, is_held_by, no_holders, spinlocks}
 use Rattle.osspin.proofs.Held.{held-by}
-use Rattle.osrun.specs.Requests.{Calls, call_of_item}
-use Rattle.osrun.specs.Fits.{AreAnswered}
+use Rattle.osrun.specs.{Requests.Calls, Requests.call_of_item, Fits.AreAnswered}
 use Rattle.osrun.proofs.Called.{called-for}
 
 -- A spinlock of the same number.

@@ -1,27 +1,17 @@
 -- Of each core's items alone: a core answers no core from which only replies came, and takes nothing from a number that no core has.
 use Rattle.std.proofs.Common.{◌≡◌, nat_lt, Bool, true, false, not, ◌&&◌, cond, Some, List, [], ◌∷◌, ◌++◌, refl, sym, ap, ◌∙◌}
 use Rattle.std.specs.List.{list_all}
-use Rattle.std.proofs.lemmas.Bool.{and_parts, and_from, false≢true}
-use Rattle.std.proofs.lemmas.List.Folds.{list_all-append}
-use Rattle.osbase.specs.declared.references.CoreId.{CoreId}
-use Rattle.osbase.specs.declared.messages.Message.{Message}
-use Rattle.osbase.specs.declared.items.Item.{Item}
-use Rattle.osbase.specs.declared.items.Stimulus.{Stimulus}
-use Rattle.osbase.specs.declared.limits.TheConstants.{CORES}
+use Rattle.std.proofs.{lemmas.Bool.and_parts, lemmas.Bool.and_from, lemmas.Bool.false≢true, lemmas.List.Folds.list_all-append}
+use Rattle.osbase.specs.{declared.references.CoreId.CoreId, declared.messages.Message.Message, declared.items.Item.Item, declared.items.Stimulus.Stimulus, declared.limits.TheConstants.CORES, Phases.is_scheduling}
 use Rattle.osbase.specs.History.{History, letter_with, received, same_core}
-use Rattle.osbase.specs.Phases.{is_scheduling}
 use Rattle.osbase.proofs.Same.{same_core-true}
 use Rattle.osplan.specs.View.{View}
 use Rattle.osservice.proofs.Kept.{anybody}
-use Rattle.osstate.specs.Readings.{is_this_core, knows_started, phase_at}
-use Rattle.osstate.specs.State.{state_of}
+use Rattle.osstate.specs.{Readings.is_this_core, Readings.knows_started, Readings.phase_at, State.state_of}
 use Rattle.osadmit.specs.Admission.{admits, is_next_from}
 use Rattle.oskernel.specs.Step.{after, history_from, outbox_size, solo_from}
-use Rattle.oskernel.proofs.Carried.{is_replied}
-use Rattle.oskernel.proofs.Stages.{solo-parts}
-use Rattle.osrun.proofs.Beginnings.{begins-all_pass}
-use Rattle.osrun.proofs.Mailed.{is_reply, received-later}
-use Rattle.osrun.proofs.Streams.{is_from, received-is, received_letter}
+use Rattle.oskernel.proofs.{Carried.is_replied, Stages.solo-parts}
+use Rattle.osrun.proofs.{Beginnings.begins-all_pass, Mailed.is_reply, Mailed.received-later, Streams.is_from, Streams.received-is, Streams.received_letter}
 
 module _ (c : CoreId) (v : View) where
   -- Where only replies come from there, no item is a request from there.

@@ -2,30 +2,17 @@
 use Rattle.std.proofs.Common.{List, ◌≡◌, ◌==◌, ℕ, Bool, true, false, not, ◌&&◌, ◌||◌, Option, Some, None, [], ◌∷◌, refl, ap, subst, sym, ◌∙◌, unwrap_or}
 use Rattle.std.specs.List.{list_all, list_any, slice_get}
 use Rattle.std.proofs.lemmas.Bool.{and_from, eq-eqb, not_from_false, or_parts, or_right, true≢false}
-use Rattle.osbase.specs.declared.references.CoreId.{CoreId}
-use Rattle.osbase.specs.declared.references.Runner.{Runner}
-use Rattle.osbase.specs.declared.references.SpinlockId.{SpinlockId}
-use Rattle.osbase.specs.declared.items.CoreSet.{CoreSet}
-use Rattle.osbase.specs.declared.objects.Object.{Object}
-use Rattle.osbase.specs.declared.objects.ObjectKind.{ObjectKind}
-use Rattle.osbase.specs.declared.objects.TheConstants.{NOBODY}
-use Rattle.osbase.specs.History.{same_core}
-use Rattle.osbase.specs.Objects.{same_kind, spinlock_of}
-use Rattle.osbase.specs.Sets.{has_core}
+use Rattle.osbase.specs.{declared.references.CoreId.CoreId, declared.references.Runner.Runner, declared.references.SpinlockId.SpinlockId, declared.items.CoreSet.CoreSet, declared.objects.Object.Object, declared.objects.ObjectKind.ObjectKind, declared.objects.TheConstants.NOBODY, History.same_core, Objects.same_kind, Objects.spinlock_of, Sets.has_core}
 use Rattle.osbase.proofs.Same.{same_core-true}
-use Rattle.oscript.specs.declared.Op.{Op}
-use Rattle.oscript.specs.Rows.{halts_all, objects_of}
-use Rattle.osplan.specs.declared.plans.Plan.{Plan}
-use Rattle.osplan.specs.declared.plans.Core.{Core}
+use Rattle.oscript.specs.{declared.Op.Op, Rows.halts_all, Rows.objects_of}
+use Rattle.osplan.specs.{declared.plans.Plan.Plan, declared.plans.Core.Core, View.core_of, View.no_core, View.view_of}
 use Rattle.osplan.specs.Naming.{has_operation, is_that_spinlock, names_object, op_names}
-use Rattle.osplan.specs.View.{core_of, no_core, view_of}
 use Rattle.osplan.proofs.Tests.{find-fails, find-holds, find-passes}
 use Rattle.osgroup.specs.Apart.{is_inside, is_outside, is_taken, is_taken_in, keeps_apart}
 use Rattle.osgroup.specs.Groups.{names_spinlock}
 use Rattle.osgroup.proofs.Apart.{OutsideParts, apart-inside, apart-outside}
 use Rattle.osstate.specs.Readings.{script_of}
-use Rattle.osservice.proofs.Called.{may_lock}
-use Rattle.osservice.proofs.Partners.{Partner}
+use Rattle.osservice.proofs.{Called.may_lock, Partners.Partner}
 use Rattle.oskernel.proofs.Carried.{NamesAllow, allow-cores}
 use Rattle.oskernel.proofs.Scripts.{but_halt, names-allow, none-all, script-fails, script-none}
 

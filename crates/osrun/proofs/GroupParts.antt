@@ -2,17 +2,9 @@
 use Rattle.std.proofs.Common.{◌≡◌, Bool, true, false, cond, Option, Some, None, option_map, find, List, [], ◌∷◌, ◌++◌, filter, refl, sym, ap, ◌∙◌, unwrap_or}
 use Rattle.std.specs.Option.{option_map_or}
 use Rattle.std.proofs.lemmas.Bool.{false≢true}
-use Rattle.osbase.specs.declared.references.CoreId.{CoreId}
-use Rattle.osbase.specs.declared.items.CoreSet.{CoreSet}
-use Rattle.osbase.specs.declared.items.Item.{Item}
-use Rattle.osbase.specs.declared.items.Stimulus.{Stimulus}
-use Rattle.osbase.specs.declared.turns.CoreStimuli.{CoreStimuli}
-use Rattle.osbase.specs.History.{History, received, same_core}
-use Rattle.osbase.specs.Runs.{stimuli_of}
-use Rattle.osbase.specs.Sets.{has_core}
+use Rattle.osbase.specs.{declared.references.CoreId.CoreId, declared.items.CoreSet.CoreSet, declared.items.Item.Item, declared.items.Stimulus.Stimulus, declared.turns.CoreStimuli.CoreStimuli, History.History, History.received, History.same_core, Runs.stimuli_of, Sets.has_core}
 use Rattle.osbase.proofs.Same.{same_core-true}
-use Rattle.osplan.specs.declared.plans.Plan.{Plan}
-use Rattle.osplan.specs.declared.plans.Core.{Core}
+use Rattle.osplan.specs.{declared.plans.Plan.Plan, declared.plans.Core.Core}
 use Rattle.osplan.specs.View.{View, core_of, no_core, view_from, view_of}
 use Rattle.osplan.proofs.Tests.{find-holds}
 use Rattle.osgroup.specs.Groups.{bare_core, group_of, part_of}
@@ -22,8 +14,7 @@ use Rattle.osshared.specs.Histories.{calls_by}
 use Rattle.osspin.specs.Spins.{SpinEntry}
 use Rattle.osrun.specs.Fits.{items_of, stimuli_in}
 use Rattle.osrun.specs.Groups.{is_bare_item, part_items, part_lists, part_stimuli}
-use Rattle.osrun.proofs.Bare.{bare}
-use Rattle.osrun.proofs.Streams.{is_from, received-is, received_letter}
+use Rattle.osrun.proofs.{Bare.bare, Streams.is_from, Streams.received-is, Streams.received_letter}
 
 -- ---- what a core without objects sees
 

@@ -1,31 +1,15 @@
 -- Each call of a spinlock that led to an item of a core is of one that the core may ask for.
 use Rattle.std.proofs.Common.{◌≡◌, Bool, true, false, Option, Some, None, List, [], ◌∷◌, refl, ap, ◌∙◌}
 use Rattle.std.specs.List.{list_all}
-use Rattle.std.proofs.lemmas.Bool.{and_from}
-use Rattle.std.proofs.lemmas.List.Folds.{list_all-append}
-use Rattle.std.proofs.lemmas.Option.{same_Some}
-use Rattle.osbase.specs.declared.items.Item.{Item}
-use Rattle.osbase.specs.declared.items.Stimulus.{Stimulus}
-use Rattle.osbase.specs.declared.turns.Choice.{Choice}
-use Rattle.osbase.specs.History.{History}
+use Rattle.std.proofs.{lemmas.Bool.and_from, lemmas.List.Folds.list_all-append, lemmas.Option.same_Some}
+use Rattle.osbase.specs.{declared.items.Item.Item, declared.items.Stimulus.Stimulus, declared.turns.Choice.Choice, History.History}
 use Rattle.osplan.specs.View.{View, is_configured}
 use Rattle.osservice.proofs.Partners.{Partner}
-use Rattle.oskernel.specs.declared.wants.SpinWish.{SpinWish}
-use Rattle.oskernel.specs.declared.wants.Want.{Want}
-use Rattle.oskernel.specs.declared.wants.Watch.{Watch}
-use Rattle.oskernel.specs.Step.{after, history_from, solo_from}
-use Rattle.oskernel.specs.Wants.{lock_of, want_of, watch_of}
-use Rattle.oskernel.proofs.Carried.{NamesAllow}
-use Rattle.oskernel.proofs.Locked.{Got, got-after, wish-asked}
-use Rattle.oskernel.proofs.Opened.{Asks, asks-after}
-use Rattle.oskernel.proofs.Stages.{solo-parts}
+use Rattle.oskernel.specs.{declared.wants.SpinWish.SpinWish, declared.wants.Want.Want, declared.wants.Watch.Watch, Step.after, Step.history_from, Step.solo_from, Wants.lock_of, Wants.want_of, Wants.watch_of}
+use Rattle.oskernel.proofs.{Carried.NamesAllow, Locked.Got, Locked.got-after, Locked.wish-asked, Opened.Asks, Opened.asks-after, Stages.solo-parts}
 use Rattle.osspin.specs.Spins.{SpinEntry}
-use Rattle.osrun.specs.declared.requests.Request.{Request}
-use Rattle.osrun.specs.declared.requests.Request.TheVariants.{OfBoard, OfSpins}
-use Rattle.osrun.specs.declared.requests.Reply.{Reply}
-use Rattle.osrun.specs.declared.requests.Reply.TheVariants.{Replied, Spun}
+use Rattle.osrun.specs.{declared.requests.Request.Request, declared.requests.Request.TheVariants.OfBoard, declared.requests.Request.TheVariants.OfSpins, declared.requests.Reply.Reply, declared.requests.Reply.TheVariants.Replied, declared.requests.Reply.TheVariants.Spun, Fits.AreAnswered, Fits.ResultsIn}
 use Rattle.osrun.specs.Requests.{Calls, request_by, look_request, own_request, spin_call_of, start_request, call_of_turn}
-use Rattle.osrun.specs.Fits.{AreAnswered, ResultsIn}
 
 -- Of a spinlock a turn asks only what the core wants.
 own-wish : (v : View) (next : Option Stimulus) (want : Want) (wish : SpinWish) → own_request v next want ≡ Some (OfSpins wish) → want ≡ Want.Spin wish

@@ -3,50 +3,27 @@ use mathlib.Core.List.{IsPrefix}
 use Rattle.std.proofs.Common.{◌≡◌, ℕ, nat_lt, Bool, true, false, not, ◌||◌, cond, Option, Some, None, is_some, option_map, List, [], ◌∷◌, ◌++◌, filter, IsTrue, refl, sym, ap, subst, ◌∙◌, unwrap_or, arith, inl, inr}
 use Rattle.std.specs.List.{list_all}
 use Rattle.std.proofs.lemmas.Bool.{false≢true, or_cases, or_left}
-use Rattle.osbase.specs.declared.references.CoreId.{CoreId}
-use Rattle.osbase.specs.declared.items.CoreSet.{CoreSet}
-use Rattle.osbase.specs.declared.items.Item.{Item}
-use Rattle.osbase.specs.declared.items.Stimulus.{Stimulus}
-use Rattle.osbase.specs.declared.limits.TheConstants.{CORES}
-use Rattle.osbase.specs.declared.messages.Letter.{Letter}
-use Rattle.osbase.specs.declared.objects.TheConstants.{NOBODY}
-use Rattle.osbase.specs.declared.turns.CoreStimuli.{CoreStimuli}
-use Rattle.osbase.specs.declared.turns.Report.{Report}
+use Rattle.osbase.specs.{declared.references.CoreId.CoreId, declared.items.CoreSet.CoreSet, declared.items.Item.Item, declared.items.Stimulus.Stimulus, declared.limits.TheConstants.CORES, declared.messages.Letter.Letter, declared.objects.TheConstants.NOBODY, declared.turns.CoreStimuli.CoreStimuli, declared.turns.Report.Report, Phases.is_going, Runs.stimuli_of, Sets.has_core}
 use Rattle.osbase.specs.History.{History, course_of, marks_of, posted, received, same_core}
-use Rattle.osbase.specs.Phases.{is_going}
-use Rattle.osbase.specs.Runs.{stimuli_of}
-use Rattle.osbase.specs.Sets.{has_core}
 use Rattle.osbase.proofs.Same.{same_core-true}
-use Rattle.osplan.specs.declared.plans.Plan.{Plan}
-use Rattle.osplan.specs.declared.plans.Core.{Core}
-use Rattle.osplan.specs.Limits.{is_within_limits}
+use Rattle.osplan.specs.{declared.plans.Plan.Plan, declared.plans.Core.Core, Limits.is_within_limits}
 use Rattle.osplan.specs.View.{View, core_of, no_core, view_of}
-use Rattle.osplan.proofs.Numbered.{configured-low}
-use Rattle.osplan.proofs.Tests.{find-holds}
-use Rattle.osgroup.specs.Apart.{is_taken_in, keeps_apart}
-use Rattle.osgroup.specs.Groups.{group_of, part_of}
-use Rattle.osgroup.proofs.Apart.{kept-apart}
-use Rattle.osgroup.proofs.Seeing.{core-inside, core-part, sees-same}
-use Rattle.osservice.proofs.Kept.{is_within}
-use Rattle.osservice.proofs.Partners.{Partner}
+use Rattle.osplan.proofs.{Numbered.configured-low, Tests.find-holds}
+use Rattle.osgroup.specs.{Apart.is_taken_in, Apart.keeps_apart, Groups.group_of, Groups.part_of}
+use Rattle.osgroup.proofs.{Apart.kept-apart, Seeing.core-inside, Seeing.core-part, Seeing.sees-same}
+use Rattle.osservice.proofs.{Kept.is_within, Partners.Partner}
 use Rattle.oskernel.specs.Step.{history_from, solo}
 use Rattle.oskernel.proofs.Own.{inside-items}
 use Rattle.osshared.specs.Histories.{calls_by}
 use Rattle.osspin.specs.Spins.{SpinEntry}
 use Rattle.ostrace_text.specs.Trace.{line_end, lines_of, title_of}
 use Rattle.ostrace_text.proofs.Named.{lines-same}
-use Rattle.osrun.specs.Requests.{Calls, calls_of}
+use Rattle.osrun.specs.{Requests.Calls, Requests.calls_of, Sound.end_by, Sound.report_by}
 use Rattle.osrun.specs.Fits.{AreAnswered, Fits, FitsBy, FitsCore, has_drained, history_by, items_of, stimuli_in}
 use Rattle.osrun.specs.Groups.{AreApart, is_bare_item, part_lists, part_stimuli}
-use Rattle.osrun.specs.Sound.{end_by, report_by}
-use Rattle.osrun.proofs.Bare.{alike-first, bare, solo-bare}
-use Rattle.osrun.proofs.BareTurns.{answered-bare}
-use Rattle.osrun.proofs.Beginnings.{begins-all_pass}
-use Rattle.osrun.proofs.GroupMail.{high-silent, none-asked}
+use Rattle.osrun.proofs.{Bare.alike-first, Bare.bare, Bare.solo-bare, BareTurns.answered-bare, Beginnings.begins-all_pass, GroupMail.high-silent, GroupMail.none-asked, GroupSpins.calls-asked, Mailed.is_reply, Mailed.posts-nothing, Mailed.posts-replies}
 use Rattle.osrun.proofs.GroupParts.{calls-inside, calls-outside, items-part, received-bare, stimuli-bare, stimuli-inside, stimuli-outside, view-outside}
 use Rattle.osrun.proofs.GroupNames.{asks_inside, asks_outside, inside-allow, outside-allow, outside-unhalted}
-use Rattle.osrun.proofs.GroupSpins.{calls-asked}
-use Rattle.osrun.proofs.Mailed.{is_reply, posts-nothing, posts-replies}
 use Rattle.osrun.proofs.SpinSides.{inside_calls, are_of_sides, legal-apart, sides-together}
 
 nil-front : {A : Type 0} (xs ys : List A) → xs ++ ys ≡ [] → xs ≡ []

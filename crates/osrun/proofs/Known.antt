@@ -2,14 +2,10 @@
 use Rattle.std.proofs.Common.{Bool, true, false, IfSome, IsTrue, Option, Some, None, refl}
 use Rattle.osbase.specs.declared.items.Stimulus.{Stimulus}
 use Rattle.osplan.specs.View.{View, is_configured}
-use Rattle.osstate.specs.Sound.{is_lock_known}
-use Rattle.oskernel.specs.declared.wants.SpinWish.{SpinWish}
+use Rattle.osprogress.specs.Border.{is_lock_known}
+use Rattle.oskernel.specs.{declared.wants.SpinWish.SpinWish, declared.wants.Want.Want, Wants.is_want_known, Wants.lock_of}
 use Rattle.oskernel.specs.declared.wants.SpinWish.TheVariants as Wish
-use Rattle.oskernel.specs.declared.wants.Want.{Want}
-use Rattle.oskernel.specs.Wants.{is_want_known, lock_of}
-use Rattle.osrun.specs.declared.requests.Request.{Request}
-use Rattle.osrun.specs.declared.requests.Request.TheVariants.{OfSpins}
-use Rattle.osrun.specs.Requests.{is_request_known, own_request, start_request}
+use Rattle.osrun.specs.{declared.requests.Request.Request, declared.requests.Request.TheVariants.OfSpins, Requests.is_request_known, Requests.own_request, Requests.start_request}
 
 abbrev pub IsKnown : Option Request → Type 0
 IsKnown o = IfSome o (λ request. IsTrue (is_request_known request))

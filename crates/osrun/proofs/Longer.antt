@@ -2,23 +2,13 @@
 use mathlib.Core.List.{IsPrefix}
 use Rattle.std.proofs.Common.{◌≡◌, suc, Bool, true, false, ◌||◌, cond, Some, None, List, [], ◌∷◌, ◌++◌, length, refl, ap, ◌∙◌, arith, sym, subst, append-nil, ◌+◌}
 use Rattle.std.specs.List.{slice_get}
-use Rattle.osbase.specs.declared.references.CoreId.{CoreId}
-use Rattle.osbase.specs.declared.items.Item.{Item}
-use Rattle.osbase.specs.declared.items.Stimulus.{Stimulus}
-use Rattle.osbase.specs.declared.histories.Course.{Course}
-use Rattle.osbase.specs.declared.turns.CoreStimuli.{CoreStimuli}
-use Rattle.osbase.specs.History.{History, course_of}
-use Rattle.osbase.specs.Phases.{is_going}
-use Rattle.osbase.specs.Runs.{stimuli_of}
-use Rattle.osplan.specs.declared.plans.Plan.{Plan}
-use Rattle.osplan.specs.View.{View, view_of}
+use Rattle.osbase.specs.{declared.references.CoreId.CoreId, declared.items.Item.Item, declared.items.Stimulus.Stimulus, declared.histories.Course.Course, declared.turns.CoreStimuli.CoreStimuli, History.History, History.course_of, Phases.is_going, Runs.stimuli_of}
+use Rattle.osplan.specs.{declared.plans.Plan.Plan, View.View, View.view_of}
 use Rattle.oskernel.specs.Step.{after, history_from, solo_from, takes, outbox_size}
 use Rattle.osrun.specs.CoreRuns.{stimulus_count}
 use Rattle.osrun.specs.Fits.{has_drained, is_drain, stimuli_in, FitsCore, history_by}
-use Rattle.std.proofs.lemmas.Bool.{false≢true}
-use Rattle.std.proofs.lemmas.Option.{slice_get_past}
-use Rattle.osrun.proofs.Beginnings.{begins-next, begins-whole}
-use Rattle.osrun.proofs.Going.{going-before}
+use Rattle.std.proofs.{lemmas.Bool.false≢true, lemmas.Option.slice_get_past}
+use Rattle.osrun.proofs.{Beginnings.begins-next, Beginnings.begins-whole, Going.going-before}
 
 -- The items in order.
 pub history_from-push : (v : View) (h : History) (items : List Item) (item : Item) → history_from v h (items ++ item ∷ []) ≡ after v (history_from v h items) item

@@ -2,33 +2,19 @@
 -- that it did not ask for; and one that asks for nothing receives none of these and posts nothing.
 use mathlib.Core.List.{IsPrefix}
 use Rattle.std.proofs.Common.{◌≡◌, ℕ, ℤ, nat_eq, Bool, true, false, not, ◌&&◌, ◌||◌, cond, Option, Some, None, List, [], ◌∷◌, ◌++◌, drop, refl, sym, ap, subst, ◌∙◌, slice_index}
-use Rattle.std.specs.List.{list_all}
-use Rattle.std.specs.Option.{option_map_or}
+use Rattle.std.specs.{List.list_all, Option.option_map_or}
 use Rattle.std.proofs.lemmas.Bool.{and_parts, and_from, false≢true, not-true, not_from_false, or_left, or_right}
 use Rattle.std.proofs.lemmas.List.Folds.{list_all-append}
-use Rattle.osbase.specs.declared.references.CoreId.{CoreId}
-use Rattle.osbase.specs.declared.messages.Letter.{Letter}
-use Rattle.osbase.specs.declared.messages.Message.{Message}
-use Rattle.osbase.specs.declared.statuses.Status.{Status}
-use Rattle.osbase.specs.declared.items.Item.{Item}
-use Rattle.osbase.specs.declared.histories.OpenCall.{OpenCall}
-use Rattle.osbase.specs.declared.histories.Sent.{Sent}
-use Rattle.osbase.specs.Answers.{reply}
+use Rattle.osbase.specs.{declared.references.CoreId.CoreId, declared.messages.Letter.Letter, declared.messages.Message.Message, declared.statuses.Status.Status, declared.items.Item.Item, declared.histories.OpenCall.OpenCall, declared.histories.Sent.Sent, Answers.reply, Phases.is_scheduling}
 use Rattle.osbase.specs.History.{Entry, History, Took, Noted, Opened, Queued, front_letter, outbox, posted, queued_count, received, same_core, letter_with}
-use Rattle.osbase.specs.Phases.{is_scheduling}
 use Rattle.osbase.proofs.Same.{same_core-true, same_core-refl}
 use Rattle.osplan.specs.View.{View}
-use Rattle.osstate.specs.Readings.{is_this_core, knows_started, phase_at}
-use Rattle.osservice.proofs.Kept.{anybody, is_local, nobody}
-use Rattle.osstate.specs.State.{state_of}
+use Rattle.osstate.specs.{Readings.is_this_core, Readings.knows_started, Readings.phase_at, State.state_of}
+use Rattle.osservice.proofs.{Kept.anybody, Kept.is_local, Kept.nobody, Partners.Partner}
 use Rattle.osadmit.specs.Admission.{admits, is_front_for}
 use Rattle.osawait.specs.Messages.{is_awaited, is_reply_to}
 use Rattle.oskernel.specs.Step.{after, history_from, outbox_size, solo_from}
-use Rattle.oskernel.proofs.Calm.{Calm, calm-after}
-use Rattle.osservice.proofs.Partners.{Partner}
-use Rattle.oskernel.proofs.Carried.{NamesAllow, is_replied, replied-anybody}
-use Rattle.oskernel.proofs.Holding.{Holds, holds-after}
-use Rattle.oskernel.proofs.Stages.{is_mail, solo-parts}
+use Rattle.oskernel.proofs.{Calm.Calm, Calm.calm-after, Carried.NamesAllow, Carried.is_replied, Carried.replied-anybody, Holding.Holds, Holding.holds-after, Stages.is_mail, Stages.solo-parts}
 use Rattle.osrun.proofs.Beginnings.{begins-all_pass, begins-itself, begins-longer, begins-through}
 use Rattle.osrun.proofs.Streams.{is_from, is_post_to, posted-after, received-is, received_letter}
 

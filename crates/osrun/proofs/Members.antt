@@ -1,11 +1,7 @@
 -- Which cores are in a set that one joins.
 use Rattle.std.proofs.Common.{◌≡◌, ◌⊎◌, ◌&&◌, ◌<◌, ℕ, Bool, true, false, replicate, set, nat_lt, inl, inr, sym, ap, ◌∙◌, get_or-set_other}
 use Rattle.std.proofs.lemmas.Bool.{and_parts, cases_eq, false≢true}
-use Rattle.osbase.specs.declared.references.CoreId.{CoreId}
-use Rattle.osbase.specs.declared.items.CoreSet.{CoreSet}
-use Rattle.osbase.specs.declared.limits.TheConstants.{CORES}
-use Rattle.osbase.specs.History.{no_cores}
-use Rattle.osbase.specs.Sets.{has_core}
+use Rattle.osbase.specs.{declared.references.CoreId.CoreId, declared.items.CoreSet.CoreSet, declared.limits.TheConstants.CORES, History.no_cores, Sets.has_core}
 use Rattle.osbase.proofs.Same.{same_core-refl}
 use Rattle.osbase.proofs.Sets.{flag-read, has_core-flag, no-flag, one-flag}
 use Rattle.osboard.specs.Boards.{with_core}

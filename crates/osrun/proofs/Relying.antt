@@ -1,11 +1,9 @@
 -- What each core's calls of an object keep, as long as each answer that the core had was one of a state that has it, the
 -- object's one history keeps; so each core has only such answers. It is said of any object and names no call.
 use Rattle.std.proofs.Common.{◌≡◌, Bool, true, false, cond, List, [], ◌∷◌, subst}
-use Rattle.osbase.specs.declared.references.CoreId.{CoreId}
-use Rattle.osbase.specs.History.{same_core}
+use Rattle.osbase.specs.{declared.references.CoreId.CoreId, History.same_core}
 use Rattle.osbase.proofs.Same.{same_core-refl}
-use Rattle.osshared.specs.declared.histories.Entry.{Entry}
-use Rattle.osshared.specs.Histories.{IsLegalFrom, Object, calls_by}
+use Rattle.osshared.specs.{declared.histories.Entry.Entry, Histories.IsLegalFrom, Histories.Object, Histories.calls_by}
 
 module _ {A S C R : Type 0} (o : Object A S C R) (P : S → Type 0) where
   -- The call keeps it.

@@ -1,19 +1,10 @@
 -- What every item has to which an answer leads, if each item of that answer's table has it.
 use Rattle.std.proofs.Common.{◌≡◌, Bool, true, false, cond, Option, Some, None, refl, subst}
 use Rattle.std.proofs.lemmas.Option.{same_Some}
-use Rattle.osbase.specs.declared.statuses.Status.{Status}
-use Rattle.osbase.specs.declared.references.CoreId.{CoreId}
-use Rattle.osbase.specs.declared.references.SpinlockId.{SpinlockId}
-use Rattle.osbase.specs.declared.items.Agreement.{Agreement}
-use Rattle.osbase.specs.declared.items.CoreSet.{CoreSet}
-use Rattle.osbase.specs.declared.items.Item.{Item}
-use Rattle.osbase.specs.Sets.{has_core}
-use Rattle.oskernel.specs.declared.wants.Watch.{Watch}
-use Rattle.osspin.specs.declared.calls.SpinReply.{SpinReply}
-use Rattle.osspin.specs.declared.calls.SpinReply.TheVariants.{Answered}
-use Rattle.osboard.specs.declared.calls.BoardView.{BoardView}
-use Rattle.osboard.specs.Boards.{agreement_in, have_all}
-use Rattle.oskernel.specs.declared.wants.SpinWish.{SpinWish}
+use Rattle.osbase.specs.{declared.statuses.Status.Status, declared.references.CoreId.CoreId, declared.references.SpinlockId.SpinlockId, declared.items.Agreement.Agreement, declared.items.CoreSet.CoreSet, declared.items.Item.Item, Sets.has_core}
+use Rattle.oskernel.specs.{declared.wants.Watch.Watch, declared.wants.SpinWish.SpinWish}
+use Rattle.osspin.specs.{declared.calls.SpinReply.SpinReply, declared.calls.SpinReply.TheVariants.Answered}
+use Rattle.osboard.specs.{declared.calls.BoardView.BoardView, Boards.agreement_in, Boards.have_all}
 use Rattle.oskernel.specs.declared.wants.SpinWish.TheVariants as Wish
 use Rattle.osrun.specs.Requests.{item_of_drained, item_of_halt, item_of_look, item_of_spinlock}
 

@@ -1,62 +1,35 @@
 -- The board that a core sees has started only cores that the configuration starts, has only the agreed mode, and has no
 -- shutdown of all cores.
 use Rattle.std.proofs.Common.{◌≡◌, ◌≢◌, ◌⊎◌, ℕ, zero, suc, ◌≤◌, Bool, true, false, not, ◌||◌, cond, Option, Some, None, is_some, List, [], ◌∷◌, ◌++◌, get_or, inl, inr, refl, sym, ap, subst, ◌∙◌, arith, get_or-set_other, unwrap_or}
-use Rattle.std.specs.List.{count_by, list_all, slice_get}
-use Rattle.std.specs.Option.{option_map_or}
+use Rattle.std.specs.{List.count_by, List.list_all, List.slice_get, Option.option_map_or}
 use Rattle.std.proofs.lemmas.Bool.{and_from, and_parts, both_ways, eqb-true, false≢true, not_from_false, or_left, or_right, true≢false}
-use Rattle.std.proofs.lemmas.List.Sums.{sum_by-cons}
-use Rattle.std.proofs.lemmas.Option.{same_Some}
-use Rattle.osbase.specs.declared.statuses.Status.{Status}
-use Rattle.osbase.specs.declared.references.CoreId.{CoreId}
-use Rattle.osbase.specs.declared.references.ModeId.{ModeId}
-use Rattle.osbase.specs.declared.items.Agreement.{Agreement}
-use Rattle.osbase.specs.declared.items.Item.{Item}
-use Rattle.osbase.specs.declared.items.Stimulus.{Stimulus}
-use Rattle.osbase.specs.declared.histories.Awaited.{Awaited}
-use Rattle.osbase.specs.declared.histories.OpenCall.{OpenCall}
-use Rattle.osbase.specs.declared.histories.Phase.{Phase}
+use Rattle.std.proofs.{lemmas.List.Sums.sum_by-cons, lemmas.Option.same_Some}
+use Rattle.osbase.specs.{declared.statuses.Status.Status, declared.references.CoreId.CoreId, declared.references.ModeId.ModeId, declared.items.Agreement.Agreement, declared.items.Item.Item, declared.items.Stimulus.Stimulus, declared.histories.Awaited.Awaited, declared.histories.OpenCall.OpenCall, declared.histories.Phase.Phase, Sets.has_core, declared.items.CoreMode.CoreMode, declared.items.CoreMode.TheVariants.Named, declared.items.CoreMode.TheVariants.DontCare}
 use Rattle.osbase.specs.History.{History, began_count, no_cores, open_call, phase_of, same_core}
-use Rattle.osbase.specs.Sets.{has_core}
-use Rattle.osbase.proofs.Same.{same_core-true, same_core-refl}
-use Rattle.osplan.specs.declared.plans.Plan.{Plan}
-use Rattle.osplan.specs.declared.plans.Core.{Core}
-use Rattle.osbase.specs.declared.items.CoreMode.{CoreMode}
-use Rattle.osbase.specs.declared.items.CoreMode.TheVariants.{Named, DontCare}
+use Rattle.osbase.proofs.{Same.same_core-true, Same.same_core-refl, Sets.no-flag}
+use Rattle.osplan.specs.{declared.plans.Plan.Plan, declared.plans.Core.Core}
 use Rattle.osseparate.specs.Separate.{agree, halts_somewhere, is_agreed_mode, is_among, is_started}
 use Rattle.osplan.specs.View.{View, core_of, is_configured, no_core, view_of}
 use Rattle.osseparate.proofs.Reached.{started-master, started-next}
-use Rattle.osbase.proofs.Sets.{no-flag}
 use Rattle.osplan.proofs.Tests.{find-holds, find-passes}
-use Rattle.osservice.proofs.Kept.{may_open}
-use Rattle.osservice.proofs.Partners.{partner_of}
-use Rattle.osstate.specs.Readings.{next_start, phase_at}
+use Rattle.osservice.proofs.{Kept.may_open, Partners.partner_of}
+use Rattle.osstate.specs.{Readings.next_start, Readings.phase_at, State.state_of}
 use Rattle.osstate.proofs.Begun.{is_some-core_of}
-use Rattle.osstate.specs.State.{state_of}
 use Rattle.osadmit.specs.Admission.{admits, asks_halt, has_asked_halt, is_for, is_start_answer}
 use Rattle.oskernel.specs.Step.{after, history_from, outbox_size, solo_from}
-use Rattle.oskernel.specs.declared.wants.Watch.{Watch}
-use Rattle.oskernel.specs.Wants.{watch_from, watch_of}
-use Rattle.oskernel.proofs.Carried.{passes}
-use Rattle.oskernel.proofs.Opened.{Asks, asks-after}
-use Rattle.oskernel.proofs.Scripts.{but_halt, halt-allow}
-use Rattle.oskernel.proofs.Stages.{only-on, solo-parts, stage}
+use Rattle.oskernel.specs.{declared.wants.Watch.Watch, Wants.watch_from, Wants.watch_of}
+use Rattle.oskernel.proofs.{Carried.passes, Opened.Asks, Opened.asks-after, Scripts.but_halt, Scripts.halt-allow, Stages.only-on, Stages.solo-parts, Stages.stage}
 use Rattle.osshared.specs.Histories.{IsLegal, entry}
-use Rattle.osboard.specs.declared.calls.BoardState.{BoardState}
-use Rattle.osboard.specs.declared.calls.BoardCall.{BoardCall}
+use Rattle.osboard.specs.{declared.calls.BoardState.BoardState, declared.calls.BoardCall.BoardCall, declared.calls.BoardReply.BoardReply, declared.calls.BoardView.BoardView}
 use Rattle.osboard.specs.declared.calls.BoardCall.TheVariants.{Start, Enter, MakeReady, Drain, Look, LookDrained, AskHalt, LookHalt}
-use Rattle.osboard.specs.declared.calls.BoardReply.{BoardReply}
 use Rattle.osboard.specs.declared.calls.BoardReply.TheVariants.{Started, Acknowledged, Shown, Drained, Decided, Halting}
-use Rattle.osboard.specs.declared.calls.BoardView.{BoardView}
 use Rattle.osboard.specs.Boards.{agreement_by, agreement_in, board_after, board_reply, first_board, one_board, with_mode}
-use Rattle.osrun.specs.declared.requests.Request.{Request}
+use Rattle.osrun.specs.{declared.requests.Request.Request, declared.requests.Reply.Reply, Fits.AreAnswered, Fits.ResultsIn}
 use Rattle.osrun.specs.declared.requests.Request.TheVariants.{OfBoard, OfSpins, Room, Oldest, StartUnknown, TakeStimulus}
-use Rattle.osrun.specs.declared.requests.Reply.{Reply}
 use Rattle.osrun.specs.declared.requests.Reply.TheVariants.{Replied, Spun, HasRoom, Found, Unasked}
 use Rattle.osrun.specs.Requests.{Calls, calls_of, item_of_halt, item_by, item_of_look, item_of_board, call_of_turn}
-use Rattle.osrun.specs.Fits.{AreAnswered, ResultsIn}
-use Rattle.osrun.proofs.Asked.{IsOwnRequest, asks-own}
+use Rattle.osrun.proofs.{Asked.IsOwnRequest, Asked.asks-own, Members.has_core-more, Members.nobody-there}
 use Rattle.osrun.proofs.Resulting.{drained-item, halt-item, opens, look-item, spinlock-item}
-use Rattle.osrun.proofs.Members.{has_core-more, nobody-there}
 use Rattle.osrun.proofs.Relying.{AllSee, Relies, Sees, only-seen}
 
 -- ---- modes and start lists

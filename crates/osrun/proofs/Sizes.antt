@@ -2,14 +2,8 @@
 use Rattle.std.proofs.Common.{◌≡◌, ◌≤◌, true, IsTrue, Option, Some, None, IsSome, refl, arith, lit≤, nat_lt, sum_by, unwrap_or}
 use Rattle.std.specs.List.{list_all}
 use Rattle.osbase.specs.declared.references.CoreId.{CoreId}
-use Rattle.osplan.specs.declared.plans.Plan.{Plan}
-use Rattle.osplan.specs.declared.plans.Core.{Core}
-use Rattle.osplan.specs.declared.plans.Resource.{Resource}
-use Rattle.osplan.specs.declared.plans.Task.{Task}
-use Rattle.osplan.specs.Limits.{is_within_limits}
-use Rattle.osplan.specs.Objects.{outbox_needed}
+use Rattle.osplan.specs.{declared.plans.Plan.Plan, declared.plans.Core.Core, declared.plans.Resource.Resource, declared.plans.Task.Task, Limits.is_within_limits, Objects.outbox_needed, View.core_of, View.no_core, View.view_of}
 use Rattle.oskernel.specs.Step.{outbox_size}
-use Rattle.osplan.specs.View.{core_of, no_core, view_of}
 use Rattle.osplan.proofs.Within.{core-fits}
 
 module _ (plan : Plan) (id : CoreId) (limits : IsTrue (is_within_limits plan)) where

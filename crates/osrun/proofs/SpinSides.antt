@@ -3,9 +3,7 @@ use Rattle.std.proofs.Common.{◌≡◌, ℕ, zero, suc, Bool, true, false, not,
 use Rattle.std.specs.List.{list_all}
 use Rattle.std.proofs.lemmas.Bool.{and_from, and_parts, cases_eq, false≢true, not-true}
 use Rattle.std.proofs.lemmas.List.{get_or-set_other, length-set}
-use Rattle.osbase.specs.declared.references.CoreId.{CoreId}
-use Rattle.osbase.specs.declared.references.SpinlockId.{SpinlockId}
-use Rattle.osbase.specs.History.{same_core}
+use Rattle.osbase.specs.{declared.references.CoreId.CoreId, declared.references.SpinlockId.SpinlockId, History.same_core}
 use Rattle.osbase.proofs.Same.{same_core-refl}
 use Rattle.osshared.specs.Histories.{IsLegal, IsLegalFrom, calls_by}
 use Rattle.osspin.specs.Spins.{SpinEntry, holder_of, holders_after, lock_after, lock_reply, no_holders, spinlocks}

@@ -1,8 +1,6 @@
 -- What a core's item does to the streams between the cores.
 use Rattle.std.proofs.Common.{◌≡◌, suc, Bool, true, false, cond, List, [], ◌∷◌, ◌++◌, length, refl, ◌∙◌, arith, length-append}
-use Rattle.osbase.specs.declared.references.CoreId.{CoreId}
-use Rattle.osbase.specs.declared.messages.Letter.{Letter}
-use Rattle.osbase.specs.declared.items.Item.{Item}
+use Rattle.osbase.specs.{declared.references.CoreId.CoreId, declared.messages.Letter.Letter, declared.items.Item.Item}
 use Rattle.osbase.specs.History.{History, Took, front_letter, outbox, posted, received_count, same_core, Printed, Noted, received, letter_with}
 use Rattle.osplan.specs.View.{View}
 use Rattle.oskernel.specs.Step.{after}

@@ -1,19 +1,11 @@
 -- A core of a run in memory, by the items that it took. Nothing is said of what stands between the cores, and nothing of
 -- who gives it its turns. [own]
 use Rattle.std.specs.Prelude.{◌≡◌, ◌+◌, ◌<◌, ◌≤◌, ℕ, suc, Bool, true, false, Some, List, [], ◌∷◌, ◌++◌, drop, vec_len, vec_capacity}
-use Rattle.osbase.specs.declared.histories.Phase.{Phase}
-use Rattle.osbase.specs.declared.items.Item.{Item}
-use Rattle.osbase.specs.declared.items.Stimulus.{Stimulus}
-use Rattle.osbase.specs.declared.turns.CoreStimuli.{CoreStimuli}
-use Rattle.osbase.specs.declared.turns.Report.{Report}
-use Rattle.osbase.specs.Runs.{stimuli_of}
-use Rattle.osplan.specs.declared.plans.Plan.{Plan}
-use Rattle.osplan.specs.View.{view_of}
+use Rattle.osbase.specs.{declared.histories.Phase.Phase, declared.items.Item.Item, declared.items.Stimulus.Stimulus, declared.turns.CoreStimuli.CoreStimuli, declared.turns.Report.Report, Runs.stimuli_of}
+use Rattle.osplan.specs.{declared.plans.Plan.Plan, View.view_of}
 use Rattle.osstate.specs.Does.{Does, Tracks}
-use Rattle.oskernel.specs.declared.kernel.TheConstants.{STEP_MARKS}
-use Rattle.oskernel.specs.Step.{after, solo}
-use Rattle.osrun.specs.declared.core_runs.CoreRun.{CoreRun}
-use Rattle.osrun.specs.Fits.{history_by}
+use Rattle.oskernel.specs.{declared.kernel.TheConstants.STEP_MARKS, Step.after, Step.solo}
+use Rattle.osrun.specs.{declared.core_runs.CoreRun.CoreRun, Fits.history_by}
 
 -- How many stimuli a core has taken. [own]
 abbrev pub stimulus_count : List Item → ℕ

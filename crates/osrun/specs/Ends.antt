@@ -1,11 +1,7 @@
 -- Whether a run ended, by its reports.
 use Rattle.std.specs.Prelude.{Bool, false, not, ◌||◌, List}
 use Rattle.std.specs.List.{list_all, list_any}
-use Rattle.osbase.specs.declared.statuses.Status.TheVariants.{EOk}
-use Rattle.osbase.specs.declared.references.CoreId.{CoreId}
-use Rattle.osbase.specs.declared.items.Item.{Item}
-use Rattle.osbase.specs.declared.turns.Report.{Report}
-use Rattle.osbase.specs.History.{same_core}
+use Rattle.osbase.specs.{declared.statuses.Status.TheVariants.EOk, declared.references.CoreId.CoreId, declared.items.Item.Item, declared.turns.Report.Report, History.same_core}
 use Rattle.osplan.specs.declared.plans.Plan.{Plan}
 
 -- The item starts this core.

@@ -1,25 +1,16 @@
 -- The items of all cores fit one another and what the run was given. It is said of the cores' item lists alone:
 -- nothing is said of turns, and nothing of how the cores were run. [own]
 use mathlib.Core.List.{IsPrefix}
-use Rattle.std.specs.Prelude.{◌≡◌, Bool, true, false, ◌||◌, Option, Some, is_some, List, [], ◌∷◌, ◌++◌, filter, find}
+use Rattle.std.specs.Prelude.{◌≡◌, Bool, true, false, ◌||◌, Option, Some, is_some, List, [], ◌∷◌, filter, find}
 use Rattle.std.specs.Option.{option_map_or}
-use Rattle.osbase.specs.declared.references.CoreId.{CoreId}
-use Rattle.osbase.specs.declared.items.Item.{Item}
-use Rattle.osbase.specs.declared.items.Stimulus.{Stimulus}
-use Rattle.osbase.specs.declared.turns.Choice.{Choice}
-use Rattle.osbase.specs.declared.turns.CoreStimuli.{CoreStimuli}
+use Rattle.osbase.specs.{declared.references.CoreId.CoreId, declared.items.Item.Item, declared.items.Stimulus.Stimulus, declared.turns.Choice.Choice, declared.turns.CoreStimuli.CoreStimuli, Phases.is_going, Runs.stimuli_of, Sets.core_ids}
 use Rattle.osbase.specs.History.{History, course_of, posted, received, same_core}
-use Rattle.osbase.specs.Phases.{is_going}
-use Rattle.osbase.specs.Runs.{stimuli_of}
-use Rattle.osplan.specs.declared.plans.Plan.{Plan}
-use Rattle.osplan.specs.View.{View, core_of, view_of}
-use Rattle.osbase.specs.Sets.{core_ids}
+use Rattle.osplan.specs.{declared.plans.Plan.Plan, View.View, View.core_of, View.view_of}
 use Rattle.oskernel.specs.Step.{after, history_from, solo}
 use Rattle.osshared.specs.Histories.{IsLegal}
 use Rattle.osboard.specs.Boards.{one_board}
 use Rattle.osspin.specs.Spins.{spinlocks}
-use Rattle.osrun.specs.declared.requests.Request.{Request}
-use Rattle.osrun.specs.declared.requests.Reply.{Reply}
+use Rattle.osrun.specs.{declared.requests.Request.Request, declared.requests.Reply.Reply}
 use Rattle.osrun.specs.Requests.{Calls, request_of_turn, calls_of, joined, item_for_reply, no_calls, call_of_turn}
 
 -- The configured cores, ascending. [own]

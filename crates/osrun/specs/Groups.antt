@@ -1,16 +1,11 @@
 -- A group of cores by itself. The lists of items of its cores fit by the group's configuration too, in which the others have no objects,
 -- beside lists of the others that leave out what a core without objects cannot take; and each core of the group prints the same.
 use Rattle.std.specs.Prelude.{◌≡◌, Bool, true, false, if◌then◌else◌, IsTrue, List, filter, map}
-use Rattle.osbase.specs.declared.references.CoreId.{CoreId}
-use Rattle.osbase.specs.declared.items.CoreSet.{CoreSet}
-use Rattle.osbase.specs.declared.items.Item.{Item}
-use Rattle.osbase.specs.declared.turns.CoreStimuli.{CoreStimuli}
-use Rattle.osbase.specs.Sets.{has_core}
+use Rattle.osbase.specs.{declared.references.CoreId.CoreId, declared.items.CoreSet.CoreSet, declared.items.Item.Item, declared.turns.CoreStimuli.CoreStimuli, Sets.has_core}
 use Rattle.osplan.specs.declared.plans.Plan.{Plan}
 use Rattle.osgroup.specs.Groups.{group_of, is_group}
 use Rattle.ostrace_text.specs.Trace.{block_of}
-use Rattle.osrun.specs.Fits.{Fits, items_of}
-use Rattle.osrun.specs.Reports.{report_by}
+use Rattle.osrun.specs.{Fits.Fits, Fits.items_of, Reports.report_by}
 
 -- What a core without objects takes: it is started, starts others, passes each gate, is halted, drains and ends. It takes no stimulus and
 -- no mail, and makes no call of a spinlock.

@@ -1,10 +1,6 @@
 -- A report alone: what a core prints by its items.
 use Rattle.std.specs.Prelude.{◌≡◌, Bool, true, false, List, ◌∷◌, []}
-use Rattle.osbase.specs.declared.references.CoreId.{CoreId}
-use Rattle.osbase.specs.declared.items.Agreement.{Agreement}
-use Rattle.osbase.specs.declared.items.Item.{Item}
-use Rattle.osbase.specs.declared.turns.Report.{Report}
-use Rattle.osbase.specs.History.{marks_of}
+use Rattle.osbase.specs.{declared.references.CoreId.CoreId, declared.items.Agreement.Agreement, declared.items.Item.Item, declared.turns.Report.Report, History.marks_of}
 use Rattle.osplan.specs.declared.plans.Plan.{Plan}
 use Rattle.osrun.specs.Fits.{history_by}
 

@@ -1,37 +1,18 @@
 -- What a turn of a core requests of what it shares with the others, and the item in which the reply results: one table for
 -- the turns of a listed run, for how the items of all cores fit, and for whoever runs a core. [own]
 use Rattle.std.specs.Prelude.{nat_lt, if◌then◌else◌, Bool, true, Option, Some, None, option_map, List, [], ◌∷◌, ◌++◌}
-use Rattle.osbase.specs.declared.statuses.Status.{Status}
-use Rattle.osbase.specs.declared.statuses.Status.TheVariants.{EOsId}
-use Rattle.osbase.specs.declared.references.CoreId.{CoreId}
-use Rattle.osbase.specs.declared.items.CoreSet.{CoreSet}
-use Rattle.osbase.specs.declared.items.Item.{Item}
-use Rattle.osbase.specs.declared.items.Stimulus.{Stimulus}
-use Rattle.osbase.specs.declared.limits.TheConstants.{SPINLOCKS}
-use Rattle.osbase.specs.declared.turns.Choice.{Choice}
-use Rattle.osbase.specs.History.{History}
-use Rattle.osbase.specs.Sets.{has_core}
+use Rattle.osbase.specs.{declared.statuses.Status.Status, declared.statuses.Status.TheVariants.EOsId, declared.references.CoreId.CoreId, declared.items.CoreSet.CoreSet, declared.items.Item.Item, declared.items.Stimulus.Stimulus, declared.limits.TheConstants.SPINLOCKS, declared.turns.Choice.Choice, History.History, Sets.has_core}
 use Rattle.osplan.specs.View.{View, is_configured}
 use Rattle.osshared.specs.Histories.{calls_by, entry}
-use Rattle.osspin.specs.declared.calls.SpinAction.TheVariants.{Take, Free}
-use Rattle.osspin.specs.declared.calls.SpinCall.{SpinCall}
-use Rattle.osspin.specs.declared.calls.SpinReply.{SpinReply}
-use Rattle.osspin.specs.declared.calls.SpinReply.TheVariants.{Answered}
+use Rattle.osspin.specs.{declared.calls.SpinAction.TheVariants.Take, declared.calls.SpinAction.TheVariants.Free, declared.calls.SpinCall.SpinCall, declared.calls.SpinReply.SpinReply, declared.calls.SpinReply.TheVariants.Answered}
 use Rattle.osspin.specs.Spins.{SpinEntry, free_call, spin_call, try_take_call}
-use Rattle.osboard.specs.declared.calls.BoardCall.{BoardCall}
+use Rattle.osboard.specs.{declared.calls.BoardCall.BoardCall, declared.calls.BoardReply.BoardReply, declared.calls.BoardView.BoardView, Boards.BoardEntry, Boards.agreement_in, Boards.have_all}
 use Rattle.osboard.specs.declared.calls.BoardCall.TheVariants.{Start, Enter, MakeReady, Drain, Look, LookDrained, AskHalt, LookHalt}
-use Rattle.osboard.specs.declared.calls.BoardReply.{BoardReply}
 use Rattle.osboard.specs.declared.calls.BoardReply.TheVariants.{Started, Acknowledged, Shown, Drained, Decided, Halting}
-use Rattle.osboard.specs.declared.calls.BoardView.{BoardView}
-use Rattle.osboard.specs.Boards.{BoardEntry, agreement_in, have_all}
-use Rattle.oskernel.specs.declared.wants.SpinWish.{SpinWish}
+use Rattle.oskernel.specs.{declared.wants.SpinWish.SpinWish, declared.wants.Want.Want, declared.wants.Watch.Watch, Wants.want_of, Wants.watch_of}
 use Rattle.oskernel.specs.declared.wants.SpinWish.TheVariants as Wish
-use Rattle.oskernel.specs.declared.wants.Want.{Want}
-use Rattle.oskernel.specs.declared.wants.Watch.{Watch}
-use Rattle.oskernel.specs.Wants.{want_of, watch_of}
-use Rattle.osrun.specs.declared.requests.Request.{Request}
+use Rattle.osrun.specs.{declared.requests.Request.Request, declared.requests.Reply.Reply}
 use Rattle.osrun.specs.declared.requests.Request.TheVariants.{OfBoard, OfSpins, Room, Oldest, StartUnknown, TakeStimulus}
-use Rattle.osrun.specs.declared.requests.Reply.{Reply}
 use Rattle.osrun.specs.declared.requests.Reply.TheVariants.{Replied, Spun, HasRoom, Found, Unasked}
 
 -- StartCore of a core that is not configured is answered without the board. [AUTOSAR SWS OS 4.x, StartCore: E_OS_ID]

@@ -3,20 +3,9 @@
 use mathlib.Core.List.{IsPrefix}
 use Rattle.std.specs.Prelude.{◌≡◌, ℕ, true, if◌then◌else◌, IsTrue, Some, List, ◌∷◌, [], ◌++◌, map}
 use Rattle.std.specs.List.{AllByRecursion}
-use Rattle.osbase.specs.declared.references.CoreId.{CoreId}
-use Rattle.osbase.specs.declared.items.Agreement.{Agreement}
-use Rattle.osbase.specs.declared.items.Item.{Item}
-use Rattle.osbase.specs.declared.items.Stimulus.{Stimulus}
-use Rattle.osbase.specs.declared.turns.CoreStimuli.{CoreStimuli}
-use Rattle.osbase.specs.declared.turns.Report.{Report}
-use Rattle.osbase.specs.History.{History, course_of, no_cores}
-use Rattle.osbase.specs.Phases.{is_going}
-use Rattle.osbase.specs.Runs.{stimuli_of}
-use Rattle.osplan.specs.declared.plans.Plan.{Plan}
-use Rattle.osbase.specs.declared.items.CoreMode.{CoreMode}
-use Rattle.osbase.specs.declared.items.CoreMode.TheVariants.{Named, DontCare}
+use Rattle.osbase.specs.{declared.references.CoreId.CoreId, declared.items.Agreement.Agreement, declared.items.Item.Item, declared.items.Stimulus.Stimulus, declared.turns.CoreStimuli.CoreStimuli, declared.turns.Report.Report, History.History, History.course_of, History.no_cores, Phases.is_going, Runs.stimuli_of, declared.items.CoreMode.CoreMode, declared.items.CoreMode.TheVariants.Named, declared.items.CoreMode.TheVariants.DontCare}
+use Rattle.osplan.specs.{declared.plans.Plan.Plan, View.View, View.view_of}
 use Rattle.osseparate.specs.Separate.{cut_of, is_separate}
-use Rattle.osplan.specs.View.{View, view_of}
 use Rattle.oskernel.specs.Step.{after, solo}
 use Rattle.ostrace_text.specs.Trace.{block_of}
 use Rattle.osboard.specs.Boards.{with_core}

@@ -1,17 +1,12 @@
 //! One core of a run.
 
-ghost use Rattle.std.specs.Prelude.{◌++◌, ◌∷◌, [], IfSome, IsTrue, IsSome, ◌≡◌, ◌+◌, ◌<◌, ◌≤◌, OnOk, slice_get, vec_len, vec_capacity};
-ghost use Rattle.osbase.specs.declared.limits.TheConstants.{CORES};
-ghost use Rattle.osplan.specs.View.{core_of, view_of};
-ghost use Rattle.osplan.specs.Limits.{is_within_limits};
-ghost use Rattle.osstate.specs.Does.{Does};
+ghost use Rattle.std.specs.Prelude.{[], IfSome, IsTrue, IsSome, ◌≡◌, ◌<◌, OnOk, slice_get};
+ghost use Rattle.osbase.specs.{declared.limits.TheConstants.CORES, Runs.stimuli_of};
+ghost use Rattle.osplan.specs.{View.core_of, View.view_of, Limits.is_within_limits};
 ghost use Rattle.osstate.specs.State.{state_of};
 ghost use Rattle.osadmit.specs.Admission.{takes_in};
-ghost use Rattle.oskernel.specs.Step.{after, outbox_size};
-ghost use Rattle.osbase.specs.Runs.{stimuli_of};
-ghost use Rattle.oskernel.specs.Wants.{want_in, watch_in};
+ghost use Rattle.oskernel.specs.{Step.outbox_size, Wants.want_in, Wants.watch_in, declared.kernel.TheConstants.STEP_MARKS};
 ghost use Rattle.osrun.specs.Requests.{request_by, is_request_known, item_by};
-ghost use Rattle.oskernel.specs.declared.kernel.TheConstants.{STEP_MARKS};
 
 use crate::requests::{Reply, Request, item_for_reply, look_request, own_request};
 use osbase::{

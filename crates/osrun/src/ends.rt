@@ -1,7 +1,6 @@
 //! Whether a run came to its end.
 
-ghost use Rattle.std.specs.Prelude.{◌≡◌, ◌||◌, not};
-ghost use Rattle.std.specs.List.{list_all, list_any};
+ghost use Rattle.std.specs.{Prelude.◌≡◌, Prelude.◌||◌, List.list_any};
 ghost use Rattle.osrun.specs.Ends.{have_all_ended, starts, was_started};
 
 use osbase::{CoreId, Item, Report, Status};

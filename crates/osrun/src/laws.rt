@@ -1,26 +1,14 @@
 //! What holds of the reports of every run.
 
 ghost use Rattle.std.specs.Prelude.{◌≡◌, ◌<◌, IsTrue, List, Some, [], true};
-ghost use Rattle.osbase.specs.declared.references.CoreId.{CoreId};
-ghost use Rattle.osbase.specs.declared.items.Item.{Item};
-ghost use Rattle.osbase.specs.declared.limits.TheConstants.{SPINLOCKS};
-ghost use Rattle.osbase.specs.declared.references.SpinlockId.{SpinlockId};
-ghost use Rattle.osbase.specs.declared.turns.CoreStimuli.{CoreStimuli};
-ghost use Rattle.osbase.specs.declared.turns.Report.{Report};
-ghost use Rattle.osbase.specs.Spins.{got_spinlocks, has_spinlock};
+ghost use Rattle.osbase.specs.{declared.references.CoreId.CoreId, declared.items.Item.Item, declared.limits.TheConstants.SPINLOCKS, declared.references.SpinlockId.SpinlockId, declared.turns.CoreStimuli.CoreStimuli, declared.turns.Report.Report, Spins.got_spinlocks, Spins.has_spinlock};
 ghost use Rattle.oskernel.specs.Step.{history_from, solo};
-ghost use Rattle.osplan.specs.View.{View};
-ghost use Rattle.osplan.specs.declared.plans.Plan.{Plan};
-ghost use Rattle.osplan.specs.Limits.{is_within_limits};
+ghost use Rattle.osplan.specs.{View.View, declared.plans.Plan.Plan, Limits.is_within_limits};
 ghost use Rattle.osseparate.specs.Separate.{is_separate};
 ghost use Rattle.osshared.specs.Histories.{IsLegal, Thinned, calls_by, state_after};
 ghost use Rattle.osspin.specs.Spins.{IsRefusedCall, SpinEntry, holder_of, is_held_by, no_holders, spin_call, spin_reply, spinlocks};
-ghost use Rattle.osspin.specs.declared.calls.SpinAction.TheVariants.{Free};
-ghost use Rattle.osspin.specs.declared.calls.SpinReply.TheVariants.{Answered};
-ghost use Rattle.osrun.specs.Requests.{Calls};
-ghost use Rattle.osrun.specs.Ends.{have_all_ended};
-ghost use Rattle.osrun.specs.Fits.{AreAnswered, has_drained, items_of};
-ghost use Rattle.osrun.specs.Sound.{AreSound, lists_in};
+ghost use Rattle.osspin.specs.{declared.calls.SpinAction.TheVariants.Free, declared.calls.SpinReply.TheVariants.Answered};
+ghost use Rattle.osrun.specs.{Requests.Calls, Ends.have_all_ended, Fits.AreAnswered, Fits.has_drained, Fits.items_of, Sound.AreSound, Sound.lists_in};
 
 /// Where every started core has ended, each separate core was started and has drained. So its block is all that its
 /// configuration alone prints (`IsAlone`).

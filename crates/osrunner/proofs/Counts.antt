@@ -1,13 +1,9 @@
 -- How often resources are held, and what their flags say.
-use Rattle.std.proofs.Common.{◌≡◌, ◌||◌, ℕ, zero, suc, ◌+◌, ◌≤◌, ◌<◌, nat_eq, nat_lt, Bool, true, false, cond, Option, Some, None, List, [], ◌∷◌, length, map, drop, refl, ap, sym, subst, ◌∙◌, arith, get_or-set_same, get_or-set_other}
+use Rattle.std.proofs.Common.{◌≡◌, ◌||◌, ℕ, zero, suc, ◌+◌, ◌≤◌, ◌<◌, nat_eq, Bool, true, false, cond, Some, List, [], ◌∷◌, length, map, drop, refl, ap, sym, subst, ◌∙◌, arith, get_or-set_same, get_or-set_other}
 use Rattle.std.specs.List.{slice_get, slice_index_or, slice_set}
-use Rattle.std.proofs.lemmas.Bool.{false≢true, true≢false, eqb-true, eq-eqb}
-use Rattle.std.proofs.lemmas.List.{length-map, length-set}
-use Rattle.osbase.specs.declared.histories.HeldResource.{HeldResource}
-use Rattle.osbase.specs.History.{is_held}
+use Rattle.std.proofs.{lemmas.Bool.false≢true, lemmas.Bool.eqb-true, lemmas.Bool.eq-eqb, lemmas.List.length-map, lemmas.List.length-set}
+use Rattle.osbase.specs.{declared.histories.HeldResource.HeldResource, History.is_held, declared.limits.TheConstants.RESOURCES, declared.limits.TheConstants.RUNNERS}
 use Rattle.osbase.proofs.Few.{few, number_count}
-use Rattle.osbase.specs.declared.limits.TheConstants.{RESOURCES}
-use Rattle.osbase.specs.declared.limits.TheConstants.{RUNNERS}
 use Rattle.oscript.specs.Runners.{Row, holding}
 use Rattle.osrunner.specs.Rows.{IsFlagged, flag_count, held_count, is_occupied, row_at, total_count}
 

@@ -3,12 +3,8 @@ use Rattle.std.proofs.Common.{◌≡◌, ◌==◌, ℕ, suc, ◌<◌, ◌&&◌, 
 use Rattle.std.specs.Option.{option_map_or}
 use Rattle.std.proofs.lemmas.Bool.{both_ways, eq-eqb, eqb-true}
 use Rattle.std.proofs.lemmas.List.{get_or-map, get_or-replicate, get_or-set_other, get_or-set_same, length-map}
-use Rattle.osbase.specs.declared.limits.TheConstants.{RESOURCES}
-use Rattle.osbase.specs.declared.marks.Mark.{Mark}
-use Rattle.osbase.specs.declared.references.Runner.{Runner}
-use Rattle.osbase.specs.declared.histories.HeldResource.{HeldResource}
+use Rattle.osbase.specs.{declared.limits.TheConstants.RESOURCES, declared.marks.Mark.Mark, declared.references.Runner.Runner, declared.histories.HeldResource.HeldResource, Interrupts.running_job, Interrupts.runner_of_job}
 use Rattle.osbase.specs.History.{History, Entry, Printed, Noted, ResourceOccupied, ResourceReleased, InterruptsSuspended, InterruptsResumed, Done, same_runner}
-use Rattle.osbase.specs.Interrupts.{running_job, runner_of_job}
 use Rattle.oscript.specs.declared.Op.{Op}
 use Rattle.oscript.specs.Runners.{Row, row_after, row_by, row_of, row_step, runner_of}
 use Rattle.osrunner.specs.Laws.{is_running, is_tick, lock_ticks_of, takes_lock}

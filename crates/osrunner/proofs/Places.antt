@@ -1,9 +1,8 @@
 -- A row that changes twice, and one of a job that holds nothing.
-use Rattle.std.proofs.Common.{◌≡◌, ℕ, zero, suc, List, [], ◌∷◌, length, drop, nat_eq, true, false, ◌<◌, refl, ap, sym, ◌∙◌, arith}
+use Rattle.std.proofs.Common.{◌≡◌, ℕ, zero, suc, List, [], ◌∷◌, length, drop, nat_eq, false, ◌<◌, refl, ap, arith}
 use Rattle.std.proofs.lemmas.Bool.{true≢false}
 use Rattle.osbase.specs.declared.histories.HeldResource.{HeldResource}
-use Rattle.oscript.specs.Frames.{rewound}
-use Rattle.oscript.specs.Runners.{Row, ended}
+use Rattle.oscript.specs.{Frames.rewound, Runners.Row, Runners.ended}
 use Rattle.osrunner.specs.Rows.{row_at, with_row_at}
 
 -- a change that makes up for an earlier one

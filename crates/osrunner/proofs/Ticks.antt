@@ -1,10 +1,8 @@
 -- The ticks that a job has used of its budget.
-use Rattle.std.proofs.Common.{◌≡◌, ℕ, suc, ◌+◌, ◌&&◌, Bool, true, false, cond, Option, Some, None, List, [], ◌∷◌, refl, ap, sym, ◌∙◌, arith}
+use Rattle.std.proofs.Common.{◌≡◌, ℕ, suc, ◌+◌, ◌&&◌, Bool, true, false, cond, Option, Some, None, List, [], ◌∷◌, refl, ap, ◌∙◌, arith}
 use Rattle.std.specs.Option.{option_map_or}
-use Rattle.osbase.specs.declared.marks.Mark.{Mark}
-use Rattle.osbase.specs.declared.references.Runner.{Runner}
+use Rattle.osbase.specs.{declared.marks.Mark.Mark, declared.references.Runner.Runner, Interrupts.running_job, Interrupts.runner_of_job}
 use Rattle.osbase.specs.History.{History, Entry, Printed, Noted, ResourceOccupied, ResourceReleased, InterruptsSuspended, InterruptsResumed, Done, same_runner}
-use Rattle.osbase.specs.Interrupts.{running_job, runner_of_job}
 use Rattle.oscript.specs.declared.Op.{Op}
 use Rattle.oscript.specs.Runners.{Row, row_after, row_by, row_of, row_step}
 use Rattle.osrunner.specs.Laws.{earlier_ticks_of, ends_or_waits, is_running, is_tick, ticks_of}

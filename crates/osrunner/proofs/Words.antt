@@ -1,14 +1,10 @@
 -- The last word on an event.
 use Rattle.std.proofs.Common.{◌≡◌, ℕ, zero, suc, ◌-◌, ◌<◌, ◌^◌, nat_eq, Bool, true, false, cond, ◌&&◌, Option, Some, None, unwrap_or, List, [], ◌∷◌, min, max, refl, ap, ◌∙◌, arith}
-use Rattle.std.specs.Int.{bit_at, bit_not, w32}
-use Rattle.std.specs.List.{list_all}
+use Rattle.std.specs.{Int.bit_at, Int.bit_not, Int.w32, List.list_all}
 use Rattle.std.proofs.lemmas.Bool.{and_parts, ltb-true}
 use Rattle.std.proofs.lemmas.Nat.Bits.{bit_at-lt, bit_at-zero, bit_at_and, bit_at_not, bit_at_or}
-use Rattle.osbase.specs.declared.references.TaskRef.{TaskRef}
-use Rattle.osbase.specs.declared.marks.Mark.{Mark}
-use Rattle.osbase.specs.declared.references.Runner.{Runner}
+use Rattle.osbase.specs.{declared.references.TaskRef.TaskRef, declared.marks.Mark.Mark, declared.references.Runner.Runner, Interrupts.running_job, Interrupts.runner_of_job}
 use Rattle.osbase.specs.History.{History, Entry, Printed, Noted, ResourceOccupied, ResourceReleased, InterruptsSuspended, InterruptsResumed, Done, same_runner, same_task, with_cleared, with_none_set, with_set}
-use Rattle.osbase.specs.Interrupts.{running_job, runner_of_job}
 use Rattle.oscript.specs.declared.Op.{Op}
 use Rattle.oscript.specs.Runners.{Row, row_after, row_by, row_of, row_step}
 use Rattle.osrunner.specs.Laws.{is_in_mask, has_mask, last_word, said_by}

@@ -1,16 +1,9 @@
 -- What holds of the events and the budgets of every history.
 use Rattle.std.specs.Prelude.{◌≡◌, ℕ, suc, ◌+◌, ◌==◌, ◌<◌, ◌^◌, nat_lt, Bool, true, false, ◌&&◌, IsTrue, if◌then◌else◌, Option, Some, None, unwrap_or, List, [], ◌∷◌, slice_index_or}
-use Rattle.std.specs.Int.{bit_at}
-use Rattle.std.specs.List.{list_all}
-use Rattle.std.specs.Option.{option_map_or}
-use Rattle.osbase.specs.declared.references.TaskRef.{TaskRef}
-use Rattle.osbase.specs.declared.marks.Mark.{Mark}
-use Rattle.osbase.specs.declared.references.Runner.{Runner}
+use Rattle.std.specs.{Int.bit_at, List.list_all, Option.option_map_or}
+use Rattle.osbase.specs.{declared.references.TaskRef.TaskRef, declared.marks.Mark.Mark, declared.references.Runner.Runner, declared.limits.TheConstants.RESOURCES, Interrupts.running_job, Interrupts.runner_of_job}
 use Rattle.osbase.specs.History.{History, Entry, Noted, Printed, ResourceOccupied, same_runner, same_task}
-use Rattle.osbase.specs.declared.limits.TheConstants.{RESOURCES}
-use Rattle.osbase.specs.Interrupts.{running_job, runner_of_job}
-use Rattle.oscript.specs.declared.Op.{Op}
-use Rattle.oscript.specs.Runners.{row_of}
+use Rattle.oscript.specs.{declared.Op.Op, Runners.row_of}
 
 -- The event of this number is one of the mask's. [OSEK/VDX OS 2.2.3, section 13.5.1, EventMaskType]
 abbrev pub is_in_mask : ℕ → ℕ → Bool

@@ -1,15 +1,8 @@
 -- The rows of a core's tasks and ISRs by their places, and how often each resource is held.
 use Rattle.std.specs.Prelude.{◌≡◌, ℕ, suc, ◌+◌, ◌==◌, Bool, false, if◌then◌else◌, Option, Some, None, List, [], ◌∷◌, length, slice_index_or}
 use Rattle.std.specs.List.{list_any, slice_set}
-use Rattle.osbase.specs.declared.references.Runner.{Runner}
-use Rattle.osbase.specs.declared.histories.HeldResource.{HeldResource}
-use Rattle.osbase.specs.declared.histories.TaskEvents.{TaskEvents}
-use Rattle.osbase.specs.declared.limits.TheConstants.{RUNNERS}
-use Rattle.osbase.specs.History.{Entry, is_held}
-use Rattle.osbase.specs.Sets.{slot_of}
-use Rattle.oscript.specs.declared.Op.{Op}
-use Rattle.oscript.specs.declared.Frame.{Frame}
-use Rattle.oscript.specs.Runners.{Row, first_row, row_step}
+use Rattle.osbase.specs.{declared.references.Runner.Runner, declared.histories.HeldResource.HeldResource, declared.histories.TaskEvents.TaskEvents, declared.limits.TheConstants.RUNNERS, History.Entry, History.is_held, Sets.slot_of}
+use Rattle.oscript.specs.{declared.Op.Op, declared.Frame.Frame, Runners.Row, Runners.first_row, Runners.row_step}
 
 -- The row at a place, and the runner's. At no place stands a runner before its first job.
 abbrev pub row_at : ℕ → List Row → Row

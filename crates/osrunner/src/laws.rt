@@ -1,8 +1,6 @@
 //! What holds of the events and the budgets of every history.
 
-ghost use Rattle.osbase.specs.declared.references.TaskRef.{TaskRef};
-ghost use Rattle.osbase.specs.History.{History};
-ghost use Rattle.osbase.specs.declared.references.Runner.{Runner};
+ghost use Rattle.osbase.specs.{declared.references.TaskRef.TaskRef, History.History, declared.references.Runner.Runner};
 ghost use Rattle.osrunner.specs.Laws.{IsLastWord, LocksTicksSince, UsesTicksSince};
 
 /// An event of a task is set exactly if the last entry that concerns it sets it, whatever happened (OSEK/VDX OS

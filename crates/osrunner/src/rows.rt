@@ -2,8 +2,7 @@
 
 ghost use Rattle.std.specs.Prelude.{◌≡◌, ◌==◌, ◌<◌, ◌^◌, drop, false, length, nat_lt, replicate, slice_get, slice_index_or};
 ghost use Rattle.std.specs.List.{All};
-ghost use Rattle.osbase.specs.History.{greatest_ceiling, is_waiting};
-ghost use Rattle.osbase.specs.Interrupts.{deeper, shallower};
+ghost use Rattle.osbase.specs.{History.greatest_ceiling, History.is_waiting, Interrupts.deeper, Interrupts.shallower};
 ghost use Rattle.osbudget.specs.Budget.{is_reached};
 ghost use Rattle.oscript.specs.Frames.{action_at, completed, rewound};
 ghost use Rattle.oscript.specs.Runners.{charged, ended, first_row, holding, waiting_for};

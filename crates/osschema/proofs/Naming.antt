@@ -4,8 +4,7 @@ use Rattle.std.specs.List.{list_all, enumerate_from, find, flat_map}
 use Rattle.std.specs.Option.{IfSome}
 use Rattle.std.proofs.{lemmas.Bool.and_from, lemmas.Bool.and_parts, lemmas.List.map-append, lemmas.List.map-id, lemmas.List.Folds.list_all-append, lemmas.Simd.map-map, lemmas.Slice.Eq.bytes_eq-Decides}
 use Rattle.osbase.specs.{declared.objects.ObjectKind.ObjectKind, declared.objects.Place.Place, declared.objects.TheConstants.NOBODY, declared.references.CoreId.CoreId, Names.is_name}
-use Rattle.osplan.specs.{declared.plans.Core.Core, declared.plans.Plan.Plan, declared.plans.Spinlock.Spinlock, declared.plans.TheConstants.COMMON, declared.plans.TheConstants.KINDS, Representable.declared_names, Representable.object_names}
-use Rattle.osplan.specs.Objects.{common_names, names_in}
+use Rattle.osplan.specs.{declared.plans.Core.Core, declared.plans.Plan.Plan, declared.plans.Spinlock.Spinlock, declared.plans.TheConstants.COMMON, declared.plans.TheConstants.KINDS, Representable.declared_names, Representable.object_names, Objects.common_names, Objects.names_in}
 use Rattle.osplan.proofs.Tests.{all-flat, all-weaker, find-holds, find-passes}
 use Rattle.osschema.specs.{declared.shapes.ConfigText.ConfigText, declared.shapes.CoreText.CoreText, declared.shapes.Named.Named, declared.shapes.SpinlockText.SpinlockText, declared.declarations.Declaration.Declaration}
 use Rattle.osschema.specs.Shape.{common_in, has_named_common, has_named_objects, is_named, objects_in, unnumbered}

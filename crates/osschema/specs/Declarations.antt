@@ -1,23 +1,10 @@
 -- The objects that a configuration's text declares, in one list, and what a name refers to by it. [own]
 use Rattle.std.specs.Prelude.{ℕ, ◌==◌, ◌++◌, nat_le, Bool, Option, Some, None, option_and_then, option_map, unwrap_or, if◌then◌else◌, List, map, find, count_by}
-use Rattle.std.specs.List.{enumerate_from, flat_map}
-use Rattle.std.specs.Str.{bytes_eq}
+use Rattle.std.specs.{List.enumerate_from, List.flat_map, Str.bytes_eq}
 use Rattle.osbase.specs.Objects.{counter_of, mode_of, same_kind, spinlock_of}
-use Rattle.osbase.specs.declared.references.CoreId.{CoreId}
-use Rattle.osbase.specs.declared.references.CounterRef.{CounterRef}
-use Rattle.osbase.specs.declared.objects.ObjectKind.{ObjectKind}
-use Rattle.osbase.specs.declared.objects.ObjectKind.TheVariants.{Counter, Mode, Spinlock}
-use Rattle.osbase.specs.declared.objects.Place.{Place}
-use Rattle.osbase.specs.declared.objects.TheConstants.{NOBODY}
-use Rattle.osbase.specs.declared.references.ModeId.{ModeId}
-use Rattle.osbase.specs.declared.references.SpinlockId.{SpinlockId}
-use Rattle.osplan.specs.declared.plans.TheConstants.{COMMON, KINDS}
-use Rattle.osplan.specs.Limits.{CounterSizes}
-use Rattle.osschema.specs.declared.shapes.ConfigText.{ConfigText}
-use Rattle.osschema.specs.declared.shapes.CoreText.{CoreText}
-use Rattle.osschema.specs.declared.shapes.Named.{Named}
-use Rattle.osschema.specs.declared.declarations.Declaration.{Declaration}
-use Rattle.osschema.specs.Shape.{common_in, objects_in}
+use Rattle.osbase.specs.{declared.references.CoreId.CoreId, declared.references.CounterRef.CounterRef, declared.objects.ObjectKind.ObjectKind, declared.objects.ObjectKind.TheVariants.Counter, declared.objects.ObjectKind.TheVariants.Mode, declared.objects.ObjectKind.TheVariants.Spinlock, declared.objects.Place.Place, declared.objects.TheConstants.NOBODY, declared.references.ModeId.ModeId, declared.references.SpinlockId.SpinlockId}
+use Rattle.osplan.specs.{declared.plans.TheConstants.COMMON, declared.plans.TheConstants.KINDS, Limits.CounterSizes}
+use Rattle.osschema.specs.{declared.shapes.ConfigText.ConfigText, declared.shapes.CoreText.CoreText, declared.shapes.Named.Named, declared.declarations.Declaration.Declaration, Shape.common_in, Shape.objects_in}
 
 -- A number as a byte: 0 where it is no byte, which no text without a fault has.
 abbrev pub byte_of : Option ℕ → ℕ

@@ -1,11 +1,8 @@
 -- What an index over a list of objects has to give. [own]
 use Rattle.std.specs.Prelude.{◌≡◌, ℕ, Bool, Option, option_and_then, is_some, List, map, find, slice_get}
-use Rattle.std.specs.Borrow.{Bor}
-use Rattle.std.specs.HashMap.{HashMap, get_by}
-use Rattle.std.specs.Str.{bytes_eq}
+use Rattle.std.specs.{Borrow.Bor, HashMap.HashMap, HashMap.get_by, Str.bytes_eq}
 use Rattle.osplan.specs.Representable.{are_distinct}
-use Rattle.osschema.specs.declared.declarations.Declaration.{Declaration}
-use Rattle.osschema.specs.Declarations.{has_name}
+use Rattle.osschema.specs.{declared.declarations.Declaration.Declaration, Declarations.has_name}
 
 -- Where the index says that the object of a name stands.
 abbrev pub index_in : {S : Type 0} → HashMap (Bor (List ℕ)) ℕ S → List ℕ → Option ℕ

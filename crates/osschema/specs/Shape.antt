@@ -2,27 +2,11 @@
 -- numbers have limits. [own]
 use Rattle.std.specs.Prelude.{ℕ, ◌&&◌, Bool, true, false, Option, Some, None, option_and_then, option_map, List, [], ◌∷◌, codes, length, map}
 use Rattle.std.specs.List.{list_all}
-use Rattle.osbase.specs.declared.objects.ObjectKind.{ObjectKind}
-use Rattle.osbase.specs.Names.{is_name}
+use Rattle.osbase.specs.{declared.objects.ObjectKind.ObjectKind, Names.is_name}
 use Rattle.osplan.specs.Limits.{TaskSizes, IsrSizes, ResourceSizes, CounterSizes, StartSizes, PointSizes, TableSizes, CoreSizes, Sizes}
-use Rattle.osplan.specs.Protection.{protection_named}
-use Rattle.osplan.specs.declared.plans.TheConstants.{COMMON, KINDS}
-use Rattle.osplan.specs.declared.protection.Protection.{Protection}
-use Rattle.serde_json.specs.Data.{Data}
-use Rattle.serde_json.specs.Find.{as_bool, as_str}
-use Rattle.osschema.specs.declared.shapes.AlarmStartText.{AlarmStartText}
-use Rattle.osschema.specs.declared.shapes.AlarmText.{AlarmText}
-use Rattle.osschema.specs.declared.shapes.ConfigText.{ConfigText}
-use Rattle.osschema.specs.declared.shapes.CoreText.{CoreText}
-use Rattle.osschema.specs.declared.shapes.CounterText.{CounterText}
-use Rattle.osschema.specs.declared.shapes.IsrText.{IsrText}
-use Rattle.osschema.specs.declared.shapes.Named.{Named}
-use Rattle.osschema.specs.declared.shapes.ResourceText.{ResourceText}
-use Rattle.osschema.specs.declared.shapes.SpinlockText.{SpinlockText}
-use Rattle.osschema.specs.declared.shapes.TaskText.{TaskText}
-use Rattle.osschema.specs.declared.table_shapes.PointText.{PointText}
-use Rattle.osschema.specs.declared.table_shapes.TableStartText.{TableStartText}
-use Rattle.osschema.specs.declared.table_shapes.TableText.{TableText}
+use Rattle.osplan.specs.{Protection.protection_named, declared.plans.TheConstants.COMMON, declared.plans.TheConstants.KINDS, declared.protection.Protection.Protection}
+use Rattle.serde_json.specs.{Data.Data, Find.as_bool, Find.as_str}
+use Rattle.osschema.specs.{declared.shapes.AlarmStartText.AlarmStartText, declared.shapes.AlarmText.AlarmText, declared.shapes.ConfigText.ConfigText, declared.shapes.CoreText.CoreText, declared.shapes.CounterText.CounterText, declared.shapes.IsrText.IsrText, declared.shapes.Named.Named, declared.shapes.ResourceText.ResourceText, declared.shapes.SpinlockText.SpinlockText, declared.shapes.TaskText.TaskText, declared.table_shapes.PointText.PointText, declared.table_shapes.TableStartText.TableStartText, declared.table_shapes.TableText.TableText}
 use Rattle.osjson.specs.Reading.{◌>>=◌}
 use Rattle.osjson.specs.Json.{whole_of, name_of, each_of, or_null, member_of, member_or, only_members}
 
@@ -195,7 +179,9 @@ table_numbers counter table = record {
   counter = counter;
 }
 
--- Those of a core, without its alarms and its tables, what these post, and its scripts, which need a look at names.
+-- The numbers of a core that its own text gives: its number, the cores that it starts, and the sizes of its tasks, ISRs,
+-- resources and counters. Left out, so empty or 0, are the sizes of its alarms and tables, how many calls these post, and
+-- the lengths of its scripts: for them names have to be looked up, or scripts cut into operations.
 abbrev pub core_numbers : CoreText → CoreSizes
 core_numbers core = record {
   number = core.id;

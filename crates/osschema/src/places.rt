@@ -4,10 +4,8 @@ ghost use Rattle.std.specs.Prelude.{◌≡◌, IfOk, IfSome, IsTrue, count_by, f
 ghost use Rattle.std.specs.List.{list_all};
 ghost use Rattle.osbase.specs.Names.{is_name};
 ghost use Rattle.osplan.specs.Representable.{are_distinct};
-ghost use Rattle.osschema.specs.declared.declarations.Declaration.{Declaration as Declared};
-ghost use Rattle.osschema.specs.Shape.{is_named};
+ghost use Rattle.osschema.specs.{declared.declarations.Declaration.Declaration as Declared, Shape.is_named, Index.Indexes};
 ghost use Rattle.osschema.specs.Declarations.{counter_declared, declarations, has_name, is_alone, mode_ref, place_alone, place_in, names_of, spinlock_ref};
-ghost use Rattle.osschema.specs.Index.{Indexes};
 
 use crate::declarations::{Declaration, byte_of, declarations_of};
 use crate::shapes::ConfigText;

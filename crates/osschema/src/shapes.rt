@@ -5,12 +5,10 @@ ghost use Rattle.std.specs.Prelude.{◌≡◌, [], ◌∷◌, IfOk, IsTrue, code
 ghost use Rattle.std.specs.List.{list_all};
 ghost use Rattle.osbase.specs.Names.{is_name};
 ghost use Rattle.osplan.specs.Limits.{is_counter_within, is_isr_within, is_resource_within, is_start_within, is_task_within};
-ghost use Rattle.osjson.specs.Json.{each_of, member_or};
-ghost use Rattle.osjson.specs.Reading.{Gives};
+ghost use Rattle.osjson.specs.{Json.each_of, Json.member_or, Reading.Gives};
 ghost use Rattle.serde_json.specs.View.{view};
-ghost use Rattle.osschema.specs.Declarations.{declared_sizes};
+ghost use Rattle.osschema.specs.{Declarations.declared_sizes, declared.shapes.Named.Named as NamedValue};
 ghost use Rattle.osschema.specs.Shape.{task_sizes, isr_sizes, resource_sizes, counter_sizes, start_numbers, task_shape, isr_shape, resource_shape, counter_shape, alarm_start_shape, alarm_shape, common_in, core_shape, config_shape, has_named_objects, is_named, mode_shape, numbered, objects_in, protection_of, spinlock_shape, unnumbered};
-ghost use Rattle.osschema.specs.declared.shapes.Named.{Named as NamedValue};
 
 use crate::declarations::Declaration;
 use crate::numbers::{is_between, is_budget, most_activations};

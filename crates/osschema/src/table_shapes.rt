@@ -1,13 +1,11 @@
 //! The shape of a schedule table: its members and their types, and the limits of its numbers.
 
 ghost use Rattle.std.specs.Prelude.{◌≡◌, map, option_copied, option_map, true};
-ghost use Rattle.std.specs.List.{list_all};
-ghost use Rattle.std.specs.Option.{option_map_or};
+ghost use Rattle.std.specs.{List.list_all, Option.option_map_or};
 ghost use Rattle.osbase.specs.Names.{is_name};
 ghost use Rattle.osplan.specs.Limits.{first_offset, is_point_within, is_table_start_within, is_table_within};
-ghost use Rattle.osschema.specs.Declarations.{declared_sizes};
+ghost use Rattle.osschema.specs.{Declarations.declared_sizes, declared.table_shapes.PointText.PointText as Point};
 ghost use Rattle.osschema.specs.Shape.{point_sizes, table_numbers, point_shape, table_start_shape, table_shape};
-ghost use Rattle.osschema.specs.declared.table_shapes.PointText.{PointText as Point};
 
 use crate::declarations::Declaration;
 use crate::numbers::is_between;

@@ -3,12 +3,10 @@ use Rattle.std.proofs.Common.{◌≡◌, ℕ, ◌-◌, Bool, true, false, not, �
 use Rattle.std.specs.{List.list_all, List.list_any, List.flat_map}
 use Rattle.std.proofs.{lemmas.List.append_assoc, lemmas.List.append-nil, lemmas.List.Folds.list_all-map, lemmas.List.Folds.list_any-append}
 use Rattle.std.proofs.lemmas.Bool.{and_parts, and_from, or_from, or_parts, or_left, or_right, not-false, not_from_false, not_from_true, eq-eqb}
-use Rattle.osbase.specs.{declared.limits.TheConstants.CORES, declared.limits.TheConstants.FIRST_CORES, declared.limits.TheConstants.MAILBOX, declared.references.CoreId.CoreId, declared.objects.Object.Object, History.same_core}
-use Rattle.osbase.specs.{declared.objects.ObjectKind.ObjectKind, Objects.counter_object, Objects.object_of_call, declared.items.CoreMode.CoreMode, declared.messages.RemoteCall.RemoteCall}
+use Rattle.osbase.specs.{declared.limits.TheConstants.CORES, declared.limits.TheConstants.FIRST_CORES, declared.limits.TheConstants.MAILBOX, declared.references.CoreId.CoreId, declared.objects.Object.Object, History.same_core, declared.objects.ObjectKind.ObjectKind, Objects.counter_object, Objects.object_of_call, declared.items.CoreMode.CoreMode, declared.messages.RemoteCall.RemoteCall, declared.items.CoreMode.TheVariants.Named, declared.items.CoreMode.TheVariants.DontCare}
 use Rattle.osbase.proofs.Same.{same_core-comm, same_core-refl, same_core-true}
 use Rattle.oscript.specs.{declared.Op.Op, Calls.is_action, Rows.halts_all, Rows.objects_of}
 use Rattle.osplan.specs.{declared.plans.Plan.Plan, declared.plans.Core.Core, declared.plans.Alarm.Alarm, declared.plans.Table.Table, View.core_of}
-use Rattle.osbase.specs.declared.items.CoreMode.TheVariants.{Named, DontCare}
 use Rattle.osplan.specs.Objects.{alarm_modes, common_names, core_scripts, table_actions, table_modes}
 use Rattle.osplan.specs.Limits.{CoreSizes, StartSizes, TableSizes, core_sizes, cores_by, sizes_of, is_action_known, is_alarm_known, is_alarm_local, is_by, is_core_timed, is_core_within, is_second, is_table_known, is_table_local, is_versioned, is_within, is_between, most_cores, most_of, number_of, is_object, is_op_known, is_mode, is_core_mode, is_script_known, is_core_known, has_local_references, is_within_limits}
 use Rattle.osplan.specs.Representable.{all_common_names, is_core_representable, is_representable, are_distinct, object_names}

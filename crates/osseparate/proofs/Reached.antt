@@ -1,8 +1,7 @@
 -- The started cores are closed under start lists: as many rounds as there are cores are enough.
 use Rattle.std.proofs.Common.{◌≡◌, ℕ, zero, suc, Bool, true, ◌&&◌, ◌||◌, Some, List, [], ◌∷◌, length, map, is_some, refl, sym, ap, subst, ◌∙◌}
 use Rattle.std.specs.List.{AllByRecursion, list_any}
-use Rattle.std.proofs.{lemmas.Bool.and_parts, lemmas.Bool.and_from, lemmas.Bool.or_left, lemmas.Bool.or_right, lemmas.List.length-map, lemmas.List.Elements.All-from_recursion}
-use Rattle.std.proofs.lemmas.List.Folds.{Any-from_list_any}
+use Rattle.std.proofs.{lemmas.Bool.and_parts, lemmas.Bool.and_from, lemmas.Bool.or_left, lemmas.Bool.or_right, lemmas.List.length-map, lemmas.List.Elements.All-from_recursion, lemmas.List.Folds.Any-from_list_any}
 use Rattle.osbase.specs.{declared.references.CoreId.CoreId, History.same_core}
 use Rattle.osbase.proofs.Same.{same_core-true, same_core-refl}
 use Rattle.osplan.specs.{declared.plans.Plan.Plan, declared.plans.Core.Core, View.core_of}

@@ -1,17 +1,11 @@
 -- When a core is separate, so that no other core has a say in what it prints, and its configuration alone.
 use Rattle.std.specs.Prelude.{ℕ, zero, suc, ◌==◌, ◌&&◌, ◌||◌, not, Bool, true, false, if◌then◌else◌, List, [], ◌∷◌, length, map, filter}
-use Rattle.std.specs.List.{list_all, list_any}
-use Rattle.std.specs.Option.{option_map_or}
-use Rattle.osbase.specs.declared.references.CoreId.{CoreId}
-use Rattle.osbase.specs.History.{same_core}
+use Rattle.std.specs.{List.list_all, List.list_any, Option.option_map_or}
+use Rattle.osbase.specs.{declared.references.CoreId.CoreId, History.same_core, declared.items.CoreMode.CoreMode, declared.items.CoreMode.TheVariants.Named, declared.items.CoreMode.TheVariants.DontCare}
 use Rattle.oscript.specs.Rows.{asks_shared, halts_all}
-use Rattle.osplan.specs.declared.plans.Plan.{Plan}
-use Rattle.osplan.specs.declared.plans.Core.{Core}
-use Rattle.osbase.specs.declared.items.CoreMode.{CoreMode}
-use Rattle.osbase.specs.declared.items.CoreMode.TheVariants.{Named, DontCare}
+use Rattle.osplan.specs.{declared.plans.Plan.Plan, declared.plans.Core.Core, View.core_of}
 use Rattle.osseparate.specs.declared.separate.Coupling.{Coupling}
 use Rattle.osplan.specs.Naming.{has_operation, is_off, is_on, names_object}
-use Rattle.osplan.specs.View.{core_of}
 
 -- ---- which cores are started
 

@@ -1,9 +1,7 @@
 //! Which cores are started, and which are separate: no other core has a say in what these print.
 
 ghost use Rattle.std.specs.Prelude.{◌≡◌, ◌<◌, IsTrue};
-ghost use Rattle.osbase.specs.History.{same_core};
-ghost use Rattle.osbase.specs.Sets.{has_core};
-ghost use Rattle.osbase.specs.declared.limits.TheConstants.{CORES};
+ghost use Rattle.osbase.specs.{History.same_core, Sets.has_core, declared.limits.TheConstants.CORES};
 ghost use Rattle.osplan.specs.Limits.{is_within_limits};
 ghost use Rattle.osseparate.specs.Flags.{is_named_by_one_of, is_next, AreStarted};
 ghost use Rattle.osseparate.specs.Separate.{agree, halts_somewhere, is_among, is_named_elsewhere, is_agreed_mode, is_separate, is_separate_core, is_started, names_mode, coupling_of};

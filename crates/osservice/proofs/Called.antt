@@ -3,19 +3,11 @@ use native.Mathlib.Omega.{arith}
 use Rattle.std.proofs.Common.{◌≡◌, ◌||◌, Bool, true, false, not, Option, Some, option_and_then, List, [], ◌∷◌, refl, ap, subst}
 use Rattle.std.specs.List.{list_all}
 use Rattle.std.proofs.lemmas.Bool.{and_from, and_parts, or_right}
-use Rattle.osbase.specs.declared.messages.RemoteCall.{RemoteCall}
-use Rattle.osbase.specs.declared.objects.Object.{Object}
-use Rattle.osbase.specs.declared.objects.ObjectKind.{ObjectKind}
-use Rattle.osbase.specs.declared.references.SpinlockId.{SpinlockId}
-use Rattle.osbase.specs.declared.statuses.ServiceId.{ServiceId}
-use Rattle.osbase.specs.Objects.{object_of_call, same_kind, spinlock_of}
-use Rattle.oscript.specs.declared.Op.{Op}
-use Rattle.oscript.specs.Calls.{call_of_op}
-use Rattle.oscript.specs.Rows.{asks_shared, halts_all, objects_of}
+use Rattle.osbase.specs.{declared.messages.RemoteCall.RemoteCall, declared.objects.Object.Object, declared.objects.ObjectKind.ObjectKind, declared.references.SpinlockId.SpinlockId, declared.statuses.ServiceId.ServiceId, Objects.object_of_call, Objects.same_kind, Objects.spinlock_of}
+use Rattle.oscript.specs.{declared.Op.Op, Calls.call_of_op, Rows.asks_shared, Rows.halts_all, Rows.objects_of}
 use Rattle.oscript.proofs.Acting.{called-object}
 use Rattle.osplan.specs.View.{View}
-use Rattle.osservice.proofs.Kept.{is_within}
-use Rattle.osservice.proofs.Partners.{Partner}
+use Rattle.osservice.proofs.{Kept.is_within, Partners.Partner}
 
 -- The object is no spinlock, or one that may be asked for.
 abbrev pub may_lock : (Partner → Bool) → Object → Bool

@@ -1,19 +1,11 @@
 -- What is done for each element of a list in turn, and how much that adds up to so far.
 use Rattle.std.proofs.Common.{◌≡◌, ◌<◌, ◌≤◌, ◌+◌, ◌*◌, ℕ, Bool, true, false, cond, List, [], ◌∷◌, ◌++◌, length, take, drop, filter, get_or, sum_by, Vec, Global, refl, ap, sym, ◌∙◌, arith, length-append}
 use Rattle.std.specs.List.{list_all}
-use Rattle.std.proofs.lemmas.Bool.{and_parts}
-use Rattle.std.proofs.lemmas.List.{append-nil, take-append-drop, take_more}
-use Rattle.std.proofs.lemmas.List.Elements.{filter-append, filter_more}
-use Rattle.std.proofs.lemmas.List.Folds.{list_all-append}
-use Rattle.std.proofs.lemmas.List.Sums.{sum_by-append, sum_by_push}
-use Rattle.std.proofs.lemmas.Nat.{column_fits}
+use Rattle.std.proofs.{lemmas.Bool.and_parts, lemmas.List.append-nil, lemmas.List.take-append-drop, lemmas.List.take_more, lemmas.List.Elements.filter-append, lemmas.List.Elements.filter_more, lemmas.List.Folds.list_all-append, lemmas.List.Sums.sum_by-append, lemmas.List.Sums.sum_by_push, lemmas.Nat.column_fits}
 use Rattle.osbase.specs.declared.marks.Mark.{Mark}
 use Rattle.osplan.specs.declared.plans.Core.{Core}
-use Rattle.osstate.specs.Does.{HasRoom}
-use Rattle.osstate.specs.State.{KernelState}
-use Rattle.osacts.specs.Acts.{Acts, for_each}
-use Rattle.osacts.specs.Runs.{runs, says}
-use Rattle.osacts.specs.Steps.{Steps}
+use Rattle.osstate.specs.{Does.HasRoom, State.KernelState}
+use Rattle.osacts.specs.{Acts.Acts, Acts.for_each, Runs.runs, Runs.says, Steps.Steps}
 use Rattle.osacts.proofs.Each.{as_steps, runs-append, says-append, then, unmoved}
 
 -- ---- how far a loop over a list has come

@@ -1,28 +1,10 @@
 -- Once for all acts: what they do to one history they do to every history that reads the same.
 use Rattle.std.proofs.Common.{◌≡◌, ◌&&◌, ◌||◌, ◌<◌, ◌≤◌, ◌+◌, ℕ, ℤ, arith, suc, nat_lt, not, is_some, Bool, true, false, cond, Option, Some, None, IfSome, option_map, unwrap_or, List, [], ◌∷◌, refl, subst}
-use Rattle.std.specs.List.{enumerate_from, list_all, slice_get}
-use Rattle.std.specs.Option.{option_map_or}
+use Rattle.std.specs.{List.enumerate_from, List.list_all, List.slice_get, Option.option_map_or}
 use Rattle.std.proofs.lemmas.Bool.{and_from, and_parts, false≢true}
-use Rattle.osbase.specs.declared.statuses.Status.{Status}
-use Rattle.osbase.specs.declared.statuses.ServiceId.{ServiceId}
-use Rattle.osbase.specs.declared.references.AlarmRef.{AlarmRef}
-use Rattle.osbase.specs.declared.references.CoreId.{CoreId}
-use Rattle.osbase.specs.declared.references.CounterRef.{CounterRef}
-use Rattle.osbase.specs.declared.references.Runner.{Runner}
-use Rattle.osbase.specs.declared.messages.RemoteCall.{RemoteCall}
-use Rattle.osbase.specs.declared.messages.Message.{Message}
-use Rattle.osbase.specs.declared.marks.Mark.{Mark}
-use Rattle.osbase.specs.declared.histories.OpenCall.{OpenCall}
-use Rattle.osbase.specs.declared.items.CoreSet.{CoreSet}
-use Rattle.osbase.specs.declared.limits.TheConstants.{CORES}
-use Rattle.osbase.specs.Answers.{reply}
+use Rattle.osbase.specs.{declared.statuses.Status.Status, declared.statuses.ServiceId.ServiceId, declared.references.AlarmRef.AlarmRef, declared.references.CoreId.CoreId, declared.references.CounterRef.CounterRef, declared.references.Runner.Runner, declared.messages.RemoteCall.RemoteCall, declared.messages.Message.Message, declared.marks.Mark.Mark, declared.histories.OpenCall.OpenCall, declared.items.CoreSet.CoreSet, declared.limits.TheConstants.CORES, Answers.reply, Marks.core_of_runner, Marks.names_only, Sets.has_core}
 use Rattle.osbase.specs.History.{AlarmSet, Entry, History, Took, Printed, Noted, Opened, Queued, same_core, started_cores}
-use Rattle.osbase.specs.Marks.{core_of_runner, names_only}
-use Rattle.osbase.specs.Sets.{has_core}
-use Rattle.osplan.specs.declared.plans.Alarm.{Alarm}
-use Rattle.osplan.specs.declared.plans.Core.{Core}
-use Rattle.osplan.specs.Clocked.{are_clocks_within}
-use Rattle.osplan.specs.View.{Around, View, own_alarm}
+use Rattle.osplan.specs.{declared.plans.Alarm.Alarm, declared.plans.Core.Core, Clocked.are_clocks_within, View.Around, View.View, View.own_alarm}
 use Rattle.osclock.specs.Clocks.{counts_to_by, counts_to_value_by, is_setting_granted, max_for, max_of, value_by}
 use Rattle.osclock.proofs.Bounds.{turn-within}
 use Rattle.ostable.specs.Waiting.{are_own}

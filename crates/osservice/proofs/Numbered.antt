@@ -1,17 +1,12 @@
 -- A loop over a core's objects of one kind, in index order: those before a place have acted.
 use Rattle.std.proofs.Common.{◌≡◌, ℕ, ◌+◌, ◌<◌, ◌≤◌, Some, List, [], ◌∷◌, ◌++◌, length, take, ap, sym, subst, ◌∙◌, arith, get_or, Vec, Global}
 use Rattle.std.specs.List.{enumerate_from, slice_get}
-use Rattle.std.proofs.lemmas.List.{take_all, take_more}
-use Rattle.std.proofs.lemmas.List.FromFn.{get_or-enumerate_from, length-enumerate_from}
-use Rattle.std.proofs.lemmas.Option.{slice_get-get_or}
+use Rattle.std.proofs.{lemmas.List.take_all, lemmas.List.take_more, lemmas.List.FromFn.get_or-enumerate_from, lemmas.List.FromFn.length-enumerate_from, lemmas.Option.slice_get-get_or}
 use Rattle.osbase.specs.declared.marks.Mark.{Mark}
-use Rattle.osplan.specs.declared.plans.Core.{Core}
-use Rattle.osplan.specs.View.{View}
+use Rattle.osplan.specs.{declared.plans.Core.Core, View.View}
 use Rattle.osstate.specs.State.{KernelState}
-use Rattle.osacts.specs.Acts.{Acts, for_each, in_turn}
-use Rattle.osacts.specs.Runs.{runs, says}
-use Rattle.osacts.specs.Steps.{QuietSteps, Steps}
-use Rattle.osacts.proofs.Each.{as_steps, quiet-as, quiet-then, runs-append, says-append, then}
+use Rattle.osacts.specs.{Acts.Acts, Acts.for_each, Acts.in_turn, Runs.runs, Runs.says, Steps.QuietSteps, Steps.Steps}
+use Rattle.osacts.proofs.Each.{as_steps, quiet-as, quiet-then, runs-append, says-append, then, in-words, wider}
 
 module _ {A : Type 0} (acts : Core → ℕ → A → Acts) (objects : Core → List A) where
   abbrev pub acted : Core → ℕ → Acts
@@ -31,7 +26,7 @@ module _ {A : Type 0} (acts : Core → ℕ → A → Acts) (objects : Core → L
     objects-length = length-enumerate_from 0 (objects core) ∙ ap length (sym same)
 
     -- Past the last one all have acted.
-    pub past-last : length xs ≤ place → act_all core ≡ acted core place
+    past-last : length xs ≤ place → act_all core ≡ acted core place
     past-last past =
         ap (λ (ps : List (ℕ × A)). for_each (λ (p : ℕ × A). acts core p.0 p.1) ps)
         (sym (take_all place (enumerate_from 0 (objects core)) (omega (arith, past, objects-length))))
@@ -45,17 +40,17 @@ module _ {A : Type 0} (acts : Core → ℕ → A → Acts) (objects : Core → L
           let found : get_or (enumerate_from 0 (objects core)) place (place, x) ≡ (place, x) = get_or-enumerate_from 0 (objects core) place (place, x) inside ∙ λ i. (zero i, (sym (is ∙ ap (λ (ys : List A). get_or ys place x) same)) i) in
           take_more (enumerate_from 0 (objects core)) place (place, x) (omega (arith, within, objects-length)) ∙ ap (λ (p : ℕ × A). take place (enumerate_from 0 (objects core)) ++ p ∷ []) found
 
-      pub more-runs : (s : KernelState) → runs (acted core (place + 1)) s ≡ runs (acts core place x) (runs (acted core place) s)
+      more-runs : (s : KernelState) → runs (acted core (place + 1)) s ≡ runs (acts core place x) (runs (acted core place) s)
       more-runs s = ap (λ (ps : List (ℕ × A)). runs (for_each (λ (p : ℕ × A). acts core p.0 p.1) ps) s) one-longer ∙ runs-append (λ (p : ℕ × A). acts core p.0 p.1) (take place (enumerate_from 0 (objects core))) (place, x) s
 
-      pub more-says : (s : KernelState) → says (acted core (place + 1)) s ≡ says (acted core place) s ++ says (acts core place x) (runs (acted core place) s)
+      more-says : (s : KernelState) → says (acted core (place + 1)) s ≡ says (acted core place) s ++ says (acts core place x) (runs (acted core place) s)
       more-says s = ap (λ (ps : List (ℕ × A)). says (for_each (λ (p : ℕ × A). acts core p.0 p.1) ps) s) one-longer ∙ says-append (λ (p : ℕ × A). acts core p.0 p.1) (take place (enumerate_from 0 (objects core))) (place, x) s
 
   module _ {old : KernelState} (xs : List A) (place : ℕ) (same : xs ≡ objects old.view.own) where
     pub all-acted : {now : KernelState} {vec vec' : Vec Mark Global} {m n m' n' : ℕ} → length xs ≤ place → m ≤ m' → n ≤ n' → Steps m n (acted old.view.own place) old now vec vec' → Steps m' n' (act_all old.view.own) old now vec vec'
     all-acted past few short before =
         let all = past-last old.view.own xs place same past in
-        as_steps (ap (λ (x : Acts). runs x old) all) (ap (λ (x : Acts). says x old) all) few short before
+        wider few short (in-words all before)
 
     pub all-noted : {now : KernelState} {m m' : ℕ} → length xs ≤ place → m ≤ m' → QuietSteps m (acted old.view.own place) old now → QuietSteps m' (act_all old.view.own) old now
     all-noted past few before =

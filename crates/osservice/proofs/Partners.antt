@@ -1,8 +1,6 @@
 -- Whom a core asks beside itself: another core, by a letter; a spinlock; what all cores share, which is who of them is configured, who is
 -- started, and how the spinlocks are nested; and all of them, that they shut down.
-use Rattle.osbase.specs.declared.references.CoreId.{CoreId}
-use Rattle.osbase.specs.declared.references.SpinlockId.{SpinlockId}
-use Rattle.osbase.specs.declared.histories.Awaited.{Awaited}
+use Rattle.osbase.specs.{declared.references.CoreId.CoreId, declared.references.SpinlockId.SpinlockId, declared.histories.Awaited.Awaited}
 
 pub data Partner : Type 0 where
   Core : CoreId → Partner

@@ -1,19 +1,13 @@
 -- Acts that are allowed are permitted, at the state of every history.
-use Rattle.std.proofs.Common.{◌≡◌, ◌||◌, not, nat_lt, Bool, true, false, cond, refl, ap, sym, subst}
+use Rattle.std.proofs.Common.{◌≡◌, nat_lt, Bool, true, false, cond, refl, sym, subst}
 use Rattle.std.proofs.lemmas.Bool.{and_from, and_parts}
-use Rattle.osbase.specs.declared.references.CoreId.{CoreId}
-use Rattle.osbase.specs.declared.messages.Message.{Message}
-use Rattle.osbase.specs.declared.limits.TheConstants.{CORES}
-use Rattle.osbase.specs.History.{AlarmSet, History, started_cores}
+use Rattle.osbase.specs.{declared.references.CoreId.CoreId, declared.messages.Message.Message, declared.limits.TheConstants.CORES, History.AlarmSet, History.History, History.started_cores}
 use Rattle.osplan.specs.Clocked.{are_clocks_within}
-use Rattle.osclock.specs.Clocks.{are_settings_granted, is_setting_granted}
-use Rattle.osstate.specs.Readings.{knows_started}
-use Rattle.osstate.specs.State.{KernelState, state_of}
+use Rattle.osclock.specs.Clocks.{are_settings_granted}
+use Rattle.osstate.specs.{Readings.knows_started, State.KernelState, State.state_of}
 use Rattle.osacts.specs.Acts.{Act, Acts, Prints, Notes, Sends, nothing, one_then, both, when, if_started, look, look_around, act, does}
-use Rattle.osacts.specs.Laws.{are_permitted, is_permitted}
-use Rattle.osacts.specs.Seen.{Seen, all_cores, seen_of}
-use Rattle.osacts.proofs.Law.{agrees}
-use Rattle.osacts.proofs.Seeing.{seen-same}
+use Rattle.osacts.specs.{Laws.are_permitted, Laws.is_permitted, Seen.Seen, Seen.all_cores, Seen.seen_of}
+use Rattle.osacts.proofs.{Law.agrees, Seeing.seen-same}
 use Rattle.osservice.proofs.Kept.{AreAllowed, IsSeen, Leave, is_allowed, started-known}
 
 -- A core answers only others whose numbers a configuration may have, and marks may name what any history shows of it.

@@ -1,17 +1,10 @@
 -- If histories agree in a core's own runners, counters, alarms and tables, the core sees the same by each.
 use Rattle.std.proofs.Common.{◌≡◌, ℕ, None, filter, filter_map, find, option_map}
 use Rattle.std.specs.Option.{option_map_or}
-use Rattle.osbase.specs.declared.references.AlarmRef.{AlarmRef}
-use Rattle.osbase.specs.declared.references.CounterRef.{CounterRef}
-use Rattle.osbase.specs.declared.references.IsrRef.{IsrRef}
-use Rattle.osbase.specs.declared.references.TableRef.{TableRef}
-use Rattle.osbase.specs.declared.references.Runner.{Runner}
-use Rattle.osbase.specs.declared.histories.Job.{Job}
+use Rattle.osbase.specs.{declared.references.AlarmRef.AlarmRef, declared.references.CounterRef.CounterRef, declared.references.IsrRef.IsrRef, declared.references.TableRef.TableRef, declared.references.Runner.Runner, declared.histories.Job.Job, Spins.got_spinlocks}
 use Rattle.osbase.specs.Counting.{Stopped, alarm_of, counted_once, counts_of, counts_to, is_due, is_in_use, left_of, one_count_more, table_state, value_after}
 use Rattle.osbase.specs.History.{History, agreement_of, course_of, job_count, live_jobs, open_call}
-use Rattle.osbase.specs.Spins.{got_spinlocks}
-use Rattle.osplan.specs.declared.plans.Alarm.{Alarm}
-use Rattle.osplan.specs.declared.plans.Table.{Table}
+use Rattle.osplan.specs.{declared.plans.Alarm.Alarm, declared.plans.Table.Table}
 use Rattle.osplan.specs.View.{Around, View, own_alarm, own_table}
 use Rattle.osclock.specs.Clocks.{attached_to, counts_to_value_by, max_of, setting_by, value_by}
 use Rattle.ostable.specs.Ahead.{due_at, status_of}

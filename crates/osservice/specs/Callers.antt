@@ -1,8 +1,7 @@
 -- What several services check of their caller.
 use Rattle.std.specs.Prelude.{Bool, nat_lt, true, false, not, is_some, List, [], ◌∷◌}
-use Rattle.osbase.specs.declared.references.Runner.{Runner}
+use Rattle.osbase.specs.{declared.references.Runner.Runner, Spins.newest_of}
 use Rattle.osbase.specs.declared.statuses.Status.TheVariants.{EOsAccess, EOsCallevel, EOsResource, EOsSpinlock}
-use Rattle.osbase.specs.Spins.{newest_of}
 use Rattle.osjobs.specs.Priorities.{holds_any, is_extended}
 use Rattle.osservice.specs.Checks.{Check}
 use Rattle.osacts.specs.Seen.{Seen}

@@ -1,7 +1,6 @@
 -- Checks: what a service asks before its effect, in the order of its row.
 use Rattle.std.specs.Prelude.{Bool, true, false, if◌then◌else◌, List, [], ◌∷◌}
-use Rattle.osbase.specs.declared.statuses.Status.{Status}
-use Rattle.osbase.specs.declared.statuses.Status.TheVariants.{EOk}
+use Rattle.osbase.specs.{declared.statuses.Status.Status, declared.statuses.Status.TheVariants.EOk}
 
 -- A check: whether it fails, and the status that the service returns then. [own]
 abbrev pub Check : Type 0

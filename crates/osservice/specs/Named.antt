@@ -1,8 +1,7 @@
 -- What a script names.
 use Rattle.std.specs.Prelude.{if◌then◌else◌, Option, Some, None}
 use Rattle.osbase.specs.declared.objects.Object.{Object}
-use Rattle.osplan.specs.declared.plans.Core.{Core}
-use Rattle.osplan.specs.Objects.{is_own_object}
+use Rattle.osplan.specs.{declared.plans.Core.Core, Objects.is_own_object}
 
 -- An object that a script names, if it is one of the core's own; no script of an accepted configuration names another one where the
 -- service is for own objects alone. [own]

@@ -2,17 +2,9 @@
 --
 -- The lines of a call are: effects, the status, the error hook, and then dispatch.
 use Rattle.std.specs.Prelude.{Bool, true, false, Option, None, ℤ, List}
-use Rattle.osbase.specs.declared.statuses.Status.{Status}
-use Rattle.osbase.specs.declared.statuses.ServiceId.{ServiceId}
+use Rattle.osbase.specs.{declared.statuses.Status.Status, declared.statuses.ServiceId.ServiceId, declared.references.CoreId.CoreId, declared.references.Runner.Runner, declared.messages.RemoteCall.RemoteCall, declared.messages.Message.Message, declared.marks.Mark.Mark, History.Opened, History.Done, Answers.returned}
 use Rattle.osbase.specs.declared.statuses.ServiceId.TheVariants as Service
-use Rattle.osbase.specs.declared.references.CoreId.{CoreId}
-use Rattle.osbase.specs.declared.references.Runner.{Runner}
-use Rattle.osbase.specs.declared.messages.RemoteCall.{RemoteCall}
-use Rattle.osbase.specs.declared.messages.Message.{Message}
-use Rattle.osbase.specs.declared.marks.Mark.{Mark}
 use Rattle.osbase.specs.declared.histories.Awaited.TheVariants as Awaited
-use Rattle.osbase.specs.History.{Opened, Done}
-use Rattle.osbase.specs.Answers.{returned}
 use Rattle.osacts.specs.Acts.{Acts, nothing, one_then, both, when, Prints, Sends, notes, prints}
 use Rattle.osservice.specs.Checks.{Check, first_failing, is_ok_status}
 

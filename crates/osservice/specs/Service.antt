@@ -1,17 +1,10 @@
 -- A service on an object, as the object's core does it.
 use Rattle.std.specs.Prelude.{if◌then◌else◌, ℤ, Option, Some, None, option_map, List}
-use Rattle.osbase.specs.declared.statuses.Status.{Status}
-use Rattle.osbase.specs.declared.statuses.Status.TheVariants.{EOsId}
-use Rattle.osbase.specs.declared.statuses.ServiceId.{ServiceId}
-use Rattle.osbase.specs.declared.references.Runner.{Runner}
-use Rattle.osbase.specs.History.{History}
+use Rattle.osbase.specs.{declared.statuses.Status.Status, declared.statuses.Status.TheVariants.EOsId, declared.statuses.ServiceId.ServiceId, declared.references.Runner.Runner}
 use Rattle.osplan.specs.declared.plans.Core.{Core}
-use Rattle.osplan.specs.View.{View}
-use Rattle.osservice.specs.declared.returning.ServiceResult.{ServiceResult}
+use Rattle.osservice.specs.{declared.returning.ServiceResult.ServiceResult, Checks.Check, Checks.first_failing, Checks.is_ok_status, Returning.returns}
 use Rattle.osacts.specs.Acts.{Acts, nothing, both, when, look}
-use Rattle.osservice.specs.Checks.{Check, first_failing, is_ok_status}
-use Rattle.osservice.specs.Returning.{returns}
-use Rattle.osacts.specs.Seen.{Seen, seen_of}
+use Rattle.osacts.specs.Seen.{Seen}
 
 -- The checks that only the object's core can make, the effect, and the value that E_OK brings along. [own]
 pub record Service : Type 0 where
@@ -36,9 +29,6 @@ effect_of x = when (is_ok_status (status_of x)) x.effect nothing
 -- What a service does, and what it answers, at what is read now.
 abbrev pub carries_out : (Seen → Service) → Acts
 carries_out x = look (λ s. effect_of (x s))
-
-abbrev pub answers_with : (Seen → Service) → View → History → ServiceResult
-answers_with x v h = answer_of (x (seen_of v h))
 
 -- The call returns with this answer.
 abbrev pub returns_with : Runner → ServiceId → ServiceResult → Acts

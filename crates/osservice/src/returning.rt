@@ -1,13 +1,10 @@
 //! How a service returns to its caller.
 
-ghost use Rattle.std.specs.Prelude.{IsTrue, ◌≡◌, ◌<◌, None, length};
-ghost use Rattle.osbase.specs.declared.statuses.Status.TheVariants.{EOk};
-ghost use Rattle.osbase.specs.declared.limits.TheConstants.{CORES};
-ghost use Rattle.osbase.specs.Answers.{returned};
-ghost use Rattle.osjobs.specs.Jobs.{is_plain};
+ghost use Rattle.std.specs.Prelude.{IsTrue, ◌≡◌, ◌<◌, None};
+ghost use Rattle.osbase.specs.{declared.statuses.Status.TheVariants.EOk, Answers.returned};
+ghost use Rattle.osjobs.specs.{Jobs.is_plain, Priorities.is_own_runner};
 ghost use Rattle.osstate.specs.Does.{HasRoom};
-ghost use Rattle.osservice.specs.Terms.{MayAct};
-ghost use Rattle.osservice.specs.Checks.{is_ok_status};
+ghost use Rattle.osservice.specs.{Terms.MayAct, Terms.MayQueue, Checks.is_ok_status};
 ghost use Rattle.osservice.specs.Returning.{asks, calls_no_hook, reports, reports_of, returns};
 ghost use Rattle.osacts.specs.Steps.{Steps};
 
@@ -147,9 +144,8 @@ pub fn ask<const P: usize, const J: usize, const OUT: usize>(
     call: RemoteCall,
     marks: &mut Vec<Mark>,
 )
-    requires receiver { core.number < CORES }
-    requires outbox { length state.old.border.outbox < OUT }
-    requires acts { MayAct 3 1 state.old runner marks.old }
+    requires own { IsTrue (is_own_runner state.old.view.own runner) }
+    requires queues { MayQueue OUT 3 1 core state.old marks.old }
     ensures { Steps 3 1 (asks runner service core call) state.old state.new marks.old marks.new }
 {
     state.print(Mark::CallQueued { core, call }, marks);

@@ -1,20 +1,12 @@
 -- The acts of each service are allowed: they name the caller alone, ask no core, and set an alarm as a service grants it.
-use Rattle.std.proofs.Common.{◌≡◌, ◌<◌, ◌≤◌, ℕ, suc, Bool, true, false, not, is_some, IfSome, [], ◌∷◌, arith, rules}
+use Rattle.std.proofs.Common.{◌≡◌, ◌<◌, ◌≤◌, ℕ, suc, Bool, true, is_some, IfSome, arith}
 use Rattle.std.proofs.lemmas.Bool.{or_right}
-use Rattle.osbase.specs.declared.statuses.ServiceId.TheVariants.{GetCounterValue}
-use Rattle.osbase.specs.declared.statuses.Status.TheVariants.{EOsState, EOsValue}
-use Rattle.osbase.specs.declared.references.AlarmRef.{AlarmRef}
-use Rattle.osbase.specs.declared.references.Runner.{Runner}
-use Rattle.osbase.specs.History.{AlarmSet, Noted}
-use Rattle.osbase.specs.Objects.{counter_object}
+use Rattle.osbase.specs.{declared.statuses.ServiceId.TheVariants.GetCounterValue, declared.references.AlarmRef.AlarmRef, declared.references.Runner.Runner, History.AlarmSet, History.Noted, Objects.counter_object}
 use Rattle.oscript.specs.declared.Op.{Op}
-use Rattle.osplan.specs.declared.plans.Core.{Core}
-use Rattle.osplan.specs.View.{own_alarm}
+use Rattle.osplan.specs.{declared.plans.Core.Core, View.own_alarm}
 use Rattle.osclock.specs.Clocks.{is_setting_granted, max_for}
 use Rattle.osacts.specs.Seen.{Seen}
-use Rattle.osservice.specs.Checks.{first_failing, is_ok_status}
-use Rattle.osservice.specs.Named.{own_of}
-use Rattle.osservice.specs.Service.{effect_of}
+use Rattle.osservice.specs.{Checks.first_failing, Checks.is_ok_status, Named.own_of, Service.effect_of}
 use Rattle.osservice.proofs.Kept.{AreAllowed, IsNamed, IsSeen, Leave, serves_own-ok}
 use Rattle.osservice_alarms.specs.Alarms.{absolute_setting, is_increment, is_setting, is_start, relative_setting, setting_checks}
 use Rattle.osservice_alarms.specs.Counters.{counter_acts, value_inquiry}

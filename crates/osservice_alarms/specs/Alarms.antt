@@ -1,18 +1,10 @@
 -- The services of alarms, as the alarm's core does them.
 use Rattle.std.specs.Prelude.{ℕ, pos, suc, ◌<◌, ◌≤◌, ◌&&◌, nat_le, not, Bool, false, Option, Some, None, option_map, List, [], ◌∷◌}
 use Rattle.std.specs.Option.{option_map_or}
-use Rattle.osbase.specs.declared.statuses.Status.TheVariants.{EOsNofunc, EOsState, EOsValue}
-use Rattle.osbase.specs.declared.references.AlarmRef.{AlarmRef}
-use Rattle.osbase.specs.History.{AlarmCancelled, AlarmSet}
-use Rattle.osplan.specs.declared.plans.Alarm.{Alarm}
-use Rattle.osplan.specs.declared.plans.Core.{Core}
-use Rattle.osplan.specs.declared.plans.Counter.{Counter}
-use Rattle.osplan.specs.Limits.{counter_sizes, is_cycle}
-use Rattle.osplan.specs.View.{own_alarm, own_counter}
-use Rattle.osacts.specs.Acts.{Acts, nothing, notes}
-use Rattle.osservice.specs.Checks.{Check}
-use Rattle.osacts.specs.Seen.{Seen}
-use Rattle.osservice.specs.Service.{Service, without_value}
+use Rattle.osbase.specs.{declared.statuses.Status.TheVariants.EOsNofunc, declared.statuses.Status.TheVariants.EOsState, declared.statuses.Status.TheVariants.EOsValue, declared.references.AlarmRef.AlarmRef, History.AlarmCancelled, History.AlarmSet}
+use Rattle.osplan.specs.{declared.plans.Alarm.Alarm, declared.plans.Core.Core, declared.plans.Counter.Counter, Limits.counter_sizes, Limits.is_cycle, View.own_alarm, View.own_counter}
+use Rattle.osacts.specs.{Acts.Acts, Acts.nothing, Acts.notes, Seen.Seen}
+use Rattle.osservice.specs.{Checks.Check, Service.Service, Service.without_value}
 
 -- The counter of one of the core's alarms, as it is configured.
 abbrev pub counter_for : Core → AlarmRef → Option Counter

@@ -1,14 +1,10 @@
 -- The service that reads a counter's value.
 use Rattle.std.specs.Prelude.{pos, Option, Some, None, []}
 use Rattle.osbase.specs.declared.statuses.ServiceId.TheVariants as ServiceId
-use Rattle.osbase.specs.declared.references.CounterRef.{CounterRef}
-use Rattle.osbase.specs.declared.references.Runner.{Runner}
-use Rattle.osbase.specs.Objects.{counter_object}
+use Rattle.osbase.specs.{declared.references.CounterRef.CounterRef, declared.references.Runner.Runner, Objects.counter_object}
 use Rattle.oscript.specs.declared.Op.{Op}
-use Rattle.osacts.specs.Acts.{Acts, nothing}
-use Rattle.osservice.specs.Named.{own_of}
-use Rattle.osacts.specs.Seen.{Seen}
-use Rattle.osservice.specs.Service.{Service, serves_own}
+use Rattle.osacts.specs.{Acts.Acts, Acts.nothing, Seen.Seen}
+use Rattle.osservice.specs.{Named.own_of, Service.Service, Service.serves_own}
 
 -- The value is the counter's. [AUTOSAR SWS OS 4.x, SWS_Os_00377]
 abbrev pub value_inquiry : CounterRef → Seen → Service

@@ -2,14 +2,11 @@
 
 ghost use Rattle.std.specs.Prelude.{◌≡◌, ◌<◌, ◌≤◌, ◌^◌, Some, IsTrue, false, option_copied};
 ghost use Rattle.osbase.specs.Objects.{alarm_object};
-ghost use Rattle.osplan.specs.Limits.{counter_sizes, is_cycle};
-ghost use Rattle.osplan.specs.Objects.{is_own_object};
+ghost use Rattle.osplan.specs.{Limits.counter_sizes, Limits.is_cycle, Objects.is_own_object};
 ghost use Rattle.osclock.specs.Clocks.{max_for};
-ghost use Rattle.osservice.specs.Checks.{first_failing, is_ok_status};
-ghost use Rattle.osservice.specs.Service.{carries_out, answer_of};
+ghost use Rattle.osservice.specs.{Terms.ServesQuietly, Checks.first_failing, Checks.is_ok_status, Service.answer_of};
 ghost use Rattle.osservice_alarms.specs.Alarms.{IsWithin, absolute_setting, cancellation, counter_for, inquiry, is_increment, is_setting, is_start, relative_setting, setting_checks, use_checks};
 ghost use Rattle.osacts.specs.Runs.{seen_in};
-ghost use Rattle.osacts.specs.Steps.{QuietSteps};
 
 use osbase::{AlarmRef, Status};
 use osplan::Counter;
@@ -96,10 +93,7 @@ pub fn set_relative<const P: usize, const J: usize, const OUT: usize>(
 ) -> ServiceResult
     requires own { IsTrue (is_own_object state.old.view.own (alarm_object alarm)) }
     requires count { state.old.progress.entries < 2 ^ 63 }
-    ensures answer { result ≡ answer_of (relative_setting alarm increment cycle (seen_in state.old)) }
-    ensures steps { QuietSteps 1 (carries_out (relative_setting alarm increment cycle)) state.old state.new }
-    ensures refused { is_ok_status result.status ≡ false → QuietSteps 0 (carries_out (relative_setting alarm increment cycle)) state.old state.new }
-    ensures border { state.new.border ≡ state.old.border }
+    ensures { ServesQuietly 1 (relative_setting alarm increment cycle) result state.old state.new }
 {
     let is_admitted = admits_increment(state, alarm, increment, cycle);
     let status = status_of_setting(state, alarm, is_admitted);
@@ -121,10 +115,7 @@ pub fn set_absolute<const P: usize, const J: usize, const OUT: usize>(
 ) -> ServiceResult
     requires own { IsTrue (is_own_object state.old.view.own (alarm_object alarm)) }
     requires count { state.old.progress.entries < 2 ^ 63 }
-    ensures answer { result ≡ answer_of (absolute_setting alarm start cycle (seen_in state.old)) }
-    ensures steps { QuietSteps 1 (carries_out (absolute_setting alarm start cycle)) state.old state.new }
-    ensures refused { is_ok_status result.status ≡ false → QuietSteps 0 (carries_out (absolute_setting alarm start cycle)) state.old state.new }
-    ensures border { state.new.border ≡ state.old.border }
+    ensures { ServesQuietly 1 (absolute_setting alarm start cycle) result state.old state.new }
 {
     let is_admitted = admits_start(state, alarm, start, cycle);
     let status = status_of_setting(state, alarm, is_admitted);
@@ -159,10 +150,7 @@ pub fn cancel<const P: usize, const J: usize, const OUT: usize>(
 ) -> ServiceResult
     requires own { IsTrue (is_own_object state.old.view.own (alarm_object alarm)) }
     requires count { state.old.progress.entries < 2 ^ 63 }
-    ensures answer { result ≡ answer_of (cancellation alarm (seen_in state.old)) }
-    ensures steps { QuietSteps 1 (carries_out (cancellation alarm)) state.old state.new }
-    ensures refused { is_ok_status result.status ≡ false → QuietSteps 0 (carries_out (cancellation alarm)) state.old state.new }
-    ensures border { state.new.border ≡ state.old.border }
+    ensures { ServesQuietly 1 (cancellation alarm) result state.old state.new }
 {
     let status = status_of_use(state, alarm);
     if !is_ok(status) {

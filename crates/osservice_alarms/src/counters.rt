@@ -4,11 +4,9 @@ ghost use Rattle.std.specs.Prelude.{◌≡◌, IsTrue};
 ghost use Rattle.osbase.specs.Objects.{counter_object};
 ghost use Rattle.osplan.specs.Objects.{is_own_object};
 ghost use Rattle.osstate.specs.Does.{service_entries, service_marks};
-ghost use Rattle.osservice.specs.Terms.{MayAct, Offered};
-ghost use Rattle.osservice.specs.Service.{answer_of};
+ghost use Rattle.osservice.specs.{Terms.MayAct, Terms.Offered, Service.answer_of};
 ghost use Rattle.osservice_alarms.specs.Counters.{counter_acts, gets_value, value_inquiry};
-ghost use Rattle.osacts.specs.Runs.{seen_in};
-ghost use Rattle.osacts.specs.Steps.{Steps};
+ghost use Rattle.osacts.specs.{Runs.seen_in, Steps.Steps};
 
 use osbase::{CounterRef, Mark, Runner, ServiceId, Status};
 use oscript::Op;

@@ -1,19 +1,14 @@
 -- The acts of each service are allowed: whoever names a spinlock asks for it, and for what all cores share.
 use Rattle.std.proofs.Common.{◌≡◌, true, Some, None, IfSome, List, refl}
 use Rattle.std.proofs.lemmas.Bool.{and_from, and_parts}
-use Rattle.osbase.specs.declared.statuses.Status.TheVariants.{EOsId}
-use Rattle.osbase.specs.declared.statuses.ServiceId.{ServiceId}
+use Rattle.osbase.specs.{declared.statuses.Status.TheVariants.EOsId, declared.statuses.ServiceId.ServiceId, declared.references.Runner.Runner, declared.references.SpinlockId.SpinlockId, declared.histories.Awaited.Awaited}
 use Rattle.osbase.specs.declared.statuses.ServiceId.TheVariants as Service
-use Rattle.osbase.specs.declared.references.Runner.{Runner}
-use Rattle.osbase.specs.declared.references.SpinlockId.{SpinlockId}
-use Rattle.osbase.specs.declared.histories.Awaited.{Awaited}
 use Rattle.osbase.specs.declared.histories.Awaited.TheVariants as Awaits
 use Rattle.oscript.specs.declared.Op.{Op}
 use Rattle.osservice.specs.Checks.{Check}
 use Rattle.osacts.specs.Seen.{AllCores, Seen}
-use Rattle.osservice.proofs.Called.{IsAllowed}
+use Rattle.osservice.proofs.{Called.IsAllowed, Partners.Partner, Partners.partner_of}
 use Rattle.osservice.proofs.Kept.{AreAllowed, IsNamed, Leave, answers-ok, returns-ok}
-use Rattle.osservice.proofs.Partners.{Partner, partner_of}
 use Rattle.osservice_spins.specs.Spinlocks.{asks_spinlock, awaits, getting_checks, releasing_checks, spin_acts}
 
 module _ (l : Leave) where

@@ -3,20 +3,14 @@
 use Rattle.std.specs.Prelude.{nat_lt, Bool, false, not, Option, Some, None, List, [], ◌∷◌, length}
 use Rattle.std.specs.Option.{option_map_or}
 use Rattle.osbase.specs.declared.statuses.Status.TheVariants.{EOsId, EOsInterferenceDeadlock, EOsNestingDeadlock, EOsNofunc, EOsState}
-use Rattle.osbase.specs.declared.statuses.ServiceId.{ServiceId}
+use Rattle.osbase.specs.{declared.statuses.ServiceId.ServiceId, declared.references.Runner.Runner, declared.references.SpinlockId.SpinlockId, declared.histories.Awaited.Awaited, History.Opened, Spins.has_spinlock, Spins.newest_of, Spins.same_spinlock}
 use Rattle.osbase.specs.declared.statuses.ServiceId.TheVariants as Service
-use Rattle.osbase.specs.declared.references.Runner.{Runner}
-use Rattle.osbase.specs.declared.references.SpinlockId.{SpinlockId}
-use Rattle.osbase.specs.declared.histories.Awaited.{Awaited}
 use Rattle.osbase.specs.declared.histories.Awaited.TheVariants as Awaits
-use Rattle.osbase.specs.History.{Opened}
-use Rattle.osbase.specs.Spins.{has_spinlock, newest_of, same_spinlock}
 use Rattle.osgot.specs.Grants.{is_held_by}
 use Rattle.oscript.specs.declared.Op.{Op}
 use Rattle.osplan.specs.Spinlocks.{comes_after}
 use Rattle.osacts.specs.Acts.{Acts, look, look_around, notes}
-use Rattle.osservice.specs.Checks.{Check}
-use Rattle.osservice.specs.Returning.{answers, returns}
+use Rattle.osservice.specs.{Checks.Check, Returning.answers, Returning.returns}
 use Rattle.osacts.specs.Seen.{AllCores, Seen}
 
 -- ---- what is checked

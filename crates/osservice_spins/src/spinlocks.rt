@@ -1,15 +1,11 @@
 //! The services of spinlocks.
 
 ghost use Rattle.std.specs.Prelude.{◌≡◌, IsTrue};
-ghost use Rattle.osstate.specs.Does.{service_entries, service_marks};
-ghost use Rattle.osstate.specs.Sound.{is_awaited_known, is_lock_known};
-ghost use Rattle.osservice.specs.Terms.{MayAct, Offered};
-ghost use Rattle.osacts.specs.Acts.{when};
-ghost use Rattle.osservice.specs.Checks.{first_failing, is_ok_status};
-ghost use Rattle.osservice.specs.Returning.{returns};
+ghost use Rattle.osprogress.specs.Border.{is_lock_known};
+ghost use Rattle.osstate.specs.{Does.service_entries, Does.service_marks, Sound.is_awaited_known};
+ghost use Rattle.osservice.specs.{Terms.MayAct, Terms.Offered, Checks.first_failing, Checks.is_ok_status, Returning.returns};
+ghost use Rattle.osacts.specs.{Acts.when, Runs.all_cores_in, Runs.seen_in, Steps.Steps};
 ghost use Rattle.osservice_spins.specs.Spinlocks.{awaits, breaks_order, gets_spinlock, getting_checks, is_not_newest, releases_spinlock, releasing_checks, spin_acts, tries_spinlock};
-ghost use Rattle.osacts.specs.Runs.{all_cores_in, seen_in};
-ghost use Rattle.osacts.specs.Steps.{Steps};
 
 use osbase::{Awaited, Mark, OpenCall, Runner, ServiceId, SpinlockId, Status};
 use oscript::Op;

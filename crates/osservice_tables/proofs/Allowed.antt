@@ -1,9 +1,7 @@
 -- The acts of each service are allowed: they name the caller alone, and ask no core.
 use Rattle.std.proofs.Common.{Option, Some, None, IfSome, refl}
 use Rattle.osbase.specs.declared.statuses.ServiceId.TheVariants as Service
-use Rattle.osbase.specs.declared.references.Runner.{Runner}
-use Rattle.osbase.specs.declared.references.TableRef.{TableRef}
-use Rattle.osbase.specs.Objects.{table_object}
+use Rattle.osbase.specs.{declared.references.Runner.Runner, declared.references.TableRef.TableRef, Objects.table_object}
 use Rattle.oscript.specs.declared.Op.{Op}
 use Rattle.osacts.specs.Acts.{Acts}
 use Rattle.osservice.specs.Named.{own_of}

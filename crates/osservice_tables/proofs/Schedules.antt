@@ -2,11 +2,7 @@
 use Rattle.std.proofs.Common.{◌≡◌, ◌≤◌, Option, Some, ap, sym, IsTrue}
 use Rattle.std.specs.Option.{option_map_or}
 use Rattle.osbase.specs.declared.references.TableRef.{TableRef}
-use Rattle.osplan.specs.declared.plans.Core.{Core}
-use Rattle.osplan.specs.declared.plans.Counter.{Counter}
-use Rattle.osplan.specs.declared.plans.Table.{Table}
-use Rattle.osplan.specs.Clocked.{are_clocks_within}
-use Rattle.osplan.specs.View.{own_counter, own_table}
+use Rattle.osplan.specs.{declared.plans.Core.Core, declared.plans.Counter.Counter, declared.plans.Table.Table, Clocked.are_clocks_within, View.own_counter, View.own_table}
 use Rattle.osplan.proofs.Timing.{own-counter-there, own-table-attached}
 use Rattle.osclock.specs.Clocks.{max_of}
 

@@ -1,26 +1,14 @@
 -- The services of schedule tables: each for tables of the own core.
 use Rattle.std.specs.Prelude.{ℕ, pos, nat_le, not, if◌then◌else◌, Bool, false, Option, Some, None, List, [], ◌∷◌}
 use Rattle.std.specs.Option.{option_and_then, option_map_or}
-use Rattle.osbase.specs.declared.statuses.Status.TheVariants.{EOsNofunc, EOsState, EOsValue}
+use Rattle.osbase.specs.{declared.statuses.Status.TheVariants.EOsNofunc, declared.statuses.Status.TheVariants.EOsState, declared.statuses.Status.TheVariants.EOsValue, declared.references.Runner.Runner, declared.references.TableRef.TableRef, History.TableNext, History.TableStopped, History.TableStarted, Objects.table_object}
 use Rattle.osbase.specs.declared.statuses.ServiceId.TheVariants as ServiceId
-use Rattle.osbase.specs.declared.references.Runner.{Runner}
-use Rattle.osbase.specs.declared.references.TableRef.{TableRef}
-use Rattle.osbase.specs.History.{TableNext, TableStopped, TableStarted}
-use Rattle.osbase.specs.Objects.{table_object}
 use Rattle.oscript.specs.declared.Op.{Op}
-use Rattle.osplan.specs.declared.plans.Core.{Core}
-use Rattle.osplan.specs.declared.plans.Counter.{Counter}
-use Rattle.osplan.specs.declared.plans.Table.{Table}
-use Rattle.osplan.specs.Clocked.{own_table_sizes}
-use Rattle.osplan.specs.Limits.{counter_sizes, is_table_start}
-use Rattle.osplan.specs.View.{own_counter, own_table}
-use Rattle.ostable.specs.Status.{is_running, is_stopped, number_of}
-use Rattle.ostable.specs.Waiting.{are_of_one_counter}
+use Rattle.osplan.specs.{declared.plans.Core.Core, declared.plans.Counter.Counter, declared.plans.Table.Table, Clocked.own_table_sizes, Limits.counter_sizes, Limits.is_table_start, View.own_counter, View.own_table}
+use Rattle.ostable.specs.{Status.is_running, Status.is_stopped, Status.number_of, Waiting.are_of_one_counter}
 use Rattle.osacts.specs.Acts.{Acts, nothing, both, look, notes}
-use Rattle.osservice.specs.Checks.{Check}
-use Rattle.osservice.specs.Named.{own_of}
+use Rattle.osservice.specs.{Checks.Check, Named.own_of, Service.Service, Service.serves_own, Service.without_value}
 use Rattle.osacts.specs.Seen.{Seen}
-use Rattle.osservice.specs.Service.{Service, serves_own, without_value}
 
 -- ---- of a table of the core
 

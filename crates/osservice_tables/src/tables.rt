@@ -1,18 +1,13 @@
 //! The services of schedule tables.
 
 ghost use Rattle.std.specs.Prelude.{◌≡◌, ◌<◌, ◌≤◌, ◌+◌, ◌^◌, IfSome, IsTrue, map};
-ghost use Rattle.osbase.specs.Counting.{same_counter};
-ghost use Rattle.osbase.specs.Objects.{table_object};
-ghost use Rattle.osplan.specs.Limits.{first_offset, point_sizes};
-ghost use Rattle.osplan.specs.Objects.{is_own_object};
+ghost use Rattle.osbase.specs.{Counting.same_counter, Objects.table_object};
+ghost use Rattle.osplan.specs.{Limits.first_offset, Limits.point_sizes, Objects.is_own_object};
 ghost use Rattle.ostable.specs.Waiting.{are_of_one_counter};
 ghost use Rattle.osstate.specs.Does.{service_entries, service_marks};
-ghost use Rattle.osservice.specs.Terms.{MayAct, Offered};
-ghost use Rattle.osservice.specs.Checks.{first_failing, is_ok_status};
-ghost use Rattle.osservice.specs.Service.{carries_out, answer_of};
+ghost use Rattle.osservice.specs.{Terms.MayAct, Terms.Offered, Checks.first_failing, Checks.is_ok_status, Service.carries_out, Service.answer_of};
 ghost use Rattle.osservice_tables.specs.Tables.{absolute_start, counts_to_start, gets_table_status, is_offset, is_value, own_pair, quits_next, relative_start, starting_checks, starts_table_absolute, starts_table_relative, status_inquiry, stop, stops_table, suits, switch, switches_tables, table_acts};
-ghost use Rattle.osacts.specs.Runs.{seen_in};
-ghost use Rattle.osacts.specs.Steps.{QuietSteps, Steps};
+ghost use Rattle.osacts.specs.{Runs.seen_in, Steps.QuietSteps, Steps.Steps};
 
 use osbase::{CounterRef, Mark, Runner, ServiceId, Status, TableRef};
 use oscript::Op;

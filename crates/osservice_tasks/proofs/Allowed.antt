@@ -1,15 +1,11 @@
 -- The acts of each service are allowed: they name the runner or the task alone, and ask no core.
 use Rattle.std.proofs.Common.{ℕ, Option, Some, None, IfSome, refl}
 use Rattle.osbase.specs.declared.statuses.ServiceId.TheVariants as Service
-use Rattle.osbase.specs.declared.statuses.Status.TheVariants.{EOk}
-use Rattle.osbase.specs.declared.references.Runner.{Runner}
-use Rattle.osbase.specs.declared.histories.HeldResource.{HeldResource}
-use Rattle.osbase.specs.Objects.{task_object}
+use Rattle.osbase.specs.{declared.statuses.Status.TheVariants.EOk, declared.references.Runner.Runner, declared.histories.HeldResource.HeldResource, Objects.task_object}
 use Rattle.oscript.specs.declared.Op.{Op}
 use Rattle.osstate.specs.Readings.{resource_of}
 use Rattle.osacts.specs.Acts.{Acts, both}
-use Rattle.osservice.specs.Named.{own_of}
-use Rattle.osservice.specs.Returning.{returns}
+use Rattle.osservice.specs.{Named.own_of, Returning.returns}
 use Rattle.osservice.proofs.Kept.{AreAllowed, IsNamed, Leave, answers-ok, returns-ok, serves_own-ok}
 use Rattle.osservice_tasks.specs.Events.{begins_to_wait, clearing_checks, clears, clears_and_returns, goes_on_or_waits, reading, waiting_checks}
 use Rattle.osservice_tasks.specs.Resources.{gives, giving_checks, takes, taking_checks}

@@ -1,19 +1,11 @@
 -- The services of events.
 use Rattle.std.specs.Prelude.{ℕ, pos, Option, Some, None, List, [], ◌∷◌, ◌++◌}
-use Rattle.osbase.specs.declared.statuses.Status.TheVariants.{EOk, EOsState}
+use Rattle.osbase.specs.{declared.statuses.Status.TheVariants.EOk, declared.statuses.Status.TheVariants.EOsState, declared.references.TaskRef.TaskRef, declared.references.Runner.Runner, History.Done, History.awaits_one_of, History.have_common, Objects.task_object}
 use Rattle.osbase.specs.declared.statuses.ServiceId.TheVariants as ServiceId
-use Rattle.osbase.specs.declared.references.TaskRef.{TaskRef}
-use Rattle.osbase.specs.declared.references.Runner.{Runner}
 use Rattle.osbase.specs.declared.marks.Mark.TheVariants as Mark
-use Rattle.osbase.specs.History.{Done, awaits_one_of, have_common}
-use Rattle.osbase.specs.Objects.{task_object}
 use Rattle.osacts.specs.Acts.{Acts, nothing, both, when, look, notes, prints}
-use Rattle.osservice.specs.Callers.{by_extended, by_task, holding_checks}
-use Rattle.osservice.specs.Checks.{Check}
-use Rattle.osservice.specs.Named.{own_of}
-use Rattle.osservice.specs.Returning.{answers, returns}
+use Rattle.osservice.specs.{Callers.by_extended, Callers.by_task, Callers.holding_checks, Checks.Check, Named.own_of, Returning.answers, Returning.returns, Service.Service, Service.serves_own, Service.without_value}
 use Rattle.osacts.specs.Seen.{Seen, is_suspended}
-use Rattle.osservice.specs.Service.{Service, serves_own, without_value}
 
 -- ---- of any task, where it stands
 

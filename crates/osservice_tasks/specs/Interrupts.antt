@@ -1,9 +1,7 @@
 -- Suspended interrupts: the two services, which answer no status, and the end of an ISR that has suspended them.
 use Rattle.std.specs.Prelude.{None}
-use Rattle.osbase.specs.declared.statuses.Status.TheVariants.{EOk, EOsDisabledint}
-use Rattle.osbase.specs.declared.references.Runner.{Runner}
+use Rattle.osbase.specs.{declared.statuses.Status.TheVariants.EOk, declared.statuses.Status.TheVariants.EOsDisabledint, declared.references.Runner.Runner, History.Done, History.InterruptsSuspended, History.InterruptsResumed}
 use Rattle.osbase.specs.declared.marks.Mark.TheVariants as Mark
-use Rattle.osbase.specs.History.{Done, InterruptsSuspended, InterruptsResumed}
 use Rattle.osacts.specs.Acts.{Acts, Notes, nothing, one_then, look, notes, prints, when}
 use Rattle.osservice.specs.Callers.{has_suspended}
 

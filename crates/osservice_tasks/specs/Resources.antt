@@ -3,15 +3,11 @@ use Rattle.std.specs.Prelude.{◌||◌, nat_lt, Bool, false, not, Option, Some, 
 use Rattle.std.specs.Option.{option_map_or}
 use Rattle.osbase.specs.declared.statuses.Status.TheVariants.{EOk, EOsAccess, EOsId, EOsNofunc}
 use Rattle.osbase.specs.declared.statuses.ServiceId.TheVariants as ServiceId
-use Rattle.osbase.specs.declared.references.ResourceRef.{ResourceRef}
-use Rattle.osbase.specs.declared.references.Runner.{Runner}
-use Rattle.osbase.specs.declared.histories.HeldResource.{HeldResource}
-use Rattle.osbase.specs.History.{ResourceOccupied, ResourceReleased}
+use Rattle.osbase.specs.{declared.references.ResourceRef.ResourceRef, declared.references.Runner.Runner, declared.histories.HeldResource.HeldResource, History.ResourceOccupied, History.ResourceReleased}
 use Rattle.osjobs.specs.Priorities.{is_newest, static_priority}
 use Rattle.osstate.specs.Readings.{resource_of}
 use Rattle.osacts.specs.Acts.{Acts, nothing, both, look, notes}
-use Rattle.osservice.specs.Checks.{Check}
-use Rattle.osservice.specs.Returning.{answers, returns}
+use Rattle.osservice.specs.{Checks.Check, Returning.answers, Returning.returns}
 use Rattle.osacts.specs.Seen.{Seen}
 
 -- The static priority of the caller is above the ceiling of the resource. [OSEK/VDX OS 2.2.3, section 13.4.3.1 and 13.4.3.2]

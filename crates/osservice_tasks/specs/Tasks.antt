@@ -1,20 +1,13 @@
 -- The services of tasks.
 use Rattle.std.specs.Prelude.{Option, Some, None, List, [], ◌∷◌}
-use Rattle.osbase.specs.declared.statuses.Status.TheVariants.{EOk, EOsLimit, EOsMissingend}
+use Rattle.osbase.specs.{declared.statuses.Status.TheVariants.EOk, declared.statuses.Status.TheVariants.EOsLimit, declared.statuses.Status.TheVariants.EOsMissingend, declared.references.TaskRef.TaskRef, declared.references.Runner.Runner}
 use Rattle.osbase.specs.declared.statuses.ServiceId.TheVariants as ServiceId
-use Rattle.osbase.specs.declared.references.TaskRef.{TaskRef}
-use Rattle.osbase.specs.declared.references.Runner.{Runner}
 use Rattle.osbase.specs.declared.marks.Mark.TheVariants as Mark
 use Rattle.oscript.specs.declared.Op.{Op}
 use Rattle.osacts.specs.Acts.{Acts, both, look, prints}
-use Rattle.osservice.specs.Callers.{by_task, holding_checks}
-use Rattle.osservice.specs.Checks.{Check}
-use Rattle.osservice.specs.Returning.{answers, returns}
+use Rattle.osservice.specs.{Callers.by_task, Callers.holding_checks, Checks.Check, Returning.answers, Returning.returns, Service.Service, Service.without_value}
 use Rattle.osacts.specs.Seen.{Seen, is_at_limit}
-use Rattle.osservice.specs.Service.{Service, without_value}
-use Rattle.osservice_tasks.specs.Events.{clears_event, gets_event, waits_event}
-use Rattle.osservice_tasks.specs.Interrupts.{reports_suspended, resumes_interrupts, suspends_interrupts}
-use Rattle.osservice_tasks.specs.Resources.{gets_resource, releases_resource}
+use Rattle.osservice_tasks.specs.{Events.clears_event, Events.gets_event, Events.waits_event, Interrupts.reports_suspended, Interrupts.resumes_interrupts, Interrupts.suspends_interrupts, Resources.gets_resource, Resources.releases_resource}
 
 -- A job of the task begins. [OSEK/VDX OS 2.2.3, section 4.3]
 abbrev pub activates : TaskRef → Acts

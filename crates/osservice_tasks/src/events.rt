@@ -1,14 +1,11 @@
 //! The services of events.
 
-ghost use Rattle.std.specs.Prelude.{◌≡◌, IsTrue, true, false};
+ghost use Rattle.std.specs.Prelude.{◌≡◌, IsTrue, true};
 ghost use Rattle.osjobs.specs.Priorities.{is_extended, is_own_runner};
 ghost use Rattle.osstate.specs.Does.{service_entries, service_marks};
-ghost use Rattle.osservice.specs.Terms.{MayAct};
-ghost use Rattle.osservice.specs.Checks.{first_failing, is_ok_status};
-ghost use Rattle.osservice.specs.Service.{carries_out, answer_of};
+ghost use Rattle.osservice.specs.{Terms.MayAct, Terms.Serves, Checks.first_failing, Checks.is_ok_status, Service.answer_of};
 ghost use Rattle.osservice_tasks.specs.Events.{begins_to_wait, clearing_checks, clears_and_returns, clears_event, event_checks, gets_event, goes_on_or_waits, reading, releases, sets_events, setting, waiting_checks, waits_event};
-ghost use Rattle.osacts.specs.Runs.{seen_in};
-ghost use Rattle.osacts.specs.Steps.{Steps};
+ghost use Rattle.osacts.specs.{Runs.seen_in, Steps.Steps, Steps.StepsWithin};
 
 use crate::tasks::status_of_holding;
 use osbase::{Mark, Runner, ServiceId, Status, TaskRef};
@@ -43,10 +40,7 @@ pub fn set_events<const P: usize, const J: usize, const OUT: usize>(
     marks: &mut Vec<Mark>,
 ) -> ServiceResult
     requires { MayAct 2 2 state.old (Runner.Task task) marks.old }
-    ensures answer { result ≡ answer_of (setting task mask (seen_in state.old)) }
-    ensures steps { Steps 2 2 (carries_out (setting task mask)) state.old state.new marks.old marks.new }
-    ensures refused { is_ok_status result.status ≡ false → Steps 0 0 (carries_out (setting task mask)) state.old state.new marks.old marks.new }
-    ensures border { state.new.border ≡ state.old.border }
+    ensures { Serves 2 2 (setting task mask) result state.old state.new marks.old marks.new }
 {
     let status = status_of_events(state, task);
     if !is_ok(status) {
@@ -64,8 +58,7 @@ fn set_and_release<const P: usize, const J: usize, const OUT: usize>(
 )
     requires act { MayAct 2 2 state.old (Runner.Task task) marks.old }
     requires extended { is_extended state.old.view.own (Runner.Task task) ≡ true }
-    ensures steps { Steps 2 2 (sets_events task mask) state.old state.new marks.old marks.new }
-    ensures border { state.new.border ≡ state.old.border }
+    ensures { StepsWithin 2 2 (sets_events task mask) state.old state.new marks.old marks.new }
 {
     state.set_events(task, mask, marks);
     release_from(state, task, mask, marks);
@@ -80,8 +73,7 @@ fn release_from<const P: usize, const J: usize, const OUT: usize>(
 )
     requires act { MayAct 1 1 state.old (Runner.Task task) marks.old }
     requires extended { is_extended state.old.view.own (Runner.Task task) ≡ true }
-    ensures steps { Steps 1 1 (releases task mask) state.old state.new marks.old marks.new }
-    ensures border { state.new.border ≡ state.old.border }
+    ensures { StepsWithin 1 1 (releases task mask) state.old state.new marks.old marks.new }
 {
     if osevent::awaits_one_of(state.events(Runner::Task(task)), mask) {
         state.release(task, marks);

@@ -5,8 +5,7 @@ ghost use Rattle.osjobs.specs.Priorities.{is_own_runner};
 ghost use Rattle.osstate.specs.Does.{service_entries, service_marks};
 ghost use Rattle.osservice.specs.Terms.{MayAct};
 ghost use Rattle.osservice_tasks.specs.Resources.{gets_resource, is_below, releases_resource};
-ghost use Rattle.osacts.specs.Runs.{seen_in};
-ghost use Rattle.osacts.specs.Steps.{Steps};
+ghost use Rattle.osacts.specs.{Runs.seen_in, Steps.Steps};
 
 use osbase::{HeldResource, Mark, ResourceRef, Runner, ServiceId, Status};
 use osservice::{accept, refuse};

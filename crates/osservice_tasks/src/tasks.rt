@@ -1,18 +1,12 @@
 //! The services of tasks.
 
 ghost use Rattle.std.specs.Prelude.{◌≡◌, ◌<◌, IsTrue, false};
-ghost use Rattle.osbase.specs.History.{job_count, without_oldest};
-ghost use Rattle.osbase.specs.Phases.{is_before_live};
+ghost use Rattle.osbase.specs.{History.job_count, History.without_oldest, Phases.is_before_live};
 ghost use Rattle.osjobs.specs.Priorities.{is_own_runner};
-ghost use Rattle.osstate.specs.Does.{service_entries, service_marks};
-ghost use Rattle.osstate.specs.Sound.{activation_limit};
-ghost use Rattle.osservice.specs.Terms.{MayAct, Offered};
-ghost use Rattle.osservice.specs.Callers.{holding_checks};
-ghost use Rattle.osservice.specs.Checks.{first_failing, is_ok_status};
-ghost use Rattle.osservice.specs.Service.{carries_out, answer_of};
+ghost use Rattle.osstate.specs.{Does.service_entries, Does.service_marks, Sound.activation_limit};
+ghost use Rattle.osservice.specs.{Terms.MayAct, Terms.Offered, Terms.Serves, Callers.holding_checks, Checks.first_failing};
 ghost use Rattle.osservice_tasks.specs.Tasks.{activation, ends, ends_without_terminate, schedules, task_acts, task_checks, terminates};
-ghost use Rattle.osacts.specs.Runs.{seen_in};
-ghost use Rattle.osacts.specs.Steps.{Steps};
+ghost use Rattle.osacts.specs.{Runs.seen_in, Steps.Steps};
 
 use crate::events::{clear_event, get_event, wait_event};
 use crate::interrupts::{report_suspended, resume_interrupts, suspend_interrupts};
@@ -32,10 +26,7 @@ pub fn activate<const P: usize, const J: usize, const OUT: usize>(
 ) -> ServiceResult
     requires live { is_before_live state.old.progress.phase ≡ false }
     requires acts { MayAct 1 1 state.old (Runner.Task task) marks.old }
-    ensures answer { result ≡ answer_of (activation task (seen_in state.old)) }
-    ensures steps { Steps 1 1 (carries_out (activation task)) state.old state.new marks.old marks.new }
-    ensures refused { is_ok_status result.status ≡ false → Steps 0 0 (carries_out (activation task)) state.old state.new marks.old marks.new }
-    ensures border { state.new.border ≡ state.old.border }
+    ensures { Serves 1 1 (activation task) result state.old state.new marks.old marks.new }
 {
     if state.is_at_limit(task) {
         return without_value(Status::EOsLimit);

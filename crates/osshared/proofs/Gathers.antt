@@ -3,12 +3,9 @@ use Rattle.std.proofs.Common.{◌≡◌, ◌==◌, ℕ, Option, Some, Bool, true
 use Rattle.std.proofs.lemmas.List.{append-nil}
 use Rattle.std.proofs.lemmas.Bool.{eqb-true, eq-eqb, ne_eqb, cond-false, or_parts, or_left, or_right, both_ways}
 use mathlib.Core.List.{IsPrefix}
-use Rattle.atomic_table.specs.Table.{Me}
-use Rattle.atomic_table.specs.Seated.{TableId}
+use Rattle.atomic_table.specs.{Table.Me, Seated.TableId}
 use Rattle.osbase.specs.declared.references.CoreId.{CoreId}
-use Rattle.osshared.specs.declared.histories.Entry.{Entry}
-use Rattle.osshared.specs.declared.histories.Plan.{Plan}
-use Rattle.osshared.specs.declared.histories.View.{View}
+use Rattle.osshared.specs.{declared.histories.Entry.Entry, declared.histories.Plan.Plan, declared.histories.View.View}
 use Rattle.osshared.specs.Histories.{Object, calls_by, IsLegal, entry}
 use Rattle.osshared.specs.Seats.{has, Place, AllAt, Held, Extends, cores_of, AllApart, AllStand, IsOneHistory}
 use Rattle.osshared.specs.Views.{AllBegin, Told, Whole, held_at, IsSeated, joined, made, first_of_cores}

@@ -1,18 +1,14 @@
 -- A seat is cut in two, two are joined, and a seat looks at the whole history: each keeps the rule of seats.
 use Rattle.std.proofs.Common.{map, take, ◌+◌, ◌≡◌, ◌==◌, ℕ, zero, suc, ◌<◌, true, false, if◌then◌else◌, List, [], ◌∷◌, ◌++◌, length, set, drop, get_or, sym, refl, ap, ◌∙◌, subst, ⊎_elim, length-set}
-use Rattle.std.proofs.lemmas.List.{append-nil, set-get_or, map-append}
-use Rattle.std.proofs.Math.Numerals.{add-one}
+use Rattle.std.proofs.{lemmas.List.append-nil, lemmas.List.set-get_or, lemmas.List.map-append, Math.Numerals.add-one, Math.Seq.drop-cons, Math.Seq.take-suc}
 use Rattle.std.proofs.lemmas.Bool.{eq-eqb, ne_eqb, cond-true, cond-false, or_cases, or_parts, or_left, or_right, both_ways, cases_Bool, false_from_ne_true}
 use mathlib.Core.Option.{some, some-injective, some-ne-none}
 use lib.ListN.{get_elem?}
 use Rattle.atomic_table.specs.Table.{opening, Me, keeps, Allows, Splits, Joins}
 use Rattle.atomic_table.specs.Seated.{TableId}
 use Rattle.atomic_table.proofs.Lists.{at_set}
-use Rattle.std.proofs.Math.Seq.{drop-cons, take-suc}
 use Rattle.osbase.specs.declared.references.CoreId.{CoreId}
-use Rattle.osshared.specs.declared.histories.Entry.{Entry}
-use Rattle.osshared.specs.declared.histories.Plan.{Plan}
-use Rattle.osshared.specs.declared.histories.View.{View}
+use Rattle.osshared.specs.{declared.histories.Entry.Entry, declared.histories.Plan.Plan, declared.histories.View.View}
 use Rattle.osshared.specs.Histories.{Object, calls_by, state_after, IsLegal}
 use Rattle.osshared.specs.Seats.{has, AllApart, Held, Place, fresh}
 use Rattle.osshared.specs.Views.{dealer, IsSeated, held_at, first_of_cores, without_first, Fits, Kept, Whole, dealt, dealt_rest, joined, spent}

@@ -2,13 +2,10 @@
 use Rattle.std.proofs.Common.{◌≡◌, ◌==◌, ◌||◌, ℕ, zero, suc, ◌<◌, true, false, if◌then◌else◌, List, [], ◌∷◌, map, length, get_or, sym, refl, ap, ◌∙◌, subst, ⊎_elim, arith}
 use Rattle.std.proofs.lemmas.Bool.{eq-eqb, ne_eqb, cond-true, cond-false, cases_eq, or_left, or_parts, or_right, both_ways}
 use Rattle.osbase.specs.declared.references.CoreId.{CoreId}
-use Rattle.osshared.specs.declared.histories.Entry.{Entry}
-use Rattle.osshared.specs.declared.histories.Plan.{Plan}
-use Rattle.osshared.specs.Histories.{Object, Thinned, calls_by}
+use Rattle.osshared.specs.{declared.histories.Entry.Entry, declared.histories.Plan.Plan, Histories.Object, Histories.Thinned, Histories.calls_by}
 use Rattle.osshared.specs.Seats.{AllApart, AllAt, AllStand, Held, IsOneHistory, Place, cores_of, fresh, has}
 use Rattle.osshared.specs.Runs.{AreIdle, AreLogged, HasLogs, IsOneRun}
-use Rattle.osshared.proofs.Steps.{has_same, same_core}
-use Rattle.osshared.proofs.Thins.{thin_legal, thins}
+use Rattle.osshared.proofs.{Steps.has_same, Steps.same_core, Thins.thin_legal, Thins.thins}
 
 -- each worker kept its place and its core
 all_kept : {A C R X : Type 0} (seat : X → Held A C R) (p : Place A) (ss : List (Held A C R)) (rs : List X) → length rs ≡ length ss

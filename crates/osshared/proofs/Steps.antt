@@ -1,19 +1,15 @@
 -- A step that adds one call to the history keeps the rule of seats.
 use Rattle.std.proofs.Common.{◌≡◌, ◌==◌, ◌||◌, ℕ, zero, suc, Bool, true, false, if◌then◌else◌, List, [], ◌∷◌, ◌++◌, length, set, get_or, sym, refl, ap, ◌∙◌, subst, ◌⊎◌, inl, inr, ⊎_elim, ◌≢◌, append_assoc, Option, Some}
-use Rattle.std.proofs.lemmas.List.{append-nil}
+use Rattle.std.proofs.{lemmas.List.append-nil, lemmas.Option.same_Some}
 use Rattle.std.proofs.lemmas.Bool.{eqb-true, eq-eqb, ne_eqb, cond-true, cond-false, or_cases, or_left, both_ways, false_from_ne_true}
-use Rattle.std.proofs.lemmas.Option.{same_Some}
 use mathlib.Core.Option.{some, some-injective, some-ne-none}
 use mathlib.Core.List.{IsPrefix}
 use lib.ListN.{get_elem?}
 use Rattle.atomic_table.specs.Table.{Me, keeps, Allows}
 use Rattle.atomic_table.proofs.Lists.{at_set}
 use Rattle.osbase.specs.declared.references.CoreId.{CoreId}
-use Rattle.osshared.specs.declared.histories.Entry.{Entry}
-use Rattle.osshared.specs.declared.histories.Plan.{Plan}
-use Rattle.osshared.specs.declared.histories.View.{View}
+use Rattle.osshared.specs.{declared.histories.Entry.Entry, declared.histories.Plan.Plan, declared.histories.View.View, Seats.has}
 use Rattle.osshared.specs.Histories.{Object, Continues, calls_by, entry, state_after, IsLegalFrom, IsLegal}
-use Rattle.osshared.specs.Seats.{has}
 use Rattle.osshared.specs.Views.{AllBegin, Fits, Kept, Calls, Told, made, first_of_cores, IsStep, IsSeated}
 
 pub same_core : (c d : CoreId) → c.number ≡ d.number → c ≡ d

@@ -1,4 +1,5 @@
 pub mod Histories
 pub mod Seats
 pub mod Views
+pub mod Calls
 pub mod Runs

@@ -1,10 +1,8 @@
 -- What the workers of the cores did together, each from its own seat: some calls change nothing and stand in no log.
 use Rattle.std.specs.Prelude.{◌≡◌, false, List, [], ◌∷◌}
 use Rattle.osbase.specs.declared.references.CoreId.{CoreId}
-use Rattle.osshared.specs.declared.histories.Entry.{Entry}
-use Rattle.osshared.specs.declared.histories.Plan.{Plan}
+use Rattle.osshared.specs.{declared.histories.Entry.Entry, declared.histories.Plan.Plan, Seats.Held, Seats.Place, Seats.has}
 use Rattle.osshared.specs.Histories.{Object, IsLegal, Thinned, calls_by}
-use Rattle.osshared.specs.Seats.{Held, Place, has}
 
 -- Calls of which each leaves the object as it is, where the object answers it so.
 abbrev pub AreIdle : {A S C R : Type 0} → Object A S C R → (Entry C R → Type 0) → Type 0

@@ -3,9 +3,7 @@ use Rattle.std.specs.Prelude.{◌≡◌, ◌==◌, ◌||◌, Bool, false, List, 
 use mathlib.Core.List.{IsPrefix}
 use Rattle.atomic_table.specs.Seated.{TableId}
 use Rattle.osbase.specs.declared.references.CoreId.{CoreId}
-use Rattle.osshared.specs.declared.histories.Entry.{Entry}
-use Rattle.osshared.specs.declared.histories.Plan.{Plan}
-use Rattle.osshared.specs.Histories.{Object, IsLegal, calls_by}
+use Rattle.osshared.specs.{declared.histories.Entry.Entry, declared.histories.Plan.Plan, Histories.Object, Histories.IsLegal, Histories.calls_by}
 
 -- The core is one of these.
 abbrev pub has : List CoreId → CoreId → Bool

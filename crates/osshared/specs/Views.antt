@@ -3,14 +3,10 @@ use Rattle.std.specs.Prelude.{◌≡◌, ℕ, ◌<◌, Option, Some, true, false
 use mathlib.Core.Option.{some}
 use mathlib.Core.List.{IsPrefix}
 use lib.ListN.{get_elem?}
-use Rattle.atomic_table.specs.Table.{State, Me}
-use Rattle.atomic_table.specs.Seated.{TableId}
+use Rattle.atomic_table.specs.{Table.State, Table.Me, Seated.TableId}
 use Rattle.osbase.specs.declared.references.CoreId.{CoreId}
-use Rattle.osshared.specs.declared.histories.Entry.{Entry}
-use Rattle.osshared.specs.declared.histories.Plan.{Plan}
-use Rattle.osshared.specs.declared.histories.View.{View}
+use Rattle.osshared.specs.{declared.histories.Entry.Entry, declared.histories.Plan.Plan, declared.histories.View.View, Seats.Held, Seats.has}
 use Rattle.osshared.specs.Histories.{Object, IsLegal, calls_by, entry, state_after}
-use Rattle.osshared.specs.Seats.{Held, has}
 
 -- The first core of a list.
 abbrev pub first_of_cores : List CoreId → CoreId

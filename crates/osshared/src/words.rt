@@ -1,10 +1,9 @@
 //! The words of an object, and the seats from which cores call it.
 
-ghost use Rattle.std.specs.Prelude.{◌≡◌, ℕ, ◌<◌, ◌==◌, List, Some, length, map, slice_index, slice_set, bit_or, IfOk};
+ghost use Rattle.std.specs.Prelude.{◌≡◌, ◌==◌, bit_or, IfOk};
 ghost use prog.Atomic.{either};
-ghost use Rattle.osshared.specs.Histories.{entry};
-ghost use Rattle.osshared.specs.Seats.{AllApart, AllAt, Extends, IsOneHistory, cores_of, fresh};
-ghost use Rattle.osshared.specs.Views.{IsStep};
+ghost use Rattle.osshared.specs.{Histories.entry, Seats.Extends, Seats.IsOneHistory};
+ghost use Rattle.osshared.specs.Calls.{AreAllSeats, CanBegin, HasBegun, MayCall};
 
 use crate::histories::{Plan, SharedObject, View};
 use atomic_table::{Join, Play, Seat, Split, Table, TableRule};
@@ -93,8 +92,7 @@ pub struct CoreSeat<O: SharedObject> {
 }
 
 impl<O: SharedObject> Model for CoreSeat<O> {
-    ghost use Rattle.osshared.specs.Seats.{Held};
-    ghost use Rattle.osshared.specs.Views.{held_at, IsSeated};
+    ghost use Rattle.osshared.specs.{Seats.Held, Views.held_at, Views.IsSeated};
 
     ghost Value = { Held O.About O.Call O.Reply };
 
@@ -136,12 +134,8 @@ impl<O: SharedObject> SharedWords<O> {
         words: &[u64],
         plan: &Plan<O::About>,
     ) -> Result<(SharedWords<O>, Vec<CoreSeat<O>>), AllocError>
-        requires words { 0 < length words.now }
-        requires cores { AllApart plan.now.cores }
-        requires stands { O.stands (O.object.first plan.now.about) words.now }
-        ensures object { IfOk result (λ r. r.0.plan ≡ plan.now) }
-        ensures words { IfOk result (λ r. r.0.table.words ≡ length words.now) }
-        ensures seats { IfOk result (λ r. r.1.items ≡ map (λ c. fresh r.0 c) plan.now.cores) }
+        requires { CanBegin O.object O.stands plan.now words.now }
+        ensures { IfOk result (λ r. HasBegun plan.now words.now r.0 r.1.items) }
     {
         let cores = plan.cores.as_slice();
         let mut seats = Vec::with_capacity(alloc, cores.len())?;
@@ -155,10 +149,7 @@ impl<O: SharedObject> SharedWords<O> {
 
     /// A call whose step reads a word. The result is the word.
     pub fn load<W: Asked<O::Call>>(&self, seat: &mut CoreSeat<O>, word: usize, call: O::Call) -> u64
-        requires asked { W.call ≡ Some call }
-        requires place { seat.old.place ≡ self.now }
-        requires word { word < self.now.table.words }
-        requires step { IsStep O.object O.stands O.answer seat.old.core call word (λ n. n) }
+        requires { MayCall O.object O.stands O.answer W.call self.now seat.old word call (λ n. n) }
         ensures { Extends O.object seat.old (entry seat.old.core call (O.answer seat.old.core call result)) seat.new }
     {
         self.table.shared.load::<Making<O, W>>(&mut seat.seat, word)
@@ -173,10 +164,7 @@ impl<O: SharedObject> SharedWords<O> {
         new: u64,
         call: O::Call,
     ) -> u64
-        requires asked { W.call ≡ Some call }
-        requires place { seat.old.place ≡ self.now }
-        requires word { word < self.now.table.words }
-        requires step { IsStep O.object O.stands O.answer seat.old.core call word (λ n. either (n == expected) new n) }
+        requires { MayCall O.object O.stands O.answer W.call self.now seat.old word call (λ n. either (n == expected) new n) }
         ensures { Extends O.object seat.old (entry seat.old.core call (O.answer seat.old.core call result)) seat.new }
     {
         self.table
@@ -192,10 +180,7 @@ impl<O: SharedObject> SharedWords<O> {
         bits: u64,
         call: O::Call,
     ) -> u64
-        requires asked { W.call ≡ Some call }
-        requires place { seat.old.place ≡ self.now }
-        requires word { word < self.now.table.words }
-        requires step { IsStep O.object O.stands O.answer seat.old.core call word (λ n. bit_or n bits) }
+        requires { MayCall O.object O.stands O.answer W.call self.now seat.old word call (λ n. bit_or n bits) }
         ensures { Extends O.object seat.old (entry seat.old.core call (O.answer seat.old.core call result)) seat.new }
     {
         self.table
@@ -205,8 +190,7 @@ impl<O: SharedObject> SharedWords<O> {
 
     /// All seats together show one legal history, with their calls and no others.
     pub fn gather(&self, mut seats: Vec<CoreSeat<O>>)
-        requires places { AllAt self.now seats.items }
-        requires cores { cores_of seats.items ≡ self.now.plan.cores }
+        requires { AreAllSeats self.now seats.items }
         ensures { IsOneHistory O.object self.now.plan seats.items }
     {
         let Some(last) = seats.pop() else {

@@ -2,10 +2,8 @@
 use Rattle.std.proofs.Common.{◌≡◌, ◌<◌, ◌≢◌, ℕ, Option, None, List, [], ◌∷◌, length, get_or, set, sym, ap, ◌∙◌, subst, ⊎_elim}
 use Rattle.std.proofs.lemmas.List.{get_or-replicate, get_or-set_other, get_or-set_same, length-replicate, length-set}
 use Rattle.std.proofs.lemmas.Bool.{cases_eq, cond-false, cond-true, eq-eqb, ne_eqb}
-use Rattle.osbase.specs.declared.references.CoreId.{CoreId}
-use Rattle.osbase.specs.declared.references.SpinlockId.{SpinlockId}
+use Rattle.osbase.specs.{declared.references.CoreId.CoreId, declared.references.SpinlockId.SpinlockId, declared.limits.TheConstants.SPINLOCKS}
 use Rattle.osshared.specs.Histories.{IsLegal, IsLegalFrom, entry}
-use Rattle.osbase.specs.declared.limits.TheConstants.{SPINLOCKS}
 use Rattle.osspin.specs.Spins.{SpinEntry, calls_on, holder_of, holders_after, lock_after, lock_reply, no_holders, one_lock, spinlocks}
 
 module _ (lock : SpinlockId) where

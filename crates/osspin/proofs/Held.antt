@@ -2,15 +2,9 @@
 use Rattle.std.proofs.Common.{◌≡◌, ◌==◌, ◌<◌, ◌≢◌, ℕ, Bool, true, false, if◌then◌else◌, Option, Some, None, List, [], ◌∷◌, length, get_or, set, refl, sym, ap, ◌∙◌, subst, ⊎_elim}
 use Rattle.std.proofs.lemmas.List.{get_or-replicate, get_or-set_other, get_or-set_same, length-replicate, length-set}
 use Rattle.std.proofs.lemmas.Bool.{cases_eq, cond-false, cond-true, eq-eqb, eqb-true, ne_eqb}
-use Rattle.osbase.specs.declared.references.CoreId.{CoreId}
-use Rattle.osbase.specs.declared.references.SpinlockId.{SpinlockId}
-use Rattle.osbase.specs.History.{same_core}
+use Rattle.osbase.specs.{declared.references.CoreId.CoreId, declared.references.SpinlockId.SpinlockId, History.same_core, declared.limits.TheConstants.SPINLOCKS}
 use Rattle.osshared.specs.Histories.{IsLegal, IsLegalFrom, calls_by, state_after}
-use Rattle.osbase.specs.declared.limits.TheConstants.{SPINLOCKS}
-use Rattle.osspin.specs.declared.calls.SpinAction.{SpinAction}
-use Rattle.osspin.specs.declared.calls.SpinAction.TheVariants.{Take, Free, Look}
-use Rattle.osspin.specs.declared.calls.SpinReply.TheVariants.{Answered}
-use Rattle.osspin.specs.Holding.{holds_after, holds_by}
+use Rattle.osspin.specs.{declared.calls.SpinAction.SpinAction, declared.calls.SpinAction.TheVariants.Take, declared.calls.SpinAction.TheVariants.Free, declared.calls.SpinAction.TheVariants.Look, declared.calls.SpinReply.TheVariants.Answered, Holding.holds_after, Holding.holds_by}
 use Rattle.osspin.specs.Spins.{SpinEntry, holder_of, holders_after, is_held_by, lock_after, lock_reply, no_holders, spinlocks}
 
 module _ (core : CoreId) where

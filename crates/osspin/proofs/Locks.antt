@@ -1,22 +1,12 @@
 -- Each of the three kinds of step is one call of one lock.
 use Rattle.std.proofs.Common.{◌≡◌, ◌==◌, ℕ, ◌+◌, ◌-◌, ◌<◌, Bool, true, false, if◌then◌else◌, List, Option, Some, None, set, slice_set, get_or, sym, refl, ap, ◌∙◌, subst, ⊎_elim, arith, length-set}
-use Rattle.std.proofs.Math.ListN.{get_or-map}
-use Rattle.std.proofs.lemmas.List.{map-set, set-get_or}
-use Rattle.std.proofs.lemmas.List.Elements.{All-set}
+use Rattle.std.proofs.{Math.ListN.get_or-map, lemmas.List.map-set, lemmas.List.set-get_or, lemmas.List.Elements.All-set}
 use Rattle.std.proofs.lemmas.Bool.{both_ways, eq-eqb, ne_eqb, cond-true, cond-false, cases_eq, lt-ltb}
 use prog.Atomic.{either}
-use Rattle.osbase.specs.declared.references.CoreId.{CoreId}
-use Rattle.osbase.specs.declared.references.SpinlockId.{SpinlockId}
-use Rattle.osshared.specs.Histories.{Continues, entry}
-use Rattle.osshared.specs.Runs.{AreIdle}
-use Rattle.osshared.specs.Views.{IsStep}
+use Rattle.osbase.specs.{declared.references.CoreId.CoreId, declared.references.SpinlockId.SpinlockId, declared.limits.TheConstants.SPINLOCKS}
+use Rattle.osshared.specs.{Histories.Continues, Histories.entry, Runs.AreIdle, Views.IsStep}
 use Rattle.osshared.proofs.Steps.{continues}
-use Rattle.osbase.specs.declared.limits.TheConstants.{SPINLOCKS}
-use Rattle.osspin.specs.declared.calls.SpinAction.{SpinAction}
-use Rattle.osspin.specs.declared.calls.SpinAction.TheVariants.{Take, Free, Look}
-use Rattle.osspin.specs.declared.calls.SpinCall.{SpinCall}
-use Rattle.osspin.specs.declared.calls.SpinReply.{SpinReply}
-use Rattle.osspin.specs.declared.calls.SpinReply.TheVariants.{Answered, Seen}
+use Rattle.osspin.specs.{declared.calls.SpinAction.SpinAction, declared.calls.SpinAction.TheVariants.Take, declared.calls.SpinAction.TheVariants.Free, declared.calls.SpinAction.TheVariants.Look, declared.calls.SpinCall.SpinCall, declared.calls.SpinReply.SpinReply, declared.calls.SpinReply.TheVariants.Answered, declared.calls.SpinReply.TheVariants.Seen}
 use Rattle.osspin.specs.Spins.{IsRefusedCall, free_call, holder_of, holders_after, is_free, is_held_by, lock_after, lock_reply, look_call, spin_call, spin_reply, spinlocks, try_take_call}
 use Rattle.osspin.specs.Words.{FitsByte, Stands, answer, answer_to, word_of}
 

@@ -1,8 +1,7 @@
 -- What has a logical clock.
 use Rattle.std.specs.Prelude.{◌<◌}
 use Rattle.osbase.specs.declared.limits.TheConstants.{SPINLOCKS}
-use Rattle.osspin.specs.declared.clocks.Clocked.{Clocked}
-use Rattle.osspin.specs.declared.clocks.Clocked.TheVariants.{Spinlock, Board}
+use Rattle.osspin.specs.{declared.clocks.Clocked.Clocked, declared.clocks.Clocked.TheVariants.Spinlock, declared.clocks.Clocked.TheVariants.Board}
 
 -- There is such a spinlock.
 abbrev pub IsKnown : Clocked → Type 0

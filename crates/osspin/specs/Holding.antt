@@ -1,11 +1,7 @@
 -- What a core holds, by its own calls alone.
 use Rattle.std.specs.Prelude.{◌==◌, Bool, true, false, if◌then◌else◌, List, [], ◌∷◌}
 use Rattle.osbase.specs.declared.references.SpinlockId.{SpinlockId}
-use Rattle.osspin.specs.declared.calls.SpinAction.{SpinAction}
-use Rattle.osspin.specs.declared.calls.SpinAction.TheVariants.{Take, Free}
-use Rattle.osspin.specs.declared.calls.SpinReply.{SpinReply}
-use Rattle.osspin.specs.declared.calls.SpinReply.TheVariants.{Answered}
-use Rattle.osspin.specs.Spins.{SpinEntry}
+use Rattle.osspin.specs.{declared.calls.SpinAction.SpinAction, declared.calls.SpinAction.TheVariants.Take, declared.calls.SpinAction.TheVariants.Free, declared.calls.SpinReply.SpinReply, declared.calls.SpinReply.TheVariants.Answered, Spins.SpinEntry}
 
 -- A core holds a lock from where it took it until it freed it. A refused call and a look change nothing.
 -- [AUTOSAR SWS OS 4.x, TryToGetSpinlock and ReleaseSpinlock]

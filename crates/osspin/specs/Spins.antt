@@ -1,16 +1,8 @@
 -- One spinlock, and all of them.
 use Rattle.std.specs.Prelude.{◌≡◌, ◌==◌, Bool, true, false, if◌then◌else◌, Option, Some, None, List, [], ◌∷◌, replicate, slice_index_or, slice_set}
-use Rattle.osbase.specs.declared.references.CoreId.{CoreId}
-use Rattle.osbase.specs.declared.references.SpinlockId.{SpinlockId}
-use Rattle.osbase.specs.History.{same_core}
-use Rattle.osshared.specs.declared.histories.Entry.{Entry}
-use Rattle.osshared.specs.Histories.{Object, entry}
-use Rattle.osbase.specs.declared.limits.TheConstants.{SPINLOCKS}
-use Rattle.osspin.specs.declared.calls.SpinAction.{SpinAction}
-use Rattle.osspin.specs.declared.calls.SpinAction.TheVariants.{Take, Free, Look}
-use Rattle.osspin.specs.declared.calls.SpinCall.{SpinCall}
-use Rattle.osspin.specs.declared.calls.SpinReply.{SpinReply}
-use Rattle.osspin.specs.declared.calls.SpinReply.TheVariants.{Answered, Seen}
+use Rattle.osbase.specs.{declared.references.CoreId.CoreId, declared.references.SpinlockId.SpinlockId, History.same_core, declared.limits.TheConstants.SPINLOCKS}
+use Rattle.osshared.specs.{declared.histories.Entry.Entry, Histories.Object, Histories.entry}
+use Rattle.osspin.specs.{declared.calls.SpinAction.SpinAction, declared.calls.SpinAction.TheVariants.Take, declared.calls.SpinAction.TheVariants.Free, declared.calls.SpinAction.TheVariants.Look, declared.calls.SpinCall.SpinCall, declared.calls.SpinReply.SpinReply, declared.calls.SpinReply.TheVariants.Answered, declared.calls.SpinReply.TheVariants.Seen}
 
 -- Whether a core may take a lock that this holder has: only where none has it. Its holder may not either.
 -- [AUTOSAR SWS OS 4.x, TryToGetSpinlock]

@@ -1,12 +1,7 @@
 -- The words of the spinlocks.
 use Rattle.std.specs.Prelude.{◌≡◌, ◌==◌, ℕ, ◌+◌, ◌-◌, ◌<◌, nat_lt, if◌then◌else◌, Option, Some, None, List, All, length, map}
-use Rattle.osbase.specs.declared.references.CoreId.{CoreId}
-use Rattle.osbase.specs.declared.limits.TheConstants.{SPINLOCKS}
-use Rattle.osspin.specs.declared.calls.SpinAction.{SpinAction}
-use Rattle.osspin.specs.declared.calls.SpinAction.TheVariants.{Take, Free, Look}
-use Rattle.osspin.specs.declared.calls.SpinCall.{SpinCall}
-use Rattle.osspin.specs.declared.calls.SpinReply.{SpinReply}
-use Rattle.osspin.specs.declared.calls.SpinReply.TheVariants.{Answered, Seen}
+use Rattle.osbase.specs.{declared.references.CoreId.CoreId, declared.limits.TheConstants.SPINLOCKS}
+use Rattle.osspin.specs.{declared.calls.SpinAction.SpinAction, declared.calls.SpinAction.TheVariants.Take, declared.calls.SpinAction.TheVariants.Free, declared.calls.SpinAction.TheVariants.Look, declared.calls.SpinCall.SpinCall, declared.calls.SpinReply.SpinReply, declared.calls.SpinReply.TheVariants.Answered, declared.calls.SpinReply.TheVariants.Seen}
 
 -- A lock's word: 0, or one more than the number of the core that holds it. [own]
 abbrev pub word_of : Option CoreId → ℕ

@@ -44,8 +44,7 @@ impl SharedObject for Spinlocks {
 
     type Reply = SpinReply;
 
-    ghost use Rattle.osspin.specs.Spins.{spinlocks};
-    ghost use Rattle.osspin.specs.Words.{Stands, answer};
+    ghost use Rattle.osspin.specs.{Spins.spinlocks, Words.Stands, Words.answer};
 
     ghost object = { spinlocks };
 

@@ -2,9 +2,7 @@
 
 ghost use Rattle.std.specs.Prelude.{◌≡◌, ◌<◌, List, false};
 ghost use Rattle.osshared.specs.Histories.{IsLegal, calls_by, state_after};
-ghost use Rattle.osbase.specs.declared.references.CoreId.{CoreId};
-ghost use Rattle.osbase.specs.declared.references.SpinlockId.{SpinlockId};
-ghost use Rattle.osbase.specs.declared.limits.TheConstants.{SPINLOCKS};
+ghost use Rattle.osbase.specs.{declared.references.CoreId.CoreId, declared.references.SpinlockId.SpinlockId, declared.limits.TheConstants.SPINLOCKS};
 ghost use Rattle.osspin.specs.Holding.{holds_by};
 ghost use Rattle.osspin.specs.Spins.{SpinEntry, calls_on, holder_of, is_held_by, no_holders, one_lock, spinlocks};
 

@@ -1,47 +1,22 @@
 -- The state of a core that took no item.
 use Rattle.std.proofs.Common.{◌≡◌, ℕ, zero, suc, ◌+◌, ◌≤◌, Bool, true, false, cond, IsTrue, Option, Some, None, is_some, List, [], ◌∷◌, map, refl, ap, sym, subst, ◌∙◌, arith, replicate, nat_le, nat_lt, sum_by, get_or, unwrap_or}
-use Rattle.std.specs.List.{find, list_all, slice_get}
-use Rattle.std.specs.Option.{option_map_or}
-use Rattle.std.proofs.lemmas.Bool.{false≢true, and_parts}
-use Rattle.std.proofs.lemmas.Bool.Decides.{nat_tests}
-use Rattle.std.proofs.lemmas.List.{Elements.All-replicate, Folds.list_all-map}
-use Rattle.osbase.specs.declared.references.CoreId.{CoreId}
-use Rattle.osbase.specs.declared.references.Runner.{Runner}
-use Rattle.osbase.specs.declared.histories.GotSpinlock.{GotSpinlock}
-use Rattle.osbase.specs.declared.histories.Sent.{Sent}
-use Rattle.osbase.specs.declared.limits.TheConstants.{CORES, RESOURCES, RUNNERS}
-use Rattle.osbase.specs.History.{same_core}
-use Rattle.osbase.specs.Phases.{is_past_first_gate}
-use Rattle.osbase.specs.Sets.{numbers_from}
-use Rattle.oscript.specs.declared.Op.{Op}
-use Rattle.oscript.specs.Rows.{objects_of}
-use Rattle.oscript.specs.Runners.{Row, first_row}
-use Rattle.osplan.specs.declared.plans.Plan.{Plan}
-use Rattle.osplan.specs.declared.plans.Core.{Core}
-use Rattle.osplan.specs.declared.plans.Isr.{Isr}
-use Rattle.osplan.specs.declared.plans.Resource.{Resource}
-use Rattle.osplan.specs.declared.plans.Task.{Task}
+use Rattle.std.specs.{List.find, List.list_all, List.slice_get, Option.option_map_or}
+use Rattle.std.proofs.{lemmas.Bool.false≢true, lemmas.Bool.and_parts, lemmas.Bool.Decides.nat_tests, lemmas.List.Elements.All-replicate, lemmas.List.Folds.list_all-map}
+use Rattle.osbase.specs.{declared.references.CoreId.CoreId, declared.references.Runner.Runner, declared.histories.GotSpinlock.GotSpinlock, declared.histories.Sent.Sent, declared.limits.TheConstants.CORES, declared.limits.TheConstants.RESOURCES, declared.limits.TheConstants.RUNNERS, History.same_core, Phases.is_past_first_gate, Sets.numbers_from}
+use Rattle.oscript.specs.{declared.Op.Op, Rows.objects_of, Runners.Row, Runners.first_row}
+use Rattle.osplan.specs.{declared.plans.Plan.Plan, declared.plans.Core.Core, declared.plans.Isr.Isr, declared.plans.Resource.Resource, declared.plans.Task.Task, Representable.is_representable, Objects.core_scripts, Objects.may_name}
 use Rattle.osplan.specs.View.{View, core_of, no_core, own_isr, own_task, view_from, view_of}
 use Rattle.osplan.specs.Limits.{core_sizes, is_core_within, is_task_within, is_within_limits, is_core_known, is_script_known, is_object, is_op_known, most_activations, task_sizes}
-use Rattle.osplan.specs.Representable.{is_representable}
-use Rattle.osplan.specs.Objects.{core_scripts, may_name}
 use Rattle.osclock.specs.Clocks.{ClockState, clocks_of}
 use Rattle.ostable.proofs.Waiting.{waits-begun}
 use Rattle.ostable.specs.Tables.{TableStates, tables_of}
 use Rattle.osrunner.specs.Rows.{row_at}
 use Rattle.osjobs.specs.Jobs.{JobState, first_jobs}
-use Rattle.osstate.specs.declared.progress.Progress.{Progress}
-use Rattle.osstate.specs.State.{state_of}
-use Rattle.osstate.specs.Steps.{state_from, first_border, first_progress, first_state}
-use Rattle.osstate.specs.Readings.{script_of}
+use Rattle.osprogress.specs.{declared.progress.Progress.Progress, Border.first_border, Progress.first_progress}
+use Rattle.osstate.specs.{State.state_of, Steps.state_from, Steps.first_state, Readings.script_of}
 use Rattle.osstate.specs.Sound.{IsSound, UsesAtMost, is_agreed, has_objects_of}
-use Rattle.osbase.proofs.Same.{same_core-comm, same_core-true}
-use Rattle.osplan.proofs.Tests.{all-weaker, find-holds, find-passes}
-use Rattle.osbase.proofs.Places.{passes-at}
-use Rattle.osplan.proofs.Alarming.{known-actions, known-named, known-parts}
-use Rattle.osplan.proofs.Clocked.{clocks_within}
-use Rattle.osplan.proofs.Within.{FitsKernel, limit-parts, core-fits}
-use Rattle.osplan.proofs.Scripts.{all_scripts}
+use Rattle.osbase.proofs.{Same.same_core-comm, Same.same_core-true, Places.passes-at}
+use Rattle.osplan.proofs.{Tests.all-weaker, Tests.find-holds, Tests.find-passes, Alarming.known-actions, Alarming.known-named, Alarming.known-parts, Clocked.clocks_within, Within.FitsKernel, Within.limit-parts, Within.core-fits, Scripts.all_scripts}
 
 -- An operation of a configuration names objects that are there, so on this core some of its own.
 known_scripts : (plan : Plan) (core : Core) → is_core_known plan core ≡ true → core_of plan core.id ≡ Some core → list_all (list_all (has_objects_of core)) (core_scripts core) ≡ true

@@ -1,34 +1,24 @@
 -- What an entry does to the state is what it does to each reading of the history.
 use Rattle.std.proofs.Common.{◌≡◌, ◌&&◌, ℕ, zero, suc, ◌+◌, ◌-◌, ◌≤◌, ◌<◌, nat_eq, nat_lt, Bool, true, false, cond, Option, Some, None, is_some, List, ◌∷◌, length, map, refl, ap, sym, subst, ◌∙◌, arith, add-one, slice_index, []}
-use Rattle.std.specs.List.{slice_get, slice_set}
-use Rattle.std.specs.Option.{option_map_or}
+use Rattle.std.specs.{List.slice_get, List.slice_set, Option.option_map_or}
 use Rattle.std.proofs.lemmas.Bool.{and_from, and_parts, eqb-true, lt-ltb, ltb-true, ltb-false, false_from_ne_true, cond-true, cond-false, false≢true}
-use Rattle.std.proofs.lemmas.Bool.Decides.{nat_tests}
-use Rattle.std.proofs.lemmas.List.{set_past}
-use Rattle.osbase.specs.declared.references.CoreId.{CoreId}
-use Rattle.osbase.specs.declared.references.IsrRef.{IsrRef}
-use Rattle.osbase.specs.declared.references.TaskRef.{TaskRef}
-use Rattle.osbase.specs.declared.references.Runner.{Runner}
-use Rattle.osbase.specs.declared.items.Item.{Item}
+use Rattle.std.proofs.{lemmas.Bool.Decides.nat_tests, lemmas.List.set_past}
+use Rattle.osbase.specs.{declared.references.CoreId.CoreId, declared.references.IsrRef.IsrRef, declared.references.TaskRef.TaskRef, declared.references.Runner.Runner, declared.items.Item.Item, Interrupts.running_job, Interrupts.runner_of_job, Sets.core_ids, Sets.numbers_from, Sets.slot_of}
 use Rattle.osbase.specs.declared.limits.TheConstants.{CORES, ISRS, RUNNERS, TASKS}
 use Rattle.osbase.specs.History.{History, Entry, Took, Noted, Queued, same_core, same_runner, queued_count, received_count}
-use Rattle.osbase.specs.Interrupts.{running_job, runner_of_job}
-use Rattle.osbase.specs.Sets.{core_ids, numbers_from, slot_of}
 use Rattle.osbase.proofs.Same.{same_core-true, same_core-refl, same_runner-true, same_runner-refl}
 use Rattle.osbase.proofs.Tables.{table-at, table-set}
 use Rattle.oscript.specs.Runners.{Row, first_row, row_by, row_of, row_step, runner_of}
-use Rattle.osplan.specs.declared.plans.Core.{Core}
-use Rattle.osplan.specs.Clocked.{are_clocks_within}
-use Rattle.osplan.specs.View.{View, own_isr}
+use Rattle.osplan.specs.{declared.plans.Core.Core, Clocked.are_clocks_within, View.View, View.own_isr}
 use Rattle.osrunner.specs.Rows.{rows_by}
 use Rattle.osclock.specs.Clocks.{is_setting_granted}
 use Rattle.osclock.proofs.Law.{after}
 use Rattle.ostable.proofs.Law.{after as tables-after}
-use Rattle.osjobs.specs.Jobs.{jobs_by}
-use Rattle.osjobs.specs.Priorities.{is_own_runner}
+use Rattle.osjobs.specs.{Jobs.jobs_by, Priorities.is_own_runner}
+use Rattle.osprogress.specs.Border.{one_more, queued_after, received_after}
 use Rattle.osstate.specs.Readings.{isr_ref, rows_of, runner_at, script_of, task_ref}
 use Rattle.osstate.specs.State.{KernelState, Stands, border_of, progress_of, state_of, tasks_of}
-use Rattle.osstate.specs.Steps.{has_place, is_placed, one_more, queued_after, received_after, rows_after, runner_by, script_for, state_after, tasks_after}
+use Rattle.osstate.specs.Steps.{has_place, is_placed, rows_after, runner_by, script_for, state_after, tasks_after}
 use Rattle.osstate.specs.Sound.{IsSound}
 
 -- ---- counts by core number

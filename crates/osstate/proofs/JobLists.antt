@@ -1,8 +1,7 @@
 -- Lists of jobs: how many are a runner's, after one was added or taken out.
 use Rattle.std.proofs.Common.{◌≡◌, ℕ, suc, ◌≤◌, ◌<◌, Bool, true, false, cond, Option, Some, None, List, [], ◌∷◌, ◌++◌, refl, ap, sym, subst, ◌∙◌, arith}
 use Rattle.std.specs.Option.{option_map_or}
-use Rattle.osbase.specs.declared.references.Runner.{Runner}
-use Rattle.osbase.specs.declared.histories.Job.{Job}
+use Rattle.osbase.specs.{declared.references.Runner.Runner, declared.histories.Job.Job}
 use Rattle.osbase.specs.History.{same_runner, without_oldest, job_count, oldest, stamped_anew}
 use Rattle.osbase.proofs.Same.{same_runner-true}
 

@@ -1,26 +1,13 @@
 -- What is read off the state is what is read off the history.
 use Rattle.std.proofs.Common.{◌≡◌, Bool, true, false, cond, List, flat_map, map, Option, Some, None, IfSome, IsTrue, refl, ap, sym, subst, ◌∙◌}
-use Rattle.std.specs.List.{list_all, slice_get}
-use Rattle.std.proofs.lemmas.Bool.{and_parts}
-use Rattle.std.proofs.lemmas.List.Folds.{list_all-append, list_all-map}
-use Rattle.std.specs.Option.{option_map_or}
-use Rattle.osbase.specs.declared.references.AlarmRef.{AlarmRef}
-use Rattle.osbase.specs.declared.references.TableRef.{TableRef}
-use Rattle.osbase.specs.History.{History, same_core}
-use Rattle.oscript.specs.declared.Op.{Op}
-use Rattle.oscript.specs.declared.Frame.{Frame}
-use Rattle.oscript.specs.declared.Action.{Action}
-use Rattle.oscript.specs.declared.Action.TheVariants.{Perform, End}
-use Rattle.oscript.specs.Frames.{action_at}
-use Rattle.osplan.specs.declared.plans.Alarm.{Alarm}
-use Rattle.osplan.specs.declared.plans.Core.{Core}
-use Rattle.osplan.specs.declared.plans.Table.{Table}
-use Rattle.osplan.specs.Objects.{core_actions, may_act, table_actions}
-use Rattle.osplan.specs.View.{View, own_alarm, own_table}
+use Rattle.std.specs.{List.list_all, List.slice_get, Option.option_map_or}
+use Rattle.std.proofs.{lemmas.Bool.and_parts, lemmas.List.Folds.list_all-append, lemmas.List.Folds.list_all-map}
+use Rattle.osbase.specs.{declared.references.AlarmRef.AlarmRef, declared.references.TableRef.TableRef, History.History, History.same_core}
+use Rattle.oscript.specs.{declared.Op.Op, declared.Frame.Frame, declared.Action.Action, declared.Action.TheVariants.Perform, declared.Action.TheVariants.End, Frames.action_at}
+use Rattle.osplan.specs.{declared.plans.Alarm.Alarm, declared.plans.Core.Core, declared.plans.Table.Table, Objects.core_actions, Objects.may_act, Objects.table_actions, View.View, View.own_alarm, View.own_table}
 use Rattle.osplan.proofs.Tests.{each-flat}
 use Rattle.osbase.proofs.Places.{passes-at}
-use Rattle.osstate.specs.Sound.{is_action_known, has_objects_of}
-use Rattle.osstate.specs.State.{KernelState, Stands, state_of}
+use Rattle.osstate.specs.{Sound.is_action_known, Sound.has_objects_of, State.KernelState, State.Stands, State.state_of}
 
 -- A query of the kernel's state is a query of the state of the history.
 pub read : {A : Type 0} (query : KernelState → A) {s : KernelState} {v : View} {h : History} {x : A} → x ≡ query s → Stands v h s → x ≡ query (state_of v h)

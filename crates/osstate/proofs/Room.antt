@@ -1,31 +1,18 @@
 -- The live jobs of a core that keeps its tasks' limits are at most as many as the limits sum to; and how many there are of its ISRs.
 use Rattle.std.proofs.Common.{◌≡◌, ℕ, zero, suc, ◌+◌, ◌≤◌, ◌<◌, nat_le, nat_lt, Bool, true, false, cond, Option, Some, None, List, [], ◌∷◌, ◌++◌, length, length-append, refl, ap, sym, subst, ◌∙◌, arith, sum_by, is_some, IfSome}
-use Rattle.std.specs.List.{list_all, slice_get, All}
-use Rattle.std.specs.Option.{option_map_or, option_or}
+use Rattle.std.specs.{List.list_all, List.slice_get, List.All, Option.option_map_or, Option.option_or}
 use Rattle.std.proofs.lemmas.Bool.{false≢true, leb-true, ltb-false, ltb-true}
-use Rattle.std.proofs.lemmas.Bool.Decides.{nat_tests}
-use Rattle.std.proofs.lemmas.List.Sums.{sum_by-cons}
-use Rattle.std.proofs.lemmas.List.Elements.{All-nil, All-cons}
-use Rattle.osbase.specs.declared.references.CoreId.{CoreId}
-use Rattle.osbase.specs.declared.references.TaskRef.{TaskRef}
-use Rattle.osbase.specs.declared.references.IsrRef.{IsrRef}
-use Rattle.osbase.specs.declared.references.Runner.{Runner}
-use Rattle.osbase.specs.declared.histories.Job.{Job}
-use Rattle.osbase.specs.declared.limits.TheConstants.{INTERRUPTS, ISRS}
+use Rattle.std.proofs.{lemmas.Bool.Decides.nat_tests, lemmas.List.Sums.sum_by-cons, lemmas.List.Elements.All-nil, lemmas.List.Elements.All-cons}
+use Rattle.osbase.specs.{declared.references.CoreId.CoreId, declared.references.TaskRef.TaskRef, declared.references.IsrRef.IsrRef, declared.references.Runner.Runner, declared.histories.Job.Job, declared.limits.TheConstants.INTERRUPTS, declared.limits.TheConstants.ISRS}
 use Rattle.osbase.specs.History.{same_core, same_isr, same_runner, job_count, oldest, oldest_of}
 use Rattle.osbase.specs.Interrupts.{is_pending_among, isr_count, oldest_entered, runner_of_job, without_isr}
-use Rattle.osplan.specs.declared.plans.Core.{Core}
-use Rattle.osplan.specs.declared.plans.Task.{Task}
-use Rattle.osplan.specs.Limits.{most_activations}
-use Rattle.osplan.specs.View.{own_isr, own_task}
-use Rattle.osjobs.specs.Jobs.{IsrState, JobState, running_among}
-use Rattle.osjobs.specs.Priorities.{is_extended, is_own_runner}
+use Rattle.osplan.specs.{declared.plans.Core.Core, declared.plans.Task.Task, Limits.most_activations, View.own_isr, View.own_task}
+use Rattle.osjobs.specs.{Jobs.IsrState, Jobs.JobState, Jobs.running_among, Priorities.is_extended, Priorities.is_own_runner}
 use Rattle.osstate.specs.Readings.{isr_ref}
 use Rattle.osstate.specs.Sound.{activation_limit, entered_limit, interrupt_limit, isr_limit}
 use Rattle.osbase.proofs.Places.{passes-at}
 use Rattle.osbase.proofs.Same.{same_core-true, same_core-refl, same_isr-true, same_runner-refl, same_runner-true, same_task-refl}
-use Rattle.osstate.proofs.Histories.{own_isr_place}
-use Rattle.osstate.proofs.JobLists.{job_count-rest, within_append}
+use Rattle.osstate.proofs.{Histories.own_isr_place, JobLists.job_count-rest, JobLists.within_append}
 
 abbrev at : CoreId → ℕ → Runner
 at core index = Runner.Task (record { core = core; index = index })

@@ -1,46 +1,22 @@
 -- What holds of every state holds again after an entry.
 use Rattle.std.proofs.Common.{◌≡◌, ◌||◌, ℕ, zero, suc, ◌+◌, ◌≤◌, ◌<◌, slice_index, List, Bool, true, false, cond, Option, Some, None, IsTrue, IfSome, [], ◌∷◌, ◌++◌, length, refl, ap, sym, subst, ◌∙◌, arith, length-append, is_some, nat_le}
-use Rattle.std.specs.List.{list_all, slice_get, slice_set}
-use Rattle.std.specs.Option.{option_map_or}
-use Rattle.std.proofs.lemmas.Bool.{false≢true, leb-true}
-use Rattle.std.proofs.lemmas.List.Elements.{All-map, All-set, All-weaker}
-use Rattle.osbase.specs.declared.references.CoreId.{CoreId}
-use Rattle.osbase.specs.declared.references.TaskRef.{TaskRef}
-use Rattle.osbase.specs.declared.items.Item.{Item}
-use Rattle.osbase.specs.declared.items.Agreement.{Agreement}
-use Rattle.osbase.specs.declared.histories.Course.{Course}
-use Rattle.osbase.specs.declared.histories.Phase.{Phase}
-use Rattle.osbase.specs.declared.histories.Sent.{Sent}
-use Rattle.osbase.specs.declared.references.Runner.{Runner}
-use Rattle.osbase.specs.declared.marks.Mark.{Mark}
-use Rattle.osbase.specs.declared.references.IsrRef.{IsrRef}
-use Rattle.osbase.specs.Interrupts.{entered_after, isr_count, isr_jobs_after}
-use Rattle.osbase.specs.Sets.{slot_of}
-use Rattle.osbase.specs.Spins.{spins_after}
-use Rattle.oscript.specs.declared.Op.{Op}
-use Rattle.oscript.specs.Runners.{Row, row_step}
+use Rattle.std.specs.{List.list_all, List.slice_get, List.slice_set, Option.option_map_or}
+use Rattle.std.proofs.{lemmas.Bool.false≢true, lemmas.Bool.leb-true, lemmas.List.Elements.All-map, lemmas.List.Elements.All-set, lemmas.List.Elements.All-weaker}
+use Rattle.osbase.specs.{declared.references.CoreId.CoreId, declared.references.TaskRef.TaskRef, declared.items.Item.Item, declared.items.Agreement.Agreement, declared.histories.Course.Course, declared.histories.Phase.Phase, declared.histories.Sent.Sent, declared.references.Runner.Runner, declared.marks.Mark.Mark, declared.references.IsrRef.IsrRef, Interrupts.entered_after, Interrupts.isr_count, Interrupts.isr_jobs_after, Sets.slot_of, Spins.spins_after, declared.histories.Job.Job, declared.histories.GotSpinlock.GotSpinlock, declared.histories.OpenCall.OpenCall, Phases.is_before_live, Phases.is_past_first_gate}
+use Rattle.oscript.specs.{declared.Op.Op, Runners.Row, Runners.row_step}
 use Rattle.osrunner.specs.Rows.{row_at, rows_by}
 use Rattle.osjobs.specs.Jobs.{Each, IsrState, JobState, is_plain, isrs_by, jobs_by}
 use Rattle.osjobs.proofs.Stamps.{each-anew, each-less, each-push, each-weaker}
-use Rattle.osbase.specs.declared.histories.Job.{Job}
-use Rattle.osbase.specs.declared.histories.GotSpinlock.{GotSpinlock}
-use Rattle.osbase.specs.declared.histories.OpenCall.{OpenCall}
 use Rattle.osbase.specs.History.{Entry, Printed, Noted, Took, ResourceOccupied, agreement_after, began_after, closed_by, job_count, jobs_after, open_after, same_core, same_runner, stamped_anew, without_oldest, phase_on}
-use Rattle.osplan.specs.declared.plans.Core.{Core}
-use Rattle.osplan.specs.declared.plans.Task.{Task}
-use Rattle.osplan.specs.View.{own_task}
+use Rattle.osplan.specs.{declared.plans.Core.Core, declared.plans.Task.Task, View.own_task}
 use Rattle.osbase.proofs.Places.{passes-at}
 use Rattle.osclock.specs.Clocks.{AreClocks, ClockState}
-use Rattle.ostable.specs.Tables.{AreTables, TableStates}
-use Rattle.ostable.specs.Waiting.{all_wait_by_counter}
+use Rattle.ostable.specs.{Tables.AreTables, Tables.TableStates, Waiting.all_wait_by_counter}
 use Rattle.osjobs.specs.Priorities.{is_own_runner}
-use Rattle.osstate.specs.declared.progress.Progress.{Progress}
-use Rattle.osstate.specs.State.{BorderState, KernelState}
-use Rattle.osstate.specs.Steps.{one_more, progress_after, received_after, runner_by}
-use Rattle.osbase.specs.Phases.{is_before_live, is_past_first_gate}
+use Rattle.osprogress.specs.{declared.progress.Progress.Progress, Border.BorderState, Border.one_more, Border.received_after, Progress.progress_after}
+use Rattle.osstate.specs.{State.KernelState, Steps.runner_by}
 use Rattle.osstate.specs.Sound.{HasBorder, HasClocks, HasJobs, IsSound, IsUnderWay, UsesAtMost, activation_limit, entered_limit, interrupt_limit, is_agreed, is_awaited_known, is_first_gate}
-use Rattle.osstate.proofs.JobLists.{within_append, job_count-stamped_anew, job_count-without_oldest}
-use Rattle.osstate.proofs.Room.{entered_on, isr_count-without, length_within}
+use Rattle.osstate.proofs.{JobLists.within_append, JobLists.job_count-stamped_anew, JobLists.job_count-without_oldest, Room.entered_on, Room.isr_count-without, Room.length_within}
 
 -- ---- what an entry leaves: its part is given anew, and the others stay
 

@@ -1,8 +1,7 @@
 -- What a function does to every history: the form of the contracts of the kernel.
-use Rattle.std.specs.Prelude.{◌≡◌, ℕ, ◌+◌, ◌≤◌, ◌^◌, List, ◌∷◌, ◌++◌, length, Vec, vec_len, vec_capacity, []}
+use Rattle.std.specs.Prelude.{◌≡◌, ℕ, ◌+◌, ◌≤◌, ◌^◌, List, ◌++◌, length, Vec, vec_len, vec_capacity}
 use Rattle.std.specs.declared.alloc.Global.{Global}
-use Rattle.osbase.specs.declared.marks.Mark.{Mark}
-use Rattle.osbase.specs.History.{History, marks_of}
+use Rattle.osbase.specs.{declared.marks.Mark.Mark, History.History, History.marks_of}
 use Rattle.osplan.specs.View.{View}
 use Rattle.osstate.specs.State.{KernelState, Stands}
 
@@ -30,12 +29,6 @@ pub record Adds (most : ℕ) (old new : List Mark) : Type 0 where
   pub added : List Mark
   pub is : new ≡ old ++ added
   pub within : length added ≤ most
-
--- One mark joins those in a vector, which has a place for it. [own]
-pub record Joins (m : Mark) (old new : Vec Mark Global) : Type 0 where
-  pub items : new.items ≡ old.items ++ m ∷ []
-  pub len : vec_len new ≤ vec_len old + 1
-  pub capacity : vec_capacity new ≡ vec_capacity old
 
 -- What one item adds at most, and what one service or a tick does: the worst are a tick and IncrementCounter, with all alarms and
 -- schedule tables of a core. A function that does any service of a family asks for this room and promises no more, so that a later

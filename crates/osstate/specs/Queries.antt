@@ -1,17 +1,11 @@
 -- Queries of the state. A query of a history is that of the history's state.
 use Rattle.std.specs.Prelude.{◌==◌, Bool, nat_le, Option}
-use Rattle.osbase.specs.declared.references.Runner.{Runner}
-use Rattle.osbase.specs.declared.references.TaskRef.{TaskRef}
-use Rattle.osbase.specs.declared.histories.Job.{Job}
-use Rattle.osbase.specs.History.{History, job_count}
-use Rattle.oscript.specs.declared.Action.{Action}
-use Rattle.oscript.specs.Frames.{action_at}
+use Rattle.osbase.specs.{declared.references.Runner.Runner, declared.references.TaskRef.TaskRef, declared.histories.Job.Job, History.History, History.job_count}
+use Rattle.oscript.specs.{declared.Action.Action, Frames.action_at}
 use Rattle.osplan.specs.View.{View}
 use Rattle.osrunner.specs.Rows.{frame_in}
 use Rattle.osjobs.specs.Jobs.{best_among, raised_among, running_among}
-use Rattle.osstate.specs.Readings.{script_of}
-use Rattle.osstate.specs.Sound.{activation_limit}
-use Rattle.osstate.specs.State.{KernelState, state_of}
+use Rattle.osstate.specs.{Readings.script_of, Sound.activation_limit, State.KernelState, State.state_of}
 
 -- The running job. [OSEK/VDX OS 2.2.3, section 4.2 and 6]
 abbrev pub running_in : KernelState → Option Job

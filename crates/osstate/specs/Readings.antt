@@ -1,37 +1,12 @@
 -- What is read off a core's history with what the core sees of its configuration.
 use Rattle.std.specs.Prelude.{ℕ, ◌-◌, nat_lt, Bool, if◌then◌else◌, Option, Some, None, List, [], filter, map, option_map, slice_get}
-use Rattle.std.specs.List.{enumerate_from}
-use Rattle.std.specs.Option.{option_map_or, option_or}
-use Rattle.osbase.specs.declared.references.AlarmRef.{AlarmRef}
-use Rattle.osbase.specs.declared.references.CoreId.{CoreId}
-use Rattle.osbase.specs.declared.references.CounterRef.{CounterRef}
-use Rattle.osbase.specs.declared.references.ResourceRef.{ResourceRef}
-use Rattle.osbase.specs.declared.references.TableRef.{TableRef}
-use Rattle.osbase.specs.declared.references.IsrRef.{IsrRef}
-use Rattle.osbase.specs.declared.references.TaskRef.{TaskRef}
-use Rattle.osbase.specs.declared.references.Runner.{Runner}
-use Rattle.osbase.specs.declared.messages.RemoteCall.{RemoteCall}
-use Rattle.osbase.specs.declared.histories.Job.{Job}
-use Rattle.osbase.specs.declared.histories.HeldResource.{HeldResource}
-use Rattle.osbase.specs.declared.histories.Phase.{Phase}
-use Rattle.osbase.specs.declared.histories.TaskEvents.{TaskEvents}
+use Rattle.std.specs.{List.enumerate_from, Option.option_map_or, Option.option_or}
+use Rattle.osbase.specs.{declared.references.AlarmRef.AlarmRef, declared.references.CoreId.CoreId, declared.references.CounterRef.CounterRef, declared.references.ResourceRef.ResourceRef, declared.references.TableRef.TableRef, declared.references.IsrRef.IsrRef, declared.references.TaskRef.TaskRef, declared.references.Runner.Runner, declared.messages.RemoteCall.RemoteCall, declared.histories.Job.Job, declared.histories.HeldResource.HeldResource, declared.histories.Phase.Phase, declared.histories.TaskEvents.TaskEvents, Objects.object_of_call, Sets.has_core, Sets.numbers_from, declared.limits.TheConstants.RUNNERS, declared.limits.TheConstants.TASKS}
 use Rattle.osbase.specs.History.{History, same_core, current_job, giving_way, live_jobs, first_greatest, started_cores, phase_of}
 use Rattle.osbase.specs.Interrupts.{entered_isrs, is_pending_among, isr_jobs, running_job}
-use Rattle.osbase.specs.Objects.{object_of_call}
-use Rattle.osbase.specs.Sets.{has_core, numbers_from}
-use Rattle.oscript.specs.declared.Op.{Op}
-use Rattle.oscript.specs.declared.Frame.{Frame}
-use Rattle.oscript.specs.Runners.{Row, row_of}
-use Rattle.osplan.specs.declared.plans.Alarm.{Alarm}
-use Rattle.osplan.specs.declared.plans.Core.{Core}
-use Rattle.osplan.specs.declared.plans.Counter.{Counter}
-use Rattle.osplan.specs.declared.plans.Isr.{Isr}
-use Rattle.osplan.specs.declared.plans.Resource.{Resource}
-use Rattle.osplan.specs.declared.plans.Table.{Table}
-use Rattle.osplan.specs.declared.plans.Task.{Task}
-use Rattle.osplan.specs.Objects.{is_own_object}
+use Rattle.oscript.specs.{declared.Op.Op, declared.Frame.Frame, Runners.Row, Runners.row_of}
+use Rattle.osplan.specs.{declared.plans.Alarm.Alarm, declared.plans.Core.Core, declared.plans.Counter.Counter, declared.plans.Isr.Isr, declared.plans.Resource.Resource, declared.plans.Table.Table, declared.plans.Task.Task, Objects.is_own_object}
 use Rattle.osplan.specs.View.{View, own_alarm, own_counter, own_isr, own_resource, own_table, own_task}
-use Rattle.osbase.specs.declared.limits.TheConstants.{RUNNERS, TASKS}
 use Rattle.osclock.specs.Clocks.{alarm_ref, counter_ref}
 use Rattle.ostable.specs.Tables.{table_ref}
 use Rattle.osrunner.specs.Rows.{row_in}

@@ -1,42 +1,16 @@
 -- What holds of the state of every kernel: that nothing runs out of its room. All of it is this project's own.
 use Rattle.std.specs.Prelude.{◌≡◌, ℕ, ◌<◌, ◌≤◌, nat_le, nat_lt, Bool, true, false, if◌then◌else◌, IsTrue, IfSome, Option, Some, is_some, [], length, slice_index, sum_by}
-use Rattle.std.specs.List.{All, list_all}
-use Rattle.std.specs.Option.{option_map_or}
-use Rattle.osbase.specs.declared.references.IsrRef.{IsrRef}
-use Rattle.osbase.specs.declared.references.Runner.{Runner}
-use Rattle.osbase.specs.declared.references.SpinlockId.{SpinlockId}
-use Rattle.osbase.specs.declared.histories.Awaited.{Awaited}
-use Rattle.osbase.specs.declared.histories.Job.{Job}
-use Rattle.osbase.specs.declared.histories.Phase.{Phase}
-use Rattle.osbase.specs.declared.items.Agreement.{Agreement}
-use Rattle.osbase.specs.declared.items.Item.{Item}
-use Rattle.osbase.specs.declared.limits.TheConstants.{CORES, ISRS, SPINLOCKS, TASKS}
-use Rattle.osbase.specs.History.{job_count}
-use Rattle.osbase.specs.Interrupts.{isr_count}
-use Rattle.osbase.specs.Phases.{is_before_live, is_past_first_gate}
-use Rattle.oscript.specs.declared.Op.{Op}
-use Rattle.oscript.specs.Rows.{objects_of}
-use Rattle.oscript.specs.Runners.{Row}
-use Rattle.oscript.specs.declared.Action.{Action}
-use Rattle.oscript.specs.declared.Action.TheVariants.{Perform, End}
-use Rattle.osplan.specs.declared.plans.Core.{Core}
-use Rattle.osplan.specs.declared.plans.Resource.{Resource}
-use Rattle.osplan.specs.declared.plans.Task.{Task}
-use Rattle.osplan.specs.Limits.{most_activations}
-use Rattle.osplan.specs.Objects.{core_actions, may_act, may_name}
+use Rattle.std.specs.{List.All, List.list_all, Option.option_map_or}
+use Rattle.osbase.specs.{declared.references.IsrRef.IsrRef, declared.references.Runner.Runner, declared.histories.Awaited.Awaited, declared.histories.Job.Job, declared.histories.Phase.Phase, declared.items.Agreement.Agreement, declared.items.Item.Item, declared.limits.TheConstants.ISRS, declared.limits.TheConstants.TASKS, History.job_count, Interrupts.isr_count, Phases.is_before_live, Phases.is_past_first_gate, declared.limits.TheConstants.RESOURCES}
+use Rattle.oscript.specs.{declared.Op.Op, Rows.objects_of, Runners.Row, declared.Action.Action, declared.Action.TheVariants.Perform, declared.Action.TheVariants.End}
+use Rattle.osplan.specs.{declared.plans.Core.Core, declared.plans.Resource.Resource, declared.plans.Task.Task, Limits.most_activations, Objects.core_actions, Objects.may_act, Objects.may_name, View.own_isr, View.own_task}
 use Rattle.osqueue.specs.declared.ready.TheConstants.{PRIORITIES}
-use Rattle.osplan.specs.View.{own_isr, own_task}
-use Rattle.osbase.specs.declared.limits.TheConstants.{RESOURCES}
 use Rattle.osrunner.specs.Rows.{row_at}
-use Rattle.osjobs.specs.Jobs.{Each, JobState}
-use Rattle.osjobs.specs.OwnTasks.{own_tasks}
-use Rattle.osjobs.specs.Priorities.{is_own_runner}
+use Rattle.osjobs.specs.{Jobs.Each, Jobs.JobState, OwnTasks.own_tasks, Priorities.is_own_runner}
 use Rattle.osclock.specs.Clocks.{AreClocks, ClockState}
-use Rattle.ostable.specs.Tables.{AreTables, TableStates}
-use Rattle.ostable.specs.Waiting.{all_wait_by_counter}
-use Rattle.osstate.specs.declared.progress.Progress.{Progress}
-use Rattle.osstate.specs.Readings.{script_of}
-use Rattle.osstate.specs.State.{BorderState, KernelState}
+use Rattle.ostable.specs.{Tables.AreTables, Tables.TableStates, Waiting.all_wait_by_counter}
+use Rattle.osprogress.specs.{declared.progress.Progress.Progress, Border.BorderState, Border.is_lock_known}
+use Rattle.osstate.specs.{Readings.script_of, State.KernelState}
 
 -- The first gate met no conflict of modes.
 abbrev pub is_agreed : Option Agreement → Bool
@@ -70,29 +44,10 @@ abbrev pub is_action_known : Core → Action → Bool
 is_action_known core (Perform op) = has_objects_of core op
 is_action_known core End = true
 
--- A post takes the front of the outbox.
-abbrev pub is_posted : Item → Bool
-is_posted (Item.Posted core) = true
-is_posted item = false
-
 -- The first gate's item.
 abbrev pub is_first_gate : Item → Bool
 is_first_gate (Item.Pass1 agreement) = true
 is_first_gate item = false
-
--- A letter's sender has a core number.
-abbrev pub is_sender_known : Item → Bool
-is_sender_known (Item.Received from number m) = nat_lt from.number CORES
-is_sender_known item = true
-
--- A spinlock that an item or a call names has a place among those that a core gets.
-abbrev pub is_lock_known : SpinlockId → Bool
-is_lock_known l = nat_lt l.index SPINLOCKS
-
-abbrev pub is_grant_known : Item → Bool
-is_grant_known (Item.Granted l) = is_lock_known l
-is_grant_known (Item.Tried l taken) = is_lock_known l
-is_grant_known item = true
 
 abbrev pub is_awaited_known : Awaited → Bool
 is_awaited_known (Awaited.Get l) = is_lock_known l

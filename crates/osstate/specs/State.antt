@@ -1,29 +1,13 @@
 -- The state that a kernel keeps, and when it stands for a history.
-use Rattle.std.specs.Prelude.{◌≡◌, ℕ, IsTrue, Option, List, length, map}
-use Rattle.osbase.specs.declared.references.CoreId.{CoreId}
-use Rattle.osbase.specs.declared.histories.GotSpinlock.{GotSpinlock}
-use Rattle.osbase.specs.declared.histories.OpenCall.{OpenCall}
-use Rattle.osbase.specs.declared.histories.Sent.{Sent}
+use Rattle.std.specs.Prelude.{◌≡◌, IsTrue, length, map}
+use Rattle.osbase.specs.{declared.references.CoreId.CoreId, Interrupts.entered_isrs, Interrupts.isr_jobs, Sets.core_ids, Spins.got_spinlocks}
 use Rattle.osbase.specs.History.{History, began_count, agreement_of, course_of, started_cores, live_jobs, current_task, giving_way, open_call, outbox, queued_count, received_count, item_count}
-use Rattle.osbase.specs.Interrupts.{entered_isrs, isr_jobs}
-use Rattle.osbase.specs.Sets.{core_ids}
-use Rattle.osbase.specs.Spins.{got_spinlocks}
 use Rattle.osplan.specs.View.{View}
-use Rattle.osjobs.specs.Jobs.{IsrState, JobState}
-use Rattle.osjobs.specs.OwnTasks.{own_tasks}
+use Rattle.osjobs.specs.{Jobs.IsrState, Jobs.JobState, OwnTasks.own_tasks}
 use Rattle.osclock.specs.Clocks.{ClockState, are_settings_granted, clocks_of}
 use Rattle.ostable.specs.Tables.{TableStates, tables_of}
-use Rattle.osstate.specs.declared.progress.Progress.{Progress}
+use Rattle.osprogress.specs.{declared.progress.Progress.Progress, Border.BorderState}
 use Rattle.osstate.specs.Readings.{phase_at, rows_of}
-
--- What crosses the core's border: the call that is open, the letters that wait to be posted, how many were queued for each core and
--- received from it, by core number, and the spinlocks that the core got, the newest first.
-pub record BorderState : Type 0 where
-  pub open_call : Option OpenCall
-  pub outbox : List Sent
-  pub queued : List ℕ
-  pub received : List ℕ
-  pub spins : List GotSpinlock
 
 -- What a kernel keeps, in groups: each field is one reading of the core's history.
 pub record KernelState : Type 0 where

@@ -3,11 +3,7 @@
 //! No function here takes memory.
 #![tactic(auto)]
 
-mod border;
-pub mod progress;
 mod scripts;
-mod slots;
 pub mod state;
 
-pub use progress::Progress;
 pub use state::CoreState;

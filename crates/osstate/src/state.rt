@@ -2,37 +2,24 @@
 
 ghost use Rattle.std.specs.Prelude.{◌≡◌, ◌==◌, ◌||◌, ◌<◌, ◌≤◌, ◌^◌, nat_lt, IsTrue, IsSome, IfSome, false, true, length, nat_le, Some, slice_get, slice_index, sum_by, []};
 ghost use Rattle.std.specs.List.{list_all};
-ghost use Rattle.osbase.specs.declared.limits.TheConstants.{CORES};
+ghost use Rattle.osbase.specs.{declared.limits.TheConstants.CORES, Interrupts.is_pending_among, Phases.is_before_live, Phases.is_past_first_gate, Sets.has_core};
 ghost use Rattle.osbase.specs.History.{Took, Printed, Noted, Opened, Queued, ResourceOccupied, ResourceReleased, InterruptsSuspended, InterruptsResumed, WentDown, Done, job_count, phase_after, same_core};
-ghost use Rattle.osbase.specs.Interrupts.{is_pending_among};
-ghost use Rattle.osbase.specs.Phases.{is_before_live, is_past_first_gate};
-ghost use Rattle.osbase.specs.Sets.{has_core};
-ghost use Rattle.osplan.specs.declared.plans.Resource.{Resource as ResourceValue};
-ghost use Rattle.osplan.specs.declared.plans.Task.{Task as TaskValue};
-ghost use Rattle.osplan.specs.Clocked.{are_clocks_within};
-ghost use Rattle.osplan.specs.Objects.{is_own_object};
-ghost use Rattle.osplan.specs.Stimuli.{knows_stimulus};
-ghost use Rattle.osplan.specs.View.{core_of, is_configured, view_of};
-ghost use Rattle.osjobs.specs.Jobs.{is_current, is_plain};
+ghost use Rattle.osplan.specs.{declared.plans.Resource.Resource as ResourceValue, declared.plans.Task.Task as TaskValue, Clocked.are_clocks_within, Objects.is_own_object, Stimuli.knows_stimulus, View.core_of, View.is_configured, View.view_of};
+ghost use Rattle.osjobs.specs.{Jobs.is_current, Jobs.is_plain, Locks.is_overheld};
 ghost use Rattle.osrunner.specs.Rows.{depth_in, events_in, frame_in, held_in, is_occupied, row_in, used_in};
 ghost use Rattle.osbudget.specs.Budget.{is_reached};
-ghost use Rattle.osjobs.specs.Locks.{is_overheld};
 ghost use Rattle.osjobs.specs.Priorities.{holds_any, is_extended, is_newest, is_own_runner, static_priority};
-ghost use Rattle.osstate.specs.Does.{HasRoom, Joins};
+ghost use Rattle.osprogress.specs.{Border.is_grant_known, Border.is_posted, Border.is_sender_known, Progress.Joins};
+ghost use Rattle.osstate.specs.{Does.HasRoom, State.state_of, Steps.next_letter, Steps.state_after};
 ghost use Rattle.osstate.specs.Queries.{best_in, is_at_limit_in, is_suspended, is_suspended_in, next_action_in, running_in};
 ghost use Rattle.osstate.specs.Readings.{best_job, budget_of, is_locked, is_this_core, is_pending, next_start, resource_of, script_of};
-ghost use Rattle.osstate.specs.Sound.{activation_limit, interrupt_limit, is_action_known, is_agreed, is_awaited_known, is_first_gate, is_grant_known, is_posted, is_sender_known};
-ghost use Rattle.osstate.specs.State.{state_of};
-ghost use Rattle.osstate.specs.Steps.{next_letter, state_after};
+ghost use Rattle.osstate.specs.Sound.{activation_limit, interrupt_limit, is_action_known, is_agreed, is_awaited_known, is_first_gate};
 
 mod alarms;
 mod spins;
 mod tables;
 
-use crate::border::{self, Border};
-use crate::progress::Progress;
 use crate::scripts::{budget_of, script_of};
-use crate::slots::SentSlot;
 use arrayvec::ArrayVec;
 use osbase::{
     Agreement, CORES, CoreId, CoreMode, CoreSet, Course, HeldResource, IsrRef, Item, Job, Letter,
@@ -44,6 +31,8 @@ use oscript::{Action, Frame};
 use osgot::Grants;
 use osjobs::Jobs;
 use osplan::{Config, Core, Protection, Task, own};
+use osprogress::border::{self, Border};
+use osprogress::{Progress, SentSlot};
 use ostable::Tables;
 use std::marker::Model;
 
@@ -66,8 +55,7 @@ impl<'a, const P: usize, const J: usize, const OUT: usize> Model for CoreState<'
 
     ghost Value = { KernelState };
 
-    ghost use Rattle.osstate.specs.Steps.{state_from};
-    ghost use Rattle.osstate.specs.Sound.{IsSound};
+    ghost use Rattle.osstate.specs.{Steps.state_from, Sound.IsSound};
 
     ghost view = { λ s. state_from s.config.now s.core.now s.progress s.jobs s.clocks s.tables (record { open_call = s.border.open_call; outbox = s.border.outbox.items; queued = s.border.queued; received = s.border.received; spins = s.border.spins }) };
 

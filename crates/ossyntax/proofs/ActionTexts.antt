@@ -1,26 +1,15 @@
 -- An operation's text is an action's exactly where the operation is one.
 use native.Mathlib.Omega.{arith}
 use Rattle.std.proofs.Common.{◌≡◌, ℕ, ◌&&◌, Bool, true, false, Option, Some, None, is_some, List, [], ◌∷◌, map, refl, sym, ap, ◌∙◌}
-use Rattle.std.specs.List.{list_all}
-use Rattle.std.specs.Option.{option_map_or}
+use Rattle.std.specs.{List.list_all, Option.option_map_or}
 use Rattle.std.proofs.lemmas.Bool.{true≢false}
-use Rattle.osbase.specs.declared.objects.ObjectKind.{ObjectKind}
-use Rattle.osbase.specs.declared.objects.Place.{Place}
-use Rattle.osbase.specs.Objects.{place_on}
-use Rattle.oscript.specs.declared.Op.{Op}
-use Rattle.oscript.specs.declared.rows.Arg.{Arg}
+use Rattle.osbase.specs.{declared.objects.ObjectKind.ObjectKind, declared.objects.Place.Place, Objects.place_on}
+use Rattle.oscript.specs.{declared.Op.Op, declared.rows.Arg.Arg, declared.rows.Kind.Kind, declared.rows.Verb.Verb, Rows.parsed_op_of, Rows.kinds_of, Rows.op_of}
 use Rattle.oscript.specs.declared.rows.Arg.TheVariants.{Core, Object, Mask, Number, Int, Variable}
-use Rattle.oscript.specs.declared.rows.Kind.{Kind}
-use Rattle.oscript.specs.declared.rows.Verb.{Verb}
-use Rattle.oscript.specs.Rows.{parsed_op_of, kinds_of, op_of}
 use Rattle.oscript.proofs.Homes.{at_home}
-use Rattle.ossyntax.specs.Action.{is_action, is_action_op}
-use Rattle.ossyntax.specs.ParsedOp.{form_of}
+use Rattle.ossyntax.specs.{Action.is_action, Action.is_action_op, ParsedOp.form_of}
 use Rattle.ossyntax.specs.Operation.{op_of_text, place_of_any, resolve_arg, resolve_args}
-use Rattle.ossyntax.proofs.KindTexts.{mapped}
-use Rattle.ossyntax.proofs.Meant.{any_of_text}
-use Rattle.ossyntax.proofs.Operations.{meant-form}
-use Rattle.ossyntax.proofs.RoundTrip.{both}
+use Rattle.ossyntax.proofs.{KindTexts.mapped, Meant.any_of_text, Operations.meant-form, RoundTrip.both}
 
 -- An operation is an action by its verb, whatever its object and its other arguments are, and where that object has a name, as is
 -- seen before the name is looked up.

@@ -2,25 +2,14 @@
 use Rattle.std.proofs.Common.{◌≡◌, ℕ, true, false, Option, Some, None, is_some, option_map, option_and_then, unwrap_or, List, [], ◌∷◌, map, refl, sym, ap, subst, ◌∙◌}
 use Rattle.std.specs.Option.{option_map_or}
 use Rattle.std.proofs.lemmas.Bool.{or_parts}
-use Rattle.osbase.specs.declared.objects.ObjectKind.{ObjectKind}
-use Rattle.osbase.specs.declared.objects.ObjectKind.TheVariants.{Alarm, Table}
-use Rattle.osbase.specs.declared.objects.Place.{Place}
-use Rattle.oscript.specs.declared.Op.{Op}
-use Rattle.oscript.specs.declared.Op.TheVariants.{Work}
-use Rattle.oscript.specs.declared.rows.Arg.{Arg}
-use Rattle.oscript.specs.declared.rows.Arg.TheVariants.{Mask, Number}
-use Rattle.oscript.specs.declared.rows.Kind.{Kind}
-use Rattle.oscript.specs.declared.rows.TheConstants.{POSITION, STATUS, TICKS}
-use Rattle.oscript.specs.declared.rows.Verb.{Verb}
+use Rattle.osbase.specs.{declared.objects.ObjectKind.ObjectKind, declared.objects.ObjectKind.TheVariants.Alarm, declared.objects.ObjectKind.TheVariants.Table, declared.objects.Place.Place}
+use Rattle.oscript.specs.{declared.Op.Op, declared.Op.TheVariants.Work, declared.rows.Arg.Arg, declared.rows.Arg.TheVariants.Mask, declared.rows.Arg.TheVariants.Number, declared.rows.Kind.Kind, declared.rows.TheConstants.POSITION, declared.rows.TheConstants.STATUS, declared.rows.TheConstants.TICKS, declared.rows.Verb.Verb}
 use Rattle.oscript.specs.Rows as rows
 use Rattle.oscript.specs.Rows.{kinds_of, refers_to_own_only, objects_of, op_of}
 use Rattle.ossyntax.specs.Word.{is_decimal, number_in}
 use Rattle.ossyntax.specs.ParsedOp.{and_then_rest, arg_of, form_of_words, verb_of, words_of}
 use Rattle.ossyntax.specs.Operation.{arg_of_word, args_of_words, is_formed, is_known, of_first, op_of_text, references_of_text, resolve_arg, resolved, unranged, op_with_verb, references_with_verb}
-use Rattle.ossyntax.proofs.KindTexts.{cond-some, mapped}
-use Rattle.ossyntax.proofs.Known.{formed-known, known_named}
-use Rattle.ossyntax.proofs.Meant.{meant-args, words_of_text}
-use Rattle.ossyntax.proofs.RoundTrip.{both, chained}
+use Rattle.ossyntax.proofs.{KindTexts.cond-some, KindTexts.mapped, Known.formed-known, Known.known_named, Meant.meant-args, Meant.words_of_text, RoundTrip.both, RoundTrip.chained}
 
 -- The operations differ in their numbers alone: all that is judged beside these is the same.
 pub record AreAlike (a b : Op) : Type 0 where

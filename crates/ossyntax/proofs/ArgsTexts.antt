@@ -2,11 +2,9 @@
 use Rattle.std.proofs.Common.{◌≡◌, ℕ, List, [], ◌∷◌, ◌++◌, map, sym, ap}
 use Rattle.std.specs.List.{join_with_byte}
 use Rattle.std.proofs.lemmas.List.{append-nil}
-use Rattle.osbase.specs.declared.objects.ObjectKind.{ObjectKind}
+use Rattle.osbase.specs.{declared.objects.ObjectKind.ObjectKind, declared.objects.Place.Place}
 use Rattle.oscript.specs.declared.rows.Arg.{Arg}
-use Rattle.osbase.specs.declared.objects.Place.{Place}
-use Rattle.ossyntax.specs.ParsedOp.{arg_text}
-use Rattle.ossyntax.specs.Operation.{named, args_text}
+use Rattle.ossyntax.specs.{ParsedOp.arg_text, Operation.named, Operation.args_text}
 
 pub joined : (name : ObjectKind → Place → List ℕ) (word : List ℕ) (args : List (Arg Place)) → join_with_byte 32 (word ∷ map arg_text (map (named name) args)) ≡ word ++ args_text name args
 joined name word [] = sym (append-nil word)

@@ -1,15 +1,9 @@
 -- Whether a text begins with a word, without looking for the end of its first one.
 use Rattle.std.proofs.Common.{inl, inr, ◌≡◌, ℕ, ◌==◌, true, false, not, List, [], ◌∷◌, ◌++◌, drop, find, length, Some, None, refl, sym, ap, subst, ◌∙◌}
-use Rattle.std.specs.List.{join_with_byte}
-use Rattle.std.specs.Str.{bytes_eq}
-use Rattle.std.proofs.lemmas.Bool.{and_parts, cases_Bool}
-use Rattle.std.proofs.lemmas.List.{append-nil, append_cancel_left}
-use Rattle.std.proofs.lemmas.List.Splits.{join_with_byte-slice_split}
-use Rattle.std.proofs.lemmas.Option.{same_Some}
-use Rattle.std.proofs.lemmas.Slice.Eq.{bytes_eq-Decides}
+use Rattle.std.specs.{List.join_with_byte, Str.bytes_eq}
+use Rattle.std.proofs.{lemmas.Bool.and_parts, lemmas.Bool.cases_Bool, lemmas.List.append-nil, lemmas.List.append_cancel_left, lemmas.List.Splits.join_with_byte-slice_split, lemmas.Option.same_Some, lemmas.Slice.Eq.bytes_eq-Decides}
 use Rattle.osbase.specs.Names.{is_name_part}
-use Rattle.oscript.specs.declared.rows.Verb.{Verb}
-use Rattle.oscript.specs.Rows.{word_of}
+use Rattle.oscript.specs.{declared.rows.Verb.Verb, Rows.word_of}
 use Rattle.ossyntax.specs.ParsedOp.{first_read, is_first, words_behind, words_of}
 use Rattle.ossyntax.proofs.Joining.{all-none, has_none, split-cut, split-lone}
 use Rattle.ossyntax.proofs.Rows.{is-row}

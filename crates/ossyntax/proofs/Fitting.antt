@@ -1,23 +1,16 @@
 -- What is read as an argument of a kind is one of the kind.
 use Rattle.std.proofs.Common.{inl, inr, ◌≡◌, ℕ, ◌-◌, ◌==◌, ◌&&◌, ◌≤◌, ℤ, pos, negsuc, nat_le, true, Option, Some, None, option_map, unwrap_or, List, [], ◌∷◌, codes, refl, sym, subst, arith}
-use Rattle.std.specs.Option.{option_map_or}
-use Rattle.std.specs.Str.{bytes_eq}
-use Rattle.std.specs.Str.Parse.{digits_value}
+use Rattle.std.specs.{Option.option_map_or, Str.bytes_eq, Str.Parse.digits_value}
 use Rattle.std.proofs.lemmas.Bool.{and_parts, and_from, le-leb, leb-true}
-use Rattle.osbase.specs.declared.objects.ObjectKind.{ObjectKind}
-use Rattle.osbase.specs.declared.objects.Place.{Place}
-use Rattle.osbase.specs.declared.references.CoreId.{CoreId}
+use Rattle.osbase.specs.{declared.objects.ObjectKind.ObjectKind, declared.objects.Place.Place, declared.references.CoreId.CoreId}
 use Rattle.osbase.proofs.Same.{same_kind-self}
-use Rattle.oscript.specs.declared.rows.Kind.{Kind}
-use Rattle.oscript.specs.declared.rows.Verb.{Verb}
-use Rattle.oscript.specs.declared.rows.Arg.{Arg}
+use Rattle.oscript.specs.{declared.rows.Kind.Kind, declared.rows.Verb.Verb, declared.rows.Arg.Arg}
 use Rattle.oscript.specs.declared.rows.Arg.TheVariants.{Core, Object, Mask, Number, Int, Variable}
 use Rattle.oscript.specs.Rows.{are_of, is_int, is_of, kinds_of}
 use Rattle.ossyntax.specs.ParsedOp.{arg_of, args_of, form_of_verb, form_of_words, verb_of}
 use Rattle.ossyntax.specs.Operation.{resolve_arg, resolve_args}
 use Rattle.ossyntax.specs.Word.{bounded, core_numbered, core_of, int_of, is_decimal, mask_of, number_in, target_of, variable_of}
-use Rattle.ossyntax.proofs.KindTexts.{cond-some, either, mapped}
-use Rattle.ossyntax.proofs.RoundTrip.{both, chained}
+use Rattle.ossyntax.proofs.{KindTexts.cond-some, KindTexts.either, KindTexts.mapped, RoundTrip.both, RoundTrip.chained}
 
 -- ---- numbers and variables
 

@@ -1,25 +1,15 @@
 -- Each kind of argument: its text, once for each kind.
 use Rattle.std.proofs.Common.{rules, inl, inr, ◌≡◌, ℕ, zero, suc, ◌-◌, ◌+◌, ◌⊎◌, ◌≤◌, ◌<◌, ◌^◌, ◌==◌, ◌&&◌, ◌||◌, ℤ, pos, negsuc, Bool, true, false, not, cond, nat_le, Option, Some, None, option_map, unwrap_or, List, [], ◌∷◌, length, get_or, codes, refl, sym, ap, ◌∙◌, arith}
-use Rattle.std.specs.Char.{is_ascii_digit, is_ascii_alphabetic}
-use Rattle.std.specs.Fmt.{decimal}
-use Rattle.std.specs.Int.{is_in_range}
-use Rattle.std.specs.List.{list_all}
-use Rattle.std.specs.Str.{bytes_eq}
+use Rattle.std.specs.{Char.is_ascii_digit, Char.is_ascii_alphabetic, Fmt.decimal, Int.is_in_range, List.list_all, Str.bytes_eq}
 use Rattle.std.proofs.lemmas.Bool.{and_parts, and_from, not_from_false, cases_Bool, true≢false}
 use Rattle.std.proofs.lemmas.Fmt.{decimal_digit, decimal_nonempty, first_decimal, digits_decimal, digits_value-decimal}
-use Rattle.std.proofs.lemmas.Slice.Eq.{bytes_eq-Decides}
-use Rattle.std.proofs.lemmas.Grind.{common_steps}
-use Rattle.oscript.specs.declared.rows.Kind.{Kind}
-use Rattle.osbase.specs.declared.objects.ObjectKind.{ObjectKind}
-use Rattle.oscript.specs.declared.rows.Arg.{Arg}
+use Rattle.std.proofs.{lemmas.Slice.Eq.bytes_eq-Decides, lemmas.Grind.common_steps}
+use Rattle.oscript.specs.{declared.rows.Kind.Kind, declared.rows.Arg.Arg, Rows.is_int}
+use Rattle.osbase.specs.{declared.objects.ObjectKind.ObjectKind, Names.is_name, Names.is_name_part, declared.references.CoreId.CoreId}
 use Rattle.oscript.specs.declared.rows.Arg.TheVariants.{Core, Object, Mask, Number, Int, Variable}
-use Rattle.osbase.specs.Names.{is_name, is_name_part}
-use Rattle.oscript.specs.Rows.{is_int}
-use Rattle.osbase.specs.declared.references.CoreId.{CoreId}
 use Rattle.ossyntax.specs.Word.{core_numbered, core_of, is_unpadded, is_decimal, mask_of, number_in, int_of, variable_of, target_of}
 use Rattle.ossyntax.specs.ParsedOp.{arg_of, arg_text}
-use Rattle.ossyntax.proofs.Numerals.{own, int_of-plain, decimal-digits}
-use Rattle.ossyntax.proofs.Joining.{has_none, not-byte, all-none}
+use Rattle.ossyntax.proofs.{Numerals.own, Numerals.int_of-plain, Numerals.decimal-digits, Joining.has_none, Joining.not-byte, Joining.all-none}
 
 -- ---- tests and options
 

@@ -1,21 +1,13 @@
 -- Whether names have their places, where a text is in form.
 use Rattle.std.proofs.Common.{◌≡◌, ℕ, ◌||◌, not, Bool, true, false, Option, Some, None, is_some, find, map, option_map, option_and_then, unwrap_or, List, [], ◌∷◌, refl, sym, ap, ◌∙◌}
-use Rattle.std.specs.Option.{option_map_or}
-use Rattle.std.specs.Str.{bytes_eq}
-use Rattle.osbase.specs.declared.objects.ObjectKind.{ObjectKind}
-use Rattle.osbase.specs.declared.objects.Place.{Place}
-use Rattle.oscript.specs.Rows.{kinds_of, op_of, word_of}
-use Rattle.oscript.specs.declared.rows.TheConstants.{VERBS}
-use Rattle.oscript.specs.declared.rows.Kind.{Kind}
-use Rattle.oscript.specs.declared.rows.Verb.{Verb}
-use Rattle.oscript.specs.declared.rows.Arg.{Arg}
-use Rattle.oscript.specs.declared.rows.Arg.TheVariants.{Mask, Number}
+use Rattle.std.specs.{Option.option_map_or, Str.bytes_eq}
+use Rattle.osbase.specs.{declared.objects.ObjectKind.ObjectKind, declared.objects.Place.Place}
+use Rattle.oscript.specs.{Rows.kinds_of, Rows.op_of, Rows.word_of, declared.rows.TheConstants.VERBS, declared.rows.Kind.Kind, declared.rows.Verb.Verb, declared.rows.Arg.Arg, declared.rows.Arg.TheVariants.Mask, declared.rows.Arg.TheVariants.Number}
 use Rattle.ossyntax.specs.Word.{is_decimal, number_in}
 use Rattle.ossyntax.specs.ParsedOp.{arg_of, args_of, form_of, form_of_verb, form_of_words, is_first, verb_of, words_behind, words_of}
 use Rattle.ossyntax.specs.Operation.{is_formed, is_known, is_verb_known, of_first, op_of_text, references_of_text, place_of_any, read_args, resolve_arg, resolve_args, resolved, unranged, references_with_verb}
-use Rattle.ossyntax.proofs.KindTexts.{cond-some, mapped}
+use Rattle.ossyntax.proofs.{KindTexts.cond-some, KindTexts.mapped, RoundTrip.both, RoundTrip.chained}
 use Rattle.ossyntax.proofs.Meant.{any-args, any-two, find-passes, is-mapped, meant-args}
-use Rattle.ossyntax.proofs.RoundTrip.{both, chained}
 
 -- ---- by the first word
 

@@ -1,14 +1,10 @@
 -- What is left of a text for a last argument is one word, since no argument has a space.
 use Rattle.std.proofs.Common.{inl, inr, ◌≡◌, ℕ, ◌<◌, ◌==◌, ◌&&◌, not, false, Option, Some, None, option_map, List, [], ◌∷◌, length, refl, sym, ap, ◌∙◌, arith}
 use Rattle.std.specs.List.{onto_first}
-use Rattle.std.proofs.lemmas.Bool.{cases_Bool, true≢false}
-use Rattle.std.proofs.lemmas.List.Splits.{length-slice_split}
-use Rattle.oscript.specs.declared.rows.Kind.{Kind}
-use Rattle.oscript.specs.declared.rows.Arg.{Arg}
+use Rattle.std.proofs.{lemmas.Bool.cases_Bool, lemmas.Bool.true≢false, lemmas.List.Splits.length-slice_split}
+use Rattle.oscript.specs.{declared.rows.Kind.Kind, declared.rows.Arg.Arg}
 use Rattle.ossyntax.specs.ParsedOp.{words_of, arg_of, and_then_rest, args_of}
-use Rattle.ossyntax.proofs.Joining.{has_none, split-lone}
-use Rattle.ossyntax.proofs.KindTexts.{arg_of-none}
-use Rattle.ossyntax.proofs.RoundTrip.{space-apart}
+use Rattle.ossyntax.proofs.{Joining.has_none, Joining.split-lone, KindTexts.arg_of-none, RoundTrip.space-apart}
 
 onto-many : (x : ℕ) (ws : List (List ℕ)) → 1 < length ws → 1 < length (onto_first x ws)
 onto-many x [] many = absurd (omega arith)

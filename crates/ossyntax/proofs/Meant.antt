@@ -2,21 +2,15 @@
 use Rattle.std.proofs.Common.{inl, inr, ◌≡◌, ℕ, Bool, true, Option, Some, None, is_some, find, option_map, option_and_then, List, [], ◌∷◌, codes, refl, sym, ap, subst, ◌∙◌}
 use Rattle.std.specs.Str.{bytes_eq}
 use Rattle.std.proofs.lemmas.Bool.{cases_Bool}
-use Rattle.osbase.specs.declared.objects.ObjectKind.{ObjectKind}
-use Rattle.osbase.specs.declared.objects.Place.{Place}
+use Rattle.osbase.specs.{declared.objects.ObjectKind.ObjectKind, declared.objects.Place.Place, Names.is_name}
 use Rattle.osbase.proofs.Same.{same_kind-self}
-use Rattle.osbase.specs.Names.{is_name}
 use Rattle.oscript.specs.Rows.{kinds_of, op_of, ref_at, word_of}
-use Rattle.oscript.specs.declared.rows.TheConstants.{VERBS}
-use Rattle.oscript.specs.declared.rows.Kind.{Kind}
-use Rattle.oscript.specs.declared.rows.Verb.{Verb}
-use Rattle.oscript.specs.declared.rows.Arg.{Arg}
+use Rattle.oscript.specs.{declared.rows.TheConstants.VERBS, declared.rows.Kind.Kind, declared.rows.Verb.Verb, declared.rows.Arg.Arg}
 use Rattle.oscript.specs.declared.rows.Arg.TheVariants.{Core, Object, Mask, Number, Int, Variable}
 use Rattle.ossyntax.specs.Word.{core_of, mask_of, number_in, int_of, variable_of}
 use Rattle.ossyntax.specs.ParsedOp.{is_first, words_behind, words_of, arg_of, args_of, and_then_rest, verb_of, form_of_verb, form_of_words}
 use Rattle.ossyntax.specs.Operation.{resolve_arg, resolve_args, resolved, arg_of_word, args_of_words, place_of_any, last_of, op_with_verb, op_of_text, is_formed}
-use Rattle.ossyntax.proofs.LastWord.{last-word, lone-rest, rest-none}
-use Rattle.ossyntax.proofs.Wording.{args_left}
+use Rattle.ossyntax.proofs.{LastWord.last-word, LastWord.lone-rest, LastWord.rest-none, Wording.args_left}
 
 pub find-passes : {X : Type 0} (p : X → Bool) (xs : List X) (x : X) → find p xs ≡ Some x → p x ≡ true
 find-passes p [] x e = cc

@@ -1,11 +1,7 @@
 -- Numbers and their words.
 use Rattle.std.proofs.Common.{rules, ◌≡◌, ◌≢◌, ℕ, ◌<◌, ◌≤◌, ◌^◌, ◌==◌, ◌&&◌, true, false, List, [], ◌∷◌, length, get_or, pos, option_map, None, Err, refl, sym, ap, ◌∙◌, arith}
-use Rattle.std.specs.Char.{is_ascii_digit}
-use Rattle.std.specs.List.{list_all}
-use Rattle.std.specs.Str.Parse.{digits_value, ParsesUnsigned}
-use Rattle.std.proofs.lemmas.Bool.{and_parts}
-use Rattle.std.proofs.lemmas.Str.Parse.{IsNumeralModel, numerals_by_value, parse_plain}
-use Rattle.std.proofs.lemmas.Grind.{common_steps}
+use Rattle.std.specs.{Char.is_ascii_digit, List.list_all, Str.Parse.digits_value, Str.Parse.ParsesUnsigned}
+use Rattle.std.proofs.{lemmas.Bool.and_parts, lemmas.Str.Parse.IsNumeralModel, lemmas.Str.Parse.numerals_by_value, lemmas.Str.Parse.parse_plain, lemmas.Grind.common_steps}
 use Rattle.ossyntax.specs.Word.{is_unpadded, is_decimal, bounded, number_in, int_of}
 
 pub own : IsNumeralModel (λ ds. list_all is_ascii_digit ds ≡ true) (digits_value 10)

@@ -1,30 +1,17 @@
 -- Operations and their texts, there and back, by what names stand for.
 use Rattle.std.proofs.Common.{◌≡◌, ℕ, ◌==◌, ◌≤◌, nat_le, not, Bool, true, false, Option, Some, None, is_some, option_map, option_and_then, List, [], ◌∷◌, length, map, refl, sym, ap, ◌∙◌, arith}
-use Rattle.std.specs.List.{list_all}
-use Rattle.std.specs.Option.{option_map_or}
+use Rattle.std.specs.{List.list_all, Option.option_map_or}
 use Rattle.std.proofs.lemmas.Bool.{and_parts, and_from, false≢true, leb-true}
-use Rattle.osbase.specs.declared.objects.ObjectKind.{ObjectKind}
-use Rattle.osbase.specs.declared.objects.Place.{Place}
-use Rattle.osbase.specs.declared.objects.Object.{Object as Named}
-use Rattle.osbase.specs.Names.{is_name}
-use Rattle.oscript.specs.declared.Op.{Op}
-use Rattle.oscript.specs.declared.rows.Kind.{Kind}
-use Rattle.oscript.specs.declared.rows.Arg.{Arg}
+use Rattle.osbase.specs.{declared.objects.ObjectKind.ObjectKind, declared.objects.Place.Place, declared.objects.Object.Object as Named, Names.is_name}
+use Rattle.oscript.specs.{declared.Op.Op, declared.rows.Kind.Kind, declared.rows.Arg.Arg, declared.rows.Verb.Verb}
 use Rattle.oscript.specs.declared.rows.Arg.TheVariants.{Core, Object, Mask, Number, Int, Variable}
-use Rattle.oscript.specs.declared.rows.Verb.{Verb}
 use Rattle.oscript.specs.Rows as rows
 use Rattle.oscript.specs.Rows.{are_of, parsed_op_of, has_event, is_in_form, is_of, kinds_of, objects_in, objects_of, op_of}
-use Rattle.oscript.proofs.Arguments.{rest-pass}
-use Rattle.oscript.proofs.Homes.{args-home, at_home, home}
+use Rattle.oscript.proofs.{Arguments.rest-pass, Homes.args-home, Homes.at_home, Homes.home}
 use Rattle.ossyntax.specs.ParsedOp.{form_of, words_of}
 use Rattle.ossyntax.specs.Operation.{resolve_arg, resolve_args, resolved, named, op_of_text, place_of_any, has_masks, is_formed, is_known, op_text}
-use Rattle.ossyntax.proofs.Alike.{named-alike}
-use Rattle.ossyntax.proofs.Joining.{has_none}
+use Rattle.ossyntax.proofs.{Alike.named-alike, Joining.has_none, Known.form-known, Meant.any_of_text, Rows.is-row, Rows.is-op, Fitting.args-fit, Fitting.formed-args}
 use Rattle.ossyntax.proofs.KindTexts.{mapped, is_kind, ReadsBack, invalid-back, name-back, mask-back, number-back, int-back, variable-back, core-back, IsApart}
-use Rattle.ossyntax.proofs.Known.{form-known}
-use Rattle.ossyntax.proofs.Meant.{any_of_text}
-use Rattle.ossyntax.proofs.Rows.{is-row, is-op}
-use Rattle.ossyntax.proofs.Fitting.{args-fit, formed-args}
 use Rattle.osbase.proofs.Same.{same_kind-true}
 use Rattle.ossyntax.proofs.RoundTrip.{both, chained, AreArgs, form_text-back, form_text-none, form_text-some}
 

@@ -3,10 +3,7 @@ use Rattle.std.proofs.Common.{◌≡◌, ℕ, ◌==◌, not, true, false, Option
 use Rattle.std.specs.List.{list_all}
 use Rattle.std.proofs.lemmas.Bool.{and_parts, and_from}
 use Rattle.osbase.specs.Names.{is_name_part}
-use Rattle.oscript.specs.declared.rows.Kind.{Kind}
-use Rattle.oscript.specs.declared.rows.Verb.{Verb}
-use Rattle.oscript.specs.declared.rows.Arg.{Arg}
-use Rattle.oscript.specs.Rows.{word_of, kinds_of}
+use Rattle.oscript.specs.{declared.rows.Kind.Kind, declared.rows.Verb.Verb, declared.rows.Arg.Arg, Rows.word_of, Rows.kinds_of}
 use Rattle.ossyntax.specs.ParsedOp.{arg_of, and_then_rest, args_of, form_of_verb, form_of_words, form_of, arg_text, form_text}
 use Rattle.ossyntax.proofs.Joining.{has_none, split-joined, joined-none, joined-some, all-none}
 use Rattle.ossyntax.proofs.KindTexts.{mapped, arg_of-none, ReadsBack, IsApart}

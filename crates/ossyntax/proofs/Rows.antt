@@ -4,14 +4,9 @@ use native.Mathlib.Omega.{arith}
 use Rattle.std.proofs.Common.{◌≡◌, ℕ, ◌<◌, ◌≤◌, ◌==◌, ◌&&◌, nat_le, not, Bool, true, false, Some, List, [], ◌∷◌, length, map, refl, ap}
 use Rattle.std.specs.List.{list_all}
 use Rattle.std.proofs.lemmas.Bool.{and_parts, false≢true, leb-true}
-use Rattle.osbase.specs.declared.objects.Place.{Place}
-use Rattle.osbase.specs.Names.{is_name_part}
+use Rattle.osbase.specs.{declared.objects.Place.Place, Names.is_name_part}
 use Rattle.osbase.proofs.StatusNumbers.{number_back}
-use Rattle.oscript.specs.declared.Op.{Op}
-use Rattle.oscript.specs.declared.rows.Verb.{Verb}
-use Rattle.oscript.specs.declared.rows.Arg.{Arg}
-use Rattle.oscript.specs.declared.rows.Arg.TheVariants.{Number}
-use Rattle.oscript.specs.declared.rows.TheConstants.{STATUS}
+use Rattle.oscript.specs.{declared.Op.Op, declared.rows.Verb.Verb, declared.rows.Arg.Arg, declared.rows.Arg.TheVariants.Number, declared.rows.TheConstants.STATUS}
 use Rattle.oscript.specs.Rows.{are_of, parsed_op_of, is_of, kinds_of, op_of, status_argument, status_at, word_of}
 use Rattle.oscript.proofs.Homes.{at_home}
 use Rattle.ossyntax.specs.ParsedOp.{verb_of}

@@ -1,8 +1,7 @@
 -- Texts of actions: the operations that an alarm or a schedule table can do. [AUTOSAR SWS OS 4.x, OsAlarmAction; the texts are own]
 use Rattle.std.specs.Prelude.{ℕ, Bool, false, is_some, List}
 use Rattle.std.specs.Option.{option_map_or}
-use Rattle.oscript.specs.Calls.{action_of_op}
-use Rattle.oscript.specs.declared.Op.{Op}
+use Rattle.oscript.specs.{Calls.action_of_op, declared.Op.Op}
 use Rattle.ossyntax.specs.Operation.{op_of_text, place_of_any}
 
 -- The operation is an action: a call that an alarm may make, on an object that it names.

@@ -1,14 +1,8 @@
 -- Calls across cores as words. [own]
 use Rattle.std.specs.Prelude.{ℕ, List, ◌∷◌, map}
-use Rattle.osbase.specs.declared.objects.ObjectKind.{ObjectKind}
-use Rattle.osbase.specs.declared.objects.Place.{Place}
-use Rattle.osbase.specs.declared.messages.RemoteCall.{RemoteCall}
-use Rattle.oscript.specs.Calls.{op_of_call}
-use Rattle.oscript.specs.Rows.{parsed_op_of, word_of}
-use Rattle.oscript.specs.declared.rows.Arg.{Arg}
-use Rattle.oscript.specs.declared.rows.Verb.{Verb}
-use Rattle.ossyntax.specs.ParsedOp.{arg_text}
-use Rattle.ossyntax.specs.Operation.{named}
+use Rattle.osbase.specs.{declared.objects.ObjectKind.ObjectKind, declared.objects.Place.Place, declared.messages.RemoteCall.RemoteCall}
+use Rattle.oscript.specs.{Calls.op_of_call, Rows.parsed_op_of, Rows.word_of, declared.rows.Arg.Arg, declared.rows.Verb.Verb}
+use Rattle.ossyntax.specs.{ParsedOp.arg_text, Operation.named}
 
 -- The words of a form: the operation's, and those of its arguments.
 abbrev pub form_words : (ObjectKind → Place → List ℕ) → Verb × List (Arg Place) → List (List ℕ)

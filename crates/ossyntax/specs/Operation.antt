@@ -1,17 +1,10 @@
 -- Operations and their texts, by what names stand for. [own]
 use Rattle.std.specs.Prelude.{ℕ, ◌++◌, if◌then◌else◌, Bool, true, Option, Some, None, is_some, option_map, option_and_then, List, [], ◌∷◌, map}
-use Rattle.std.specs.Borrow.{Bor}
-use Rattle.std.specs.Option.{option_map_or}
-use Rattle.osbase.specs.Names.{is_name}
-use Rattle.osbase.specs.declared.objects.ObjectKind.{ObjectKind}
-use Rattle.osbase.specs.declared.objects.Place.{Place}
-use Rattle.oscript.specs.declared.Op.{Op}
-use Rattle.oscript.specs.declared.rows.Verb.{Verb}
-use Rattle.oscript.specs.declared.rows.Arg.{Arg}
-use Rattle.oscript.specs.declared.rows.Kind.{Kind}
+use Rattle.std.specs.{Borrow.Bor, Option.option_map_or}
+use Rattle.osbase.specs.{Names.is_name, declared.objects.ObjectKind.ObjectKind, declared.objects.Place.Place}
+use Rattle.oscript.specs.{declared.Op.Op, declared.rows.Verb.Verb, declared.rows.Arg.Arg, declared.rows.Kind.Kind, Rows.op_of, Rows.parsed_op_of, Rows.kinds_of}
 use Rattle.oscript.specs.declared.rows.Arg.TheVariants.{Core, Object, Mask, Number, Int, Variable}
 use Rattle.oscript.specs.Rows as rows
-use Rattle.oscript.specs.Rows.{op_of, parsed_op_of, kinds_of}
 use Rattle.ossyntax.specs.ParsedOp.{and_then_rest, arg_of, args_of, form_of, form_text, arg_text, rest_words, verb_of, words_of}
 
 -- ---- from names to places

@@ -1,16 +1,8 @@
 -- What an operation's text says: its verb and its arguments, whose names are not looked up yet. [own]
 use Rattle.std.specs.Prelude.{ℕ, ◌==◌, Bool, false, if◌then◌else◌, Option, Some, None, option_map, option_and_then, List, [], ◌∷◌, drop, map, find, codes}
-use Rattle.std.specs.Borrow.{Bor}
-use Rattle.std.specs.List.{slice_split, join_with_byte}
-use Rattle.std.specs.Option.{option_or}
-use Rattle.std.specs.Str.{bytes_eq}
-use Rattle.std.specs.Fmt.{decimal, signed_decimal}
-use Rattle.oscript.specs.declared.rows.Verb.{Verb}
-use Rattle.oscript.specs.declared.rows.Kind.{Kind}
-use Rattle.oscript.specs.declared.rows.TheConstants.{VERBS}
-use Rattle.oscript.specs.declared.rows.Arg.{Arg}
+use Rattle.std.specs.{Borrow.Bor, List.slice_split, List.join_with_byte, Option.option_or, Str.bytes_eq, Fmt.decimal, Fmt.signed_decimal}
+use Rattle.oscript.specs.{declared.rows.Verb.Verb, declared.rows.Kind.Kind, declared.rows.TheConstants.VERBS, declared.rows.Arg.Arg, Rows.word_of, Rows.kinds_of}
 use Rattle.oscript.specs.declared.rows.Arg.TheVariants.{Core, Object, Mask, Number, Int, Variable}
-use Rattle.oscript.specs.Rows.{word_of, kinds_of}
 use Rattle.ossyntax.specs.Word.{core_of, mask_of, number_in, int_of, variable_of, target_of}
 
 -- ---- reading

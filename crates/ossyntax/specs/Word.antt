@@ -1,11 +1,7 @@
 -- Numbers, variables and names, each a word of an operation. [own]
 use Rattle.std.specs.Prelude.{ℕ, ◌-◌, ◌==◌, ◌&&◌, ℤ, pos, negsuc, nat_le, Bool, true, false, not, Option, Some, None, option_map, unwrap_or, if◌then◌else◌, List, [], ◌∷◌, codes}
-use Rattle.std.specs.Char.{is_ascii_digit}
-use Rattle.std.specs.List.{list_all}
-use Rattle.std.specs.Str.{bytes_eq}
-use Rattle.std.specs.Str.Parse.{digits_value}
-use Rattle.osbase.specs.Names.{is_name}
-use Rattle.osbase.specs.declared.references.CoreId.{CoreId}
+use Rattle.std.specs.{Char.is_ascii_digit, List.list_all, Str.bytes_eq, Str.Parse.digits_value}
+use Rattle.osbase.specs.{Names.is_name, declared.references.CoreId.CoreId}
 
 -- A decimal number without leading zeros.
 abbrev pub is_unpadded : List ℕ → Bool

@@ -1,8 +1,7 @@
 //! Numbers, variables and names, each a word of an operation.
 
 ghost use Rattle.std.specs.Prelude.{◌≡◌, ◌≤◌, ◌-◌, negsuc, IfSome};
-ghost use Rattle.std.specs.Char.{is_ascii_digit};
-ghost use Rattle.std.specs.List.{list_all};
+ghost use Rattle.std.specs.{Char.is_ascii_digit, List.list_all};
 ghost use Rattle.ossyntax.specs.Word.{core_of, is_unpadded, is_decimal, mask_of, number_in, int_of, variable_of};
 
 use osbase::CoreId;

@@ -1,9 +1,7 @@
 //! Reading: operations in form, with the places of their names.
 
 ghost use Rattle.std.specs.Prelude.{◌≡◌, ◌∷◌, [], map, option_map, List};
-ghost use Rattle.oscript.specs.declared.rows.Arg.{Arg};
-ghost use Rattle.oscript.specs.declared.rows.Kind.{Kind};
-ghost use Rattle.oscript.specs.Rows.{items, ref_at, word_of};
+ghost use Rattle.oscript.specs.{declared.rows.Arg.Arg, declared.rows.Kind.Kind, Rows.items, Rows.ref_at, Rows.word_of};
 ghost use Rattle.ossyntax.specs.ParsedOp.{first_read, rest_words, verb_and_words, words_behind, words_of};
 ghost use Rattle.ossyntax.specs.Operation.{arg_of_word, args_after, args_of_words, has_masks, is_known, last_of, op_of_text, references_of_text, three_of, two_of, unranged, op_with_verb, references_with_verb};
 

@@ -1,9 +1,7 @@
 //! Where the objects of names stand.
 
 ghost use Rattle.std.specs.Prelude.{◌≡◌, ℕ, List, Option, IfSome, true};
-ghost use Rattle.osbase.specs.Names.{is_name};
-ghost use Rattle.osbase.specs.declared.objects.ObjectKind.{ObjectKind as KindOfObject};
-ghost use Rattle.osbase.specs.declared.objects.Place.{Place as Where};
+ghost use Rattle.osbase.specs.{Names.is_name, declared.objects.ObjectKind.ObjectKind as KindOfObject, declared.objects.Place.Place as Where};
 
 use osbase::{CoreId, ObjectKind, Place, is_name};
 

@@ -1,10 +1,8 @@
 //! Writing: the text of an operation.
 
 ghost use Rattle.std.specs.Prelude.{◌≡◌, ◌∷◌, ◌++◌, ℕ, List, OnOk, IfOk, string_bytes};
-ghost use Rattle.osbase.specs.declared.objects.ObjectKind.{ObjectKind as KindOfObject};
-ghost use Rattle.osbase.specs.declared.objects.Place.{Place as Where};
-ghost use Rattle.oscript.specs.Rows.{items};
-ghost use Rattle.oscript.specs.Rows.{form_view};
+ghost use Rattle.osbase.specs.{declared.objects.ObjectKind.ObjectKind as KindOfObject, declared.objects.Place.Place as Where};
+ghost use Rattle.oscript.specs.{Rows.items, Rows.form_view};
 ghost use Rattle.ossyntax.specs.ParsedOp.{arg_text, form_text};
 ghost use Rattle.ossyntax.specs.Operation.{args_text, named, named_form, op_text};
 

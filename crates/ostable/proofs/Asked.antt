@@ -1,30 +1,15 @@
 -- What is asked of a core's tables is what is asked of its history.
 use Rattle.std.proofs.Common.{◌≡◌, ℕ, zero, suc, ◌+◌, ◌<◌, ◌≤◌, Bool, true, false, cond, Option, Some, None, option_map, filter, filter_map, length, List, [], ◌∷◌, map, refl, ap, ◌∙◌, arith}
-use Rattle.std.specs.List.{cons_option, find, list_all}
-use Rattle.std.specs.Option.{option_map_or}
+use Rattle.std.specs.{List.cons_option, List.find, List.list_all, Option.option_map_or}
 use Rattle.std.proofs.lemmas.Bool.{and_from}
-use Rattle.osbase.specs.declared.references.CounterRef.{CounterRef}
-use Rattle.osbase.specs.declared.references.TableRef.{TableRef}
+use Rattle.osbase.specs.{declared.references.CounterRef.CounterRef, declared.references.TableRef.TableRef, History.History, History.Entry, Objects.table_object, Sets.numbers_from}
 use Rattle.osbase.specs.Counting.{TableState, Stopped, NextOf, Running, counted_once, table_state}
-use Rattle.osbase.specs.History.{History, Entry}
-use Rattle.osbase.specs.Objects.{table_object}
-use Rattle.osbase.specs.Sets.{numbers_from}
-use Rattle.osplan.specs.declared.plans.Core.{Core}
-use Rattle.osplan.specs.declared.plans.Table.{Table as TablePlan}
-use Rattle.osplan.specs.Clocked.{are_clocks_within}
-use Rattle.osplan.specs.Objects.{is_own_object}
-use Rattle.osplan.specs.View.{own_table}
+use Rattle.osplan.specs.{declared.plans.Core.Core, declared.plans.Table.Table as TablePlan, Clocked.are_clocks_within, Objects.is_own_object, View.own_table}
 use Rattle.osplan.proofs.Tests.{find-passes}
-use Rattle.ostable.specs.declared.table.Due.{Due}
-use Rattle.ostable.specs.declared.table.Table.{Table}
+use Rattle.ostable.specs.{declared.table.Due.Due, declared.table.Table.Table, Waiting.are_own}
 use Rattle.ostable.specs.Ahead.{due_at, due_next, status_of, table_at}
 use Rattle.ostable.specs.Tables.{AreTables, TableStates, due_by, due_in, due_table, due_table_by, due_tables_by, due_tables_in, is_next_in, is_timed_by, next_by, next_in, state_by, status_in, table_in, table_ref, table_refs, tables_by, tables_of, timed_by, waits_for}
-use Rattle.ostable.specs.Waiting.{are_own}
-use Rattle.ostable.proofs.Law.{after, read, table-there}
-use Rattle.ostable.proofs.Listed.{timed-own}
-use Rattle.ostable.proofs.Places.{table-own}
-use Rattle.ostable.proofs.Runs.{due-at}
-use Rattle.ostable.proofs.Timed.{timed}
+use Rattle.ostable.proofs.{Law.after, Law.read, Law.table-there, Listed.timed-own, Places.table-own, Runs.due-at, Timed.timed}
 
 -- The tables after an entry are tables again.
 pub kept : (core : Core) (e : Entry) (x : TableStates) → AreTables core x → AreTables core (tables_by core e x)

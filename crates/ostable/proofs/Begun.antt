@@ -2,10 +2,7 @@
 use Rattle.std.proofs.Common.{◌≡◌, ℕ, Option, Some, None, List, [], length, replicate, refl, ap, ◌∙◌}
 use Rattle.std.specs.Option.{option_map_or}
 use Rattle.osbase.specs.declared.references.TableRef.{TableRef}
-use Rattle.osplan.specs.declared.plans.Core.{Core}
-use Rattle.osplan.specs.declared.plans.Table.{Table as TablePlan}
-use Rattle.osplan.specs.View.{own_table}
-use Rattle.osplan.specs.Counters.{each_by}
+use Rattle.osplan.specs.{declared.plans.Core.Core, declared.plans.Table.Table as TablePlan, View.own_table, Counters.each_by}
 use Rattle.osattached.proofs.Ranges.{repeated}
 use Rattle.ostable.specs.declared.table.Table.{Table}
 use Rattle.ostable.specs.Tables.{TableStates, table_by, table_family, table_ref, table_refs, tables_of}

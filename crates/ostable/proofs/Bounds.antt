@@ -1,14 +1,9 @@
 -- The places of a core's tables.
 use Rattle.std.proofs.Common.{◌≡◌, ◌<◌, true, All, [], length, get_or, ap, ◌∙◌, arith}
-use Rattle.osbase.specs.declared.references.CounterRef.{CounterRef}
-use Rattle.osbase.specs.declared.references.TableRef.{TableRef}
-use Rattle.osbase.specs.Objects.{counter_object, table_object}
-use Rattle.osplan.specs.declared.plans.Core.{Core}
-use Rattle.osplan.specs.Objects.{is_own_object}
-use Rattle.osattached.proofs.Members.{list-at as own-list}
-use Rattle.osattached.proofs.Own.{own-inside, those-inside}
+use Rattle.osbase.specs.{declared.references.CounterRef.CounterRef, declared.references.TableRef.TableRef, Objects.counter_object, Objects.table_object}
+use Rattle.osplan.specs.{declared.plans.Core.Core, Objects.is_own_object}
+use Rattle.osattached.proofs.{Members.list-at as own-list, Own.own-inside, Own.those-inside, Ranges.length-table}
 use Rattle.osplan.proofs.Counters.{counter-place}
-use Rattle.osattached.proofs.Ranges.{length-table}
 use Rattle.ostable.specs.Tables.{AreTables, TableStates, table_by, table_family, table_ref, timed_by}
 use Rattle.ostable.proofs.Places.{placed}
 

@@ -1,34 +1,17 @@
 -- A table that repeats has no point where its period ends.
 use Rattle.std.proofs.Common.{◌≡◌, ℕ, suc, ◌-◌, ◌<◌, ◌≤◌, ◌&&◌, ◌||◌, Bool, true, false, cond, not, nat_eq, nat_le, Option, Some, None, is_none, is_some, option_and_then, option_map, List, [], ◌∷◌, map, refl, ap, sym, ◌∙◌, arith}
-use Rattle.std.specs.List.{list_all, slice_get}
-use Rattle.std.specs.Option.{option_map_or}
+use Rattle.std.specs.{List.list_all, List.slice_get, Option.option_map_or}
 use Rattle.std.proofs.lemmas.Bool.{and_parts, eqb-true, false≢true, leb-true, ne_eqb}
-use Rattle.osbase.specs.declared.references.CounterRef.{CounterRef}
-use Rattle.osbase.specs.declared.references.TableRef.{TableRef}
+use Rattle.osbase.specs.{declared.references.CounterRef.CounterRef, declared.references.TableRef.TableRef, History.History, Objects.counter_object}
 use Rattle.osbase.specs.Counting.{TableState, Stopped, NextOf, Running, counted_once, table_state}
-use Rattle.osbase.specs.History.{History}
-use Rattle.osbase.specs.Objects.{counter_object}
-use Rattle.osplan.specs.declared.plans.Core.{Core}
-use Rattle.osplan.specs.declared.plans.Counter.{Counter}
-use Rattle.osplan.specs.declared.plans.ExpiryPoint.{ExpiryPoint}
-use Rattle.osplan.specs.declared.plans.Table.{Table as TablePlan}
-use Rattle.osplan.specs.Clocked.{are_clocks_within, own_table_sizes}
+use Rattle.osplan.specs.{declared.plans.Core.Core, declared.plans.Counter.Counter, declared.plans.ExpiryPoint.ExpiryPoint, declared.plans.Table.Table as TablePlan, Clocked.are_clocks_within, Clocked.own_table_sizes, Objects.is_own_object, View.own_counter, View.own_table}
 use Rattle.osplan.specs.Limits.{counter_sizes, final_delay, is_between, is_counter_within, is_delay, is_final, is_table_timed, last_offset, point_sizes}
 use Rattle.osplan.specs.Limits as limits
-use Rattle.osplan.specs.Objects.{is_own_object}
-use Rattle.osplan.specs.View.{own_counter, own_table}
-use Rattle.osplan.proofs.Clocked.{clock-parts}
+use Rattle.osplan.proofs.{Clocked.clock-parts, Within.between, Counters.counter-is, Counters.counter-place}
 use Rattle.osbase.proofs.Places.{passes-at, some-at}
-use Rattle.osplan.proofs.Within.{between}
-use Rattle.osplan.proofs.Counters.{counter-is, counter-place}
-use Rattle.ostable.specs.declared.table.Due.{Due}
-use Rattle.ostable.specs.Periods.{count_in_period, counts_run, number_of_point}
-use Rattle.ostable.specs.Ahead.{due_at, due_in, if_any}
+use Rattle.ostable.specs.{declared.table.Due.Due, Periods.count_in_period, Periods.counts_run, Periods.number_of_point, Ahead.due_at, Ahead.due_in, Ahead.if_any, Waiting.ends_alone}
 use Rattle.ostable.specs.Tables.{AreTables, TableStates, due_by, due_table, due_table_by, due_tables_by, due_tables_in, is_timed_by, next_by, table_refs}
-use Rattle.ostable.specs.Waiting.{ends_alone}
-use Rattle.ostable.proofs.Asked.{dues-read, made-passes}
-use Rattle.ostable.proofs.Law.{attached}
-use Rattle.ostable.proofs.Timed.{none-later, own-passes, timed}
+use Rattle.ostable.proofs.{Asked.dues-read, Asked.made-passes, Law.attached, Timed.none-later, Timed.own-passes, Timed.timed}
 
 -- ---- the final delay
 

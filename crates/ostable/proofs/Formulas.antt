@@ -1,23 +1,16 @@
 -- When a schedule table's points are due and its periods end, in counts of its counter since it was started.
 use Rattle.std.proofs.Common.{◌≡◌, ℕ, zero, suc, ◌+◌, ◌-◌, ◌*◌, ◌/◌, ◌%◌, ◌≤◌, ◌↔◌, ◌||◌, Bool, true, false, cond, not, nat_eq, nat_le, nat_lt, Option, Some, None, is_some, option_and_then, [], ◌∷◌, ◌++◌, refl, ap, sym, ◌∙◌, arith}
-use Rattle.std.specs.List.{list_all, slice_get}
-use Rattle.std.specs.Option.{option_map_or}
-use Rattle.std.proofs.Math.Nat.{add-mul, mod-add-div', one-mul}
+use Rattle.std.specs.{List.list_all, List.slice_get, Option.option_map_or}
+use Rattle.std.proofs.{Math.Nat.add-mul, Math.Nat.mod-add-div', Math.Nat.one-mul, lemmas.Nat.mod-mul-add}
 use Rattle.std.proofs.lemmas.Bool.{and_parts, cond-true, eq-eqb, eqb-true, false≢true, leb-true, le-ltb, ltb-false, not-true}
-use Rattle.std.proofs.lemmas.Nat.{mod-mul-add}
-use Rattle.osbase.specs.declared.references.CounterRef.{CounterRef}
-use Rattle.osbase.specs.declared.references.TableRef.{TableRef}
+use Rattle.osbase.specs.{declared.references.CounterRef.CounterRef, declared.references.TableRef.TableRef}
 use Rattle.osbase.specs.Counting.{TableState, Stopped, NextOf, counted_once, counts_of, same_counter, same_table, started_after, table_state}
 use Rattle.osbase.specs.History.{History, Entry, Noted, CounterIncremented, TableStarted, TableStopped, TableNext}
-use Rattle.osplan.specs.declared.plans.ExpiryPoint.{ExpiryPoint}
-use Rattle.osplan.specs.declared.plans.Table.{Table as TablePlan}
-use Rattle.osbase.proofs.Places.{passes-at}
-use Rattle.ostable.specs.declared.table.Due.{Due}
-use Rattle.ostable.specs.Periods.{count_in_period, number_of_point}
-use Rattle.ostable.specs.Ahead.{IsTimed, due_in, if_any}
+use Rattle.osplan.specs.{declared.plans.ExpiryPoint.ExpiryPoint, declared.plans.Table.Table as TablePlan}
+use Rattle.osbase.proofs.{Places.passes-at, Same.same_table-refl}
+use Rattle.ostable.specs.{declared.table.Due.Due, Periods.count_in_period, Periods.number_of_point, Ahead.IsTimed, Ahead.due_in, Ahead.if_any}
 use Rattle.ostable.specs.Formulas.{IsPeriodic, concerns, due_point, is_end, running_for}
 use Rattle.ostable.proofs.Points.{number-from, number-is}
-use Rattle.osbase.proofs.Same.{same_table-refl}
 
 -- ---- the count of a period
 

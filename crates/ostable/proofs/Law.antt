@@ -2,27 +2,17 @@
 use Rattle.std.proofs.Common.{◌≡◌, ℕ, Bool, true, false, cond, Option, Some, None, is_some, List, ◌∷◌, length, refl, ap, sym, ◌∙◌}
 use Rattle.std.specs.Option.{option_map_or}
 use Rattle.std.proofs.lemmas.Bool.{cond-false, cond-true, false≢true}
-use Rattle.osbase.specs.declared.references.CounterRef.{CounterRef}
-use Rattle.osbase.specs.declared.references.TableRef.{TableRef}
+use Rattle.osbase.specs.{declared.references.CounterRef.CounterRef, declared.references.TableRef.TableRef, Objects.counter_object, Objects.table_object}
 use Rattle.osbase.specs.History.{History, Entry, Noted, CounterIncremented, TableStarted, TableStopped, TableNext}
 use Rattle.osbase.specs.Counting.{TableState, Stopped, NextOf, counted_once, same_counter, same_table, started_after, table_state}
-use Rattle.osbase.specs.Objects.{counter_object, table_object}
 use Rattle.osbase.proofs.Same.{same_table-refl}
-use Rattle.osplan.specs.declared.plans.Core.{Core}
-use Rattle.osplan.specs.declared.plans.Table.{Table as TablePlan}
-use Rattle.osplan.specs.Clocked.{are_clocks_within}
-use Rattle.osplan.specs.Objects.{is_own_object}
-use Rattle.osplan.specs.View.{own_table}
-use Rattle.osplan.proofs.Clocked.{clock-parts}
+use Rattle.osplan.specs.{declared.plans.Core.Core, declared.plans.Table.Table as TablePlan, Clocked.are_clocks_within, Objects.is_own_object, View.own_table}
+use Rattle.osplan.proofs.{Clocked.clock-parts, Counters.counter-apart}
 use Rattle.osattached.proofs.Own.{kept-there, none-changed, one-changed, own-some, refers, those-changed}
-use Rattle.osplan.proofs.Counters.{counter-apart}
 use Rattle.osattached.proofs.Ranges.{table-within}
-use Rattle.ostable.specs.declared.table.Table.{Table}
-use Rattle.ostable.specs.Ahead.{table_at, table_beyond}
+use Rattle.ostable.specs.{declared.table.Table.Table, Ahead.table_at, Ahead.table_beyond}
 use Rattle.ostable.specs.Tables.{TableStates, all_moved, moved, table_by, table_in, table_ref, tables_by, tables_of, with_table}
-use Rattle.ostable.proofs.Places.{placed}
-use Rattle.ostable.proofs.Runs.{beyond-at}
-use Rattle.ostable.proofs.Timed.{timed}
+use Rattle.ostable.proofs.{Places.placed, Runs.beyond-at, Timed.timed}
 
 pub table-there : (core : Core) (s : TableRef) (h : History) → is_own_object core (table_object s) ≡ true → table_in s (tables_of core h) ≡ table_by core s h
 table-there core s h own = kept-there (placed core) (λ u. table_by core u h) s Table.Stopped own

@@ -1,17 +1,11 @@
 -- The tables of a counter, in a list.
 use Rattle.std.proofs.Common.{◌≡◌, ℕ, zero, suc, ◌+◌, ◌<◌, ◌≤◌, true, Option, Some, None, filter_map, get_or, List, [], ◌∷◌, drop, length, take, ◌++◌, refl, ap, sym, ◌∙◌, arith, add-one}
 use Rattle.std.specs.List.{slice_get}
-use Rattle.std.proofs.lemmas.List.Elements.{filter_map-append}
-use Rattle.std.proofs.lemmas.List.{take_more}
-use Rattle.std.proofs.lemmas.Option.{slice_get-get_or}
-use Rattle.osbase.specs.declared.references.CounterRef.{CounterRef}
-use Rattle.osbase.specs.declared.references.TableRef.{TableRef}
-use Rattle.osbase.specs.Objects.{table_object}
+use Rattle.std.proofs.{lemmas.List.Elements.filter_map-append, lemmas.List.take_more, lemmas.Option.slice_get-get_or}
+use Rattle.osbase.specs.{declared.references.CounterRef.CounterRef, declared.references.TableRef.TableRef, Objects.table_object}
 use Rattle.osbase.proofs.Tables.{table-at}
-use Rattle.osplan.specs.declared.plans.Core.{Core}
-use Rattle.osplan.specs.Objects.{is_own_object}
-use Rattle.osattached.proofs.Own.{goes-own}
-use Rattle.osattached.proofs.Ranges.{length-table}
+use Rattle.osplan.specs.{declared.plans.Core.Core, Objects.is_own_object}
+use Rattle.osattached.proofs.{Own.goes-own, Ranges.length-table}
 use Rattle.ostable.specs.Tables.{is_timed_by, table_ref, table_refs}
 use Rattle.ostable.proofs.Places.{placed}
 

@@ -1,12 +1,8 @@
 -- A count that goes over a counter's own tables is one that goes over all and leaves the others.
 use Rattle.std.proofs.Common.{◌≡◌, true, List, [], refl, ap, sym, ◌∙◌, get_or}
 use Rattle.std.proofs.lemmas.Bool.{cond-true}
-use Rattle.osbase.specs.declared.references.CounterRef.{CounterRef}
-use Rattle.osbase.specs.declared.references.TableRef.{TableRef}
-use Rattle.osbase.specs.History.{Noted, CounterIncremented}
-use Rattle.osbase.specs.Objects.{counter_object}
-use Rattle.osplan.specs.declared.plans.Core.{Core}
-use Rattle.osplan.specs.Objects.{is_own_object}
+use Rattle.osbase.specs.{declared.references.CounterRef.CounterRef, declared.references.TableRef.TableRef, History.Noted, History.CounterIncremented, Objects.counter_object}
+use Rattle.osplan.specs.{declared.plans.Core.Core, Objects.is_own_object}
 use Rattle.osattached.proofs.Changed.{each-all}
 use Rattle.ostable.specs.declared.table.Table.{Table}
 use Rattle.ostable.specs.Tables.{AreTables, TableStates, all_moved, each_moved, moved, table_family, tables_by, timed_by}

@@ -1,11 +1,8 @@
 -- A core's own schedule tables, by place.
 use Rattle.std.proofs.Common.{◌≡◌, ℕ, ◌<◌, true, length, refl, ap}
 use Rattle.std.specs.List.{slice_get}
-use Rattle.osbase.specs.declared.references.TableRef.{TableRef}
-use Rattle.osbase.specs.Objects.{table_object, table_of, table_place}
-use Rattle.osplan.specs.declared.plans.Core.{Core}
-use Rattle.osplan.specs.Objects.{is_own_object}
-use Rattle.osplan.specs.View.{own_table}
+use Rattle.osbase.specs.{declared.references.TableRef.TableRef, Objects.table_object, Objects.table_of, Objects.table_place}
+use Rattle.osplan.specs.{declared.plans.Core.Core, Objects.is_own_object, View.own_table}
 use Rattle.osattached.proofs.Own.{Placed, own-is, own-there}
 use Rattle.ostable.specs.Tables.{table_family, table_ref}
 

@@ -1,7 +1,6 @@
 -- Points by ascending offset: which of them is next, and which is due.
 use Rattle.std.proofs.Common.{◌≡◌, ℕ, zero, suc, ◌<◌, ◌≤◌, Bool, true, false, cond, nat_eq, nat_le, nat_lt, IfSome, Option, Some, None, option_map, List, [], ◌∷◌, filter, length, refl, ap, sym, subst, ◌∙◌, arith}
-use Rattle.std.specs.List.{slice_get}
-use Rattle.std.specs.Option.{option_map_or}
+use Rattle.std.specs.{List.slice_get, Option.option_map_or}
 use Rattle.std.proofs.lemmas.Bool.{and_parts, eq-eqb, eqb-true, eqb-false, leb-false, leb-true, le-leb, lt-leb, ltb-true, ne_eqb}
 use Rattle.osplan.specs.declared.plans.ExpiryPoint.{ExpiryPoint}
 use Rattle.ostable.specs.Periods.{are_ascending, number_of_point}

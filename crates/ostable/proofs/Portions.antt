@@ -1,17 +1,10 @@
 -- Each table goes by at most one counter: what the tables of all counters add up to.
 use Rattle.std.proofs.Common.{◌≡◌, ℕ, suc, ◌+◌, ◌≤◌, Option, Some, None, length, List, [], ◌∷◌, map, sum_by, refl, ap, sym, ◌∙◌, arith}
-use Rattle.std.specs.List.{slice_get}
-use Rattle.std.specs.Option.{option_map_or}
-use Rattle.std.proofs.lemmas.Bool.{cond-true}
-use Rattle.std.proofs.lemmas.List.Sums.{sum_by-cons}
-use Rattle.osbase.specs.declared.references.TableRef.{TableRef}
-use Rattle.osbase.specs.History.{same_core}
-use Rattle.osbase.specs.Sets.{numbers_from}
+use Rattle.std.specs.{List.slice_get, Option.option_map_or}
+use Rattle.std.proofs.{lemmas.Bool.cond-true, lemmas.List.Sums.sum_by-cons}
+use Rattle.osbase.specs.{declared.references.TableRef.TableRef, History.same_core, Sets.numbers_from}
 use Rattle.osbase.proofs.Same.{same_core-refl}
-use Rattle.osplan.specs.declared.plans.Core.{Core}
-use Rattle.osplan.specs.declared.plans.Table.{Table as TablePlan}
-use Rattle.osplan.specs.View.{own_table}
-use Rattle.osplan.specs.Counters.{counter_ref}
+use Rattle.osplan.specs.{declared.plans.Core.Core, declared.plans.Table.Table as TablePlan, View.own_table, Counters.counter_ref}
 use Rattle.osattached.proofs.Members.{portions}
 use Rattle.ostable.specs.Tables.{table_family, table_ref, table_refs, timed_by}
 

@@ -1,27 +1,15 @@
 -- At one count no table is done twice: neither one that is due, nor one that begins where another one's period ends.
 use Rattle.std.proofs.Common.{◌≡◌, ℕ, ◌+◌, ◌≤◌, Bool, true, false, cond, Option, Some, None, is_some, option_map, length, List, sum_by, refl, ap, sym, subst, ◌∙◌, arith}
 use Rattle.std.specs.Option.{option_map_or}
-use Rattle.std.proofs.lemmas.Bool.{false≢true}
-use Rattle.std.proofs.lemmas.List.Sums.{sum_by-le-sum_by}
-use Rattle.osbase.specs.declared.references.CounterRef.{CounterRef}
-use Rattle.osbase.specs.declared.references.TableRef.{TableRef}
-use Rattle.osbase.specs.Counting.{same_counter, same_table}
-use Rattle.osbase.specs.History.{History}
-use Rattle.osbase.specs.Sets.{numbers_from}
-use Rattle.osplan.specs.declared.plans.Core.{Core}
-use Rattle.osplan.specs.declared.plans.Table.{Table as TablePlan}
-use Rattle.osplan.specs.Clocked.{are_clocks_within}
-use Rattle.osplan.specs.View.{own_table}
+use Rattle.std.proofs.{lemmas.Bool.false≢true, lemmas.List.Sums.sum_by-le-sum_by}
+use Rattle.osbase.specs.{declared.references.CounterRef.CounterRef, declared.references.TableRef.TableRef, Counting.same_counter, Counting.same_table, History.History, Sets.numbers_from}
+use Rattle.osplan.specs.{declared.plans.Core.Core, declared.plans.Table.Table as TablePlan, Clocked.are_clocks_within, View.own_table}
 use Rattle.osbase.proofs.Same.{same_counter-true, same_table-true}
 use Rattle.osattached.proofs.Sums.{at-most-once, sum-across, sum-both, sum-kept, sum-mapped, sum-none}
-use Rattle.ostable.specs.declared.table.Due.{Due}
-use Rattle.ostable.specs.declared.table.Table.{Table}
-use Rattle.ostable.specs.declared.tables.DueTable.{DueTable}
-use Rattle.ostable.specs.Ahead.{due_next}
+use Rattle.ostable.specs.{declared.table.Due.Due, declared.table.Table.Table, declared.tables.DueTable.DueTable, Ahead.due_next}
 use Rattle.ostable.specs.Tables.{TableStates, due_in, due_table, due_tables_by, due_tables_in, is_next_in, is_timed_by, next_in, table_in, table_ref, table_refs, tables_of, timed_by}
 use Rattle.ostable.specs.Waiting.{all_wait_by_counter, are_of_one_counter, waits_by_counter, with_next}
-use Rattle.ostable.proofs.Asked.{dues-read}
-use Rattle.ostable.proofs.Sums.{found-le, sum-made}
+use Rattle.ostable.proofs.{Asked.dues-read, Sums.found-le, Sums.sum-made}
 
 -- ---- one table of a core is at one place
 

@@ -1,17 +1,12 @@
 -- A table that runs, one count later.
 use Rattle.std.proofs.Common.{◌≡◌, ℕ, suc, ◌+◌, ◌-◌, ◌%◌, ◌<◌, ◌≤◌, Bool, true, false, cond, nat_eq, nat_le, nat_lt, IfSome, Option, Some, None, is_some, refl, ap, sym, subst, ◌∙◌, arith}
-use Rattle.std.specs.List.{slice_get}
-use Rattle.std.specs.Option.{option_map_or}
+use Rattle.std.specs.{List.slice_get, Option.option_map_or}
 use Rattle.std.proofs.Math.Nat.{mod-eq_of_lt, mod-lt, mod_self, suc-mod}
 use Rattle.std.proofs.lemmas.Bool.{eq-eqb, eqb-false, eqb-true, leb-false, leb-true, lt-leb, ltb-false, ltb-true, ne_eqb}
 use Rattle.osbase.specs.Counting.{TableRun, TableState, Stopped, NextOf, Running, counted_once}
-use Rattle.osplan.specs.declared.plans.ExpiryPoint.{ExpiryPoint}
-use Rattle.osplan.specs.declared.plans.Table.{Table as TablePlan}
+use Rattle.osplan.specs.{declared.plans.ExpiryPoint.ExpiryPoint, declared.plans.Table.Table as TablePlan}
 use Rattle.osbase.proofs.Places.{passes-at}
-use Rattle.ostable.specs.declared.table.Ahead.{Ahead}
-use Rattle.ostable.specs.declared.table.Due.{Due}
-use Rattle.ostable.specs.declared.table.Table.{Table}
-use Rattle.ostable.specs.Periods.{number_of_point}
+use Rattle.ostable.specs.{declared.table.Ahead.Ahead, declared.table.Due.Due, declared.table.Table.Table, Periods.number_of_point}
 use Rattle.ostable.specs.Ahead.{IsTimed, ahead_at, ahead_beyond, ahead_in, beyond_next, count_of_next, due_after, due_at, due_in, due_next, due_of_next, due_of_run, if_any, points_until, table_at, table_beyond}
 use Rattle.ostable.proofs.Points.{Steps, begins, is_first_at_once, neighbours, steps}
 

@@ -1,9 +1,7 @@
 -- Sums over lists: of what is made of each element, and of what is found.
 use Rattle.std.proofs.Common.{◌≡◌, ℕ, ◌+◌, ◌≤◌, Bool, true, false, cond, Option, Some, None, filter_map, List, [], ◌∷◌, sum_by, refl, sym, subst, ◌∙◌, arith}
-use Rattle.std.specs.List.{cons_option, find, list_all}
-use Rattle.std.specs.Option.{option_map_or}
-use Rattle.std.proofs.lemmas.Bool.{and_parts}
-use Rattle.std.proofs.lemmas.List.Sums.{sum_by-cons}
+use Rattle.std.specs.{List.cons_option, List.find, List.list_all, Option.option_map_or}
+use Rattle.std.proofs.{lemmas.Bool.and_parts, lemmas.List.Sums.sum_by-cons}
 pub use Rattle.osattached.proofs.Sums.{sum-both}
 
 pub sum-made : {A B : Type 0} (g : A → Option B) (f : B → ℕ) (xs : List A) → sum_by f (filter_map g xs) ≡ sum_by (λ (x : A). option_map_or f (g x) 0) xs

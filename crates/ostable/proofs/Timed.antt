@@ -3,20 +3,13 @@ use Rattle.std.proofs.Common.{◌≡◌, ℕ, ◌≤◌, Bool, true, nat_le, nat
 use Rattle.std.specs.List.{list_all}
 use Rattle.std.proofs.lemmas.Bool.{and_parts, and_from, leb-true, le-leb, ltb-true}
 use Rattle.std.proofs.lemmas.List.{length-map}
-use Rattle.osbase.specs.declared.references.TableRef.{TableRef}
-use Rattle.osbase.specs.History.{same_core}
-use Rattle.osplan.specs.declared.plans.Core.{Core}
-use Rattle.osplan.specs.declared.plans.ExpiryPoint.{ExpiryPoint}
-use Rattle.osplan.specs.declared.plans.Table.{Table as TablePlan}
-use Rattle.osplan.specs.Clocked.{are_clocks_within, own_table_sizes}
+use Rattle.osbase.specs.{declared.references.TableRef.TableRef, History.same_core}
+use Rattle.osplan.specs.{declared.plans.Core.Core, declared.plans.ExpiryPoint.ExpiryPoint, declared.plans.Table.Table as TablePlan, Clocked.are_clocks_within, Clocked.own_table_sizes, View.own_table}
 use Rattle.osplan.specs.Limits.{is_between, is_point_within, is_table_timed, is_table_within, last_offset, point_sizes}
 use Rattle.osplan.specs.Limits as limits
-use Rattle.osplan.specs.View.{own_table}
-use Rattle.osplan.proofs.Clocked.{clock-parts}
-use Rattle.osplan.proofs.Within.{between}
+use Rattle.osplan.proofs.{Clocked.clock-parts, Within.between}
 use Rattle.osbase.proofs.Places.{own-passes as passes}
-use Rattle.ostable.specs.Ahead.{IsTimed}
-use Rattle.ostable.specs.Periods.{are_ascending}
+use Rattle.ostable.specs.{Ahead.IsTimed, Periods.are_ascending}
 
 -- the sizes of points ascend where the points do
 ascends : (points : List ExpiryPoint) → limits.are_ascending (map point_sizes points) ≡ true → are_ascending points ≡ true

@@ -1,23 +1,16 @@
 -- No table of a core waits for one of another counter, whatever is noted.
 use Rattle.std.proofs.Common.{◌≡◌, ℕ, zero, suc, ◌+◌, ◌<◌, Bool, true, false, cond, Option, Some, None, length, [], ◌∷◌, map, refl, ap, sym, ◌∙◌, arith}
-use Rattle.std.specs.List.{list_all}
-use Rattle.std.specs.Option.{option_map_or}
+use Rattle.std.specs.{List.list_all, Option.option_map_or}
 use Rattle.std.proofs.lemmas.Bool.{and_from, and_parts}
-use Rattle.osbase.specs.declared.references.CounterRef.{CounterRef}
-use Rattle.osbase.specs.declared.references.TableRef.{TableRef}
+use Rattle.osbase.specs.{declared.references.CounterRef.CounterRef, declared.references.TableRef.TableRef, Sets.numbers_from}
 use Rattle.osbase.specs.Counting.{TableState, Stopped, NextOf, Running, counted_once, same_counter, same_table, started_after, table_after, table_state}
 use Rattle.osbase.specs.History.{History, Entry, Noted, CounterIncremented, TableStarted, TableStopped, TableNext}
-use Rattle.osbase.specs.Sets.{numbers_from}
-use Rattle.osplan.specs.declared.plans.Core.{Core}
-use Rattle.osplan.specs.declared.plans.Table.{Table as TablePlan}
-use Rattle.osplan.specs.View.{own_table}
-use Rattle.ostable.specs.declared.table.Table.{Table}
-use Rattle.ostable.specs.Ahead.{table_at}
+use Rattle.osplan.specs.{declared.plans.Core.Core, declared.plans.Table.Table as TablePlan, View.own_table}
+use Rattle.ostable.specs.{declared.table.Table.Table, Ahead.table_at}
 use Rattle.ostable.specs.Tables.{AreTables, TableStates, table_in, table_ref, tables_by, tables_of}
 use Rattle.ostable.specs.Waiting.{all_wait_by_counter, are_of_one_counter, is_next_by_counter, waits_by_counter}
-use Rattle.ostable.proofs.Law.{after, read, table-there}
+use Rattle.ostable.proofs.{Law.after, Law.read, Law.table-there, Places.table-own}
 use Rattle.osbase.proofs.Same.{same_table-true}
-use Rattle.ostable.proofs.Places.{table-own}
 
 -- ---- each of a range
 

@@ -1,14 +1,9 @@
 -- What the code keeps of a schedule table that runs: what comes next, and after how many counts.
 use Rattle.std.specs.Prelude.{ℕ, suc, ◌+◌, ◌-◌, ◌%◌, ◌≤◌, ◌==◌, ◌||◌, nat_le, nat_lt, if◌then◌else◌, IsTrue, Option, Some, None, is_some, length, filter, option_and_then, slice_get}
-use Rattle.std.specs.List.{list_all}
-use Rattle.std.specs.Option.{option_map_or}
+use Rattle.std.specs.{List.list_all, Option.option_map_or}
 use Rattle.osbase.specs.Counting.{TableRun, TableState, Stopped, NextOf, Running}
-use Rattle.osplan.specs.declared.plans.ExpiryPoint.{ExpiryPoint}
-use Rattle.osplan.specs.declared.plans.Table.{Table as TablePlan}
-use Rattle.ostable.specs.declared.table.Ahead.{Ahead}
-use Rattle.ostable.specs.declared.table.Due.{Due}
-use Rattle.ostable.specs.declared.table.Table.{Table}
-use Rattle.ostable.specs.declared.table.TableStatus.{TableStatus}
+use Rattle.osplan.specs.{declared.plans.ExpiryPoint.ExpiryPoint, declared.plans.Table.Table as TablePlan}
+use Rattle.ostable.specs.{declared.table.Ahead.Ahead, declared.table.Due.Due, declared.table.Table.Table, declared.table.TableStatus.TableStatus}
 use Rattle.ostable.specs.Periods.{are_ascending, count_in_period, counts_run, number_of_point}
 
 -- What holds of a table of a configuration within its limits, of what is asked for here.

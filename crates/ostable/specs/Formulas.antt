@@ -1,13 +1,10 @@
 -- What the standard says of a schedule table at a count of its counter: its point that is due, and whether a period ends.
 use Rattle.std.specs.Prelude.{◌≡◌, ◌↔◌, ◌≤◌, ℕ, ◌+◌, ◌*◌, Bool, false, Option, Some, IsTrue, option_and_then, slice_get}
 use Rattle.std.specs.Option.{option_map_or}
-use Rattle.osbase.specs.declared.references.TableRef.{TableRef}
-use Rattle.osbase.specs.Counting.{TableState, Running, same_table}
+use Rattle.osbase.specs.{declared.references.TableRef.TableRef, Counting.TableState, Counting.Running, Counting.same_table}
 use Rattle.osbase.specs.History.{Entry, Noted, TableStarted, TableStopped, TableNext}
-use Rattle.osplan.specs.declared.plans.ExpiryPoint.{ExpiryPoint}
-use Rattle.osplan.specs.declared.plans.Table.{Table as TablePlan}
-use Rattle.ostable.specs.declared.table.Due.{Due}
-use Rattle.ostable.specs.Ahead.{due_at}
+use Rattle.osplan.specs.{declared.plans.ExpiryPoint.ExpiryPoint, declared.plans.Table.Table as TablePlan}
+use Rattle.ostable.specs.{declared.table.Due.Due, Ahead.due_at}
 
 -- A table that was started to begin after so many counts, so many counts ago.
 abbrev pub running_for : ℕ → ℕ → TableState

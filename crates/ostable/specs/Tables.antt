@@ -1,25 +1,13 @@
 -- The schedule tables of a core: what is read off its history, and what each entry does to them.
 use Rattle.std.specs.Prelude.{◌≡◌, ℕ, Bool, false, if◌then◌else◌, IsTrue, Option, None, List, filter_map, find, length, map, option_map, slice_index_or}
-use Rattle.std.specs.List.{slice_set}
-use Rattle.std.specs.Option.{option_map_or}
-use Rattle.osbase.specs.declared.references.CounterRef.{CounterRef}
-use Rattle.osbase.specs.declared.references.TableRef.{TableRef}
+use Rattle.std.specs.{List.slice_set, Option.option_map_or}
+use Rattle.osbase.specs.{declared.references.CounterRef.CounterRef, declared.references.TableRef.TableRef, Objects.counter_object, Objects.table_object, Sets.numbers_from}
 use Rattle.osbase.specs.History.{History, Entry, Noted, CounterIncremented, TableStarted, TableStopped, TableNext}
 use Rattle.osbase.specs.Counting.{TableState, Stopped, NextOf, counted_once, same_table, started_after, table_state}
-use Rattle.osbase.specs.Objects.{counter_object, table_object}
-use Rattle.osbase.specs.Sets.{numbers_from}
-use Rattle.osplan.specs.declared.plans.Core.{Core}
-use Rattle.osplan.specs.declared.plans.Table.{Table as TablePlan}
-use Rattle.osplan.specs.Clocked.{are_clocks_within}
-use Rattle.osplan.specs.Objects.{is_own_object}
-use Rattle.osplan.specs.View.{own_table}
+use Rattle.osplan.specs.{declared.plans.Core.Core, declared.plans.Table.Table as TablePlan, Clocked.are_clocks_within, Objects.is_own_object, View.own_table, Counters.each_by}
 use Rattle.osattached.specs.Attached.{all_changed, each_changed}
 use Rattle.osbase.specs.Families.{Family, goes_by, refs_of, those_by}
-use Rattle.osplan.specs.Counters.{each_by}
-use Rattle.ostable.specs.declared.tables.DueTable.{DueTable}
-use Rattle.ostable.specs.declared.table.Due.{Due}
-use Rattle.ostable.specs.declared.table.Table.{Table}
-use Rattle.ostable.specs.declared.table.TableStatus.{TableStatus}
+use Rattle.ostable.specs.{declared.tables.DueTable.DueTable, declared.table.Due.Due, declared.table.Table.Table, declared.table.TableStatus.TableStatus}
 use Rattle.ostable.specs.Ahead.{due_at, due_next, table_at, table_beyond}
 
 -- What comes next of each table, and the tables of each counter, in index order.

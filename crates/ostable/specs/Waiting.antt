@@ -1,18 +1,9 @@
 -- Schedule tables that wait for the end of another one's period: which may wait for which, and what is done of both at one count.
 use Rattle.std.specs.Prelude.{ℕ, ◌+◌, ◌&&◌, ◌||◌, Bool, true, false, is_none, not}
-use Rattle.std.specs.List.{list_all}
-use Rattle.std.specs.Option.{option_map_or}
-use Rattle.osbase.specs.declared.references.TableRef.{TableRef}
-use Rattle.osbase.specs.History.{Entry, Noted, TableNext}
-use Rattle.osbase.specs.Counting.{same_counter}
-use Rattle.osbase.specs.Objects.{table_object}
-use Rattle.osplan.specs.declared.plans.Core.{Core}
-use Rattle.osplan.specs.declared.plans.Table.{Table as TablePlan}
-use Rattle.osplan.specs.Objects.{is_own_object}
-use Rattle.osplan.specs.View.{own_table}
-use Rattle.ostable.specs.declared.tables.DueTable.{DueTable}
-use Rattle.ostable.specs.declared.table.Table.{Table}
-use Rattle.ostable.specs.Tables.{TableStates, table_in, table_refs}
+use Rattle.std.specs.{List.list_all, Option.option_map_or}
+use Rattle.osbase.specs.{declared.references.TableRef.TableRef, History.Entry, History.Noted, History.TableNext, Counting.same_counter, Objects.table_object}
+use Rattle.osplan.specs.{declared.plans.Core.Core, declared.plans.Table.Table as TablePlan, Objects.is_own_object, View.own_table}
+use Rattle.ostable.specs.{declared.tables.DueTable.DueTable, declared.table.Table.Table, Tables.TableStates, Tables.table_in, Tables.table_refs}
 
 -- Both are tables of the core, and go by one counter. [AUTOSAR SWS OS 4.x, SWS_Os_00330]
 abbrev pub are_of_one_counter : Core → TableRef → TableRef → Bool

@@ -2,16 +2,11 @@
 
 ghost use Rattle.std.specs.Prelude.{ℕ, ◌≡◌, ◌≤◌, ◌++◌, ◌∷◌, IsTrue, not, sum_by};
 ghost use Rattle.std.specs.List.{list_all};
-ghost use Rattle.osbase.specs.declared.references.CounterRef.{CounterRef};
-ghost use Rattle.osbase.specs.declared.references.TableRef.{TableRef};
-ghost use Rattle.osbase.specs.Counting.{counts_of, table_state};
+ghost use Rattle.osbase.specs.{declared.references.CounterRef.CounterRef, declared.references.TableRef.TableRef, Counting.counts_of, Counting.table_state};
 ghost use Rattle.osbase.specs.History.{History, Entry, Noted, TableStarted};
-ghost use Rattle.osplan.specs.declared.plans.Core.{Core};
-ghost use Rattle.osplan.specs.declared.plans.Table.{Table as TablePlan};
-ghost use Rattle.ostable.specs.Ahead.{IsTimed};
-ghost use Rattle.ostable.specs.Formulas.{IsPeriodic, concerns, running_for};
+ghost use Rattle.osplan.specs.{declared.plans.Core.Core, declared.plans.Table.Table as TablePlan};
+ghost use Rattle.ostable.specs.{Ahead.IsTimed, Formulas.IsPeriodic, Formulas.concerns, Formulas.running_for, Waiting.all_wait_by_counter, Waiting.ends_alone, Waiting.with_next};
 ghost use Rattle.ostable.specs.Tables.{AreTables, TableStates, due_tables_in, timed_by};
-ghost use Rattle.ostable.specs.Waiting.{all_wait_by_counter, ends_alone, with_next};
 
 /// A table that was started, and since then neither stopped nor started again, runs for as many counts as its counter had
 /// since (AUTOSAR SWS OS 4.x, section 7.3).

@@ -3,9 +3,7 @@
 ghost use Rattle.std.specs.Prelude.{◌≡◌, ◌≤◌};
 ghost use Rattle.osbase.specs.Counting.{TableState, Stopped, NextOf, counted_once, started_after};
 ghost use Rattle.osplan.specs.declared.plans.Table.{Table as TablePlan};
-ghost use Rattle.ostable.specs.Status.{is_running, is_stopped, number_of};
-ghost use Rattle.ostable.specs.Tables.{is_next_in, status_in};
-ghost use Rattle.ostable.specs.declared.table.Table.{Table as TableValue};
+ghost use Rattle.ostable.specs.{Status.is_running, Status.is_stopped, Status.number_of, Tables.is_next_in, Tables.status_in, declared.table.Table.Table as TableValue};
 ghost use Rattle.ostable.specs.Ahead.{IsTimed, ahead_beyond, ahead_in, beyond_next, count_of_next, due_at, due_next, due_of_next, status_of, table_at, table_beyond};
 
 use osbase::TableRef;

@@ -1,13 +1,10 @@
 //! The schedule tables of a core.
 
-ghost use Rattle.std.specs.Prelude.{◌≡◌, ◌<◌, ◌≤◌, ◌+◌, ◌^◌, ℕ, Bool, false, None, [], All, IsTrue, IfSome, filter_map, length, map, option_map, replicate, slice_index_or};
+ghost use Rattle.std.specs.Prelude.{◌≡◌, ◌<◌, ◌≤◌, None, [], All, IsTrue, length, option_map, replicate};
 ghost use Rattle.std.specs.List.{slice_set};
-ghost use Rattle.osbase.specs.declared.references.TableRef.{TableRef};
+ghost use Rattle.osbase.specs.{declared.references.TableRef.TableRef, Objects.counter_object, Objects.table_object};
 ghost use Rattle.osbase.specs.History.{Noted, CounterIncremented, TableStarted, TableStopped, TableNext};
-ghost use Rattle.osbase.specs.Objects.{counter_object, table_object};
-ghost use Rattle.osplan.specs.Clocked.{are_clocks_within};
-ghost use Rattle.osplan.specs.Objects.{is_own_object};
-ghost use Rattle.osplan.specs.Counters.{IsObject, each_by};
+ghost use Rattle.osplan.specs.{Clocked.are_clocks_within, Objects.is_own_object, Counters.IsObject, Counters.each_by};
 ghost use Rattle.ostable.specs.Tables.{AreTables, due_in, due_table, due_tables_in, each_moved, next_in, started, status_in, table_family, table_in, table_refs, tables_by, tables_of};
 ghost use Rattle.ostable.specs.declared.table.Table.{Table as TableValue};
 

@@ -4,15 +4,8 @@ use Rattle.osbase.specs.declared.references.CoreId.{CoreId}
 use Rattle.osplan.specs.View.{view_of}
 use Rattle.osmail.specs.Ends.{Streams}
 use Rattle.osrun.specs.Fits.{history_by}
-use Rattle.osthreads.specs.declared.ending.Ending.{Ending}
-use Rattle.osthreads.specs.declared.ending.Kept.{Kept}
-use Rattle.osthreads.specs.declared.run.Run.{Run}
-use Rattle.osthreads.specs.declared.worker.Worked.{Worked}
-use Rattle.osthreads.specs.Seats.{AreAt, shared}
-use Rattle.osthreads.specs.Threads.{IsEnded, sent_of, taken_of}
-use Rattle.osthreads.specs.Working.{IsMailed, IsWorked, refusal_at}
-use Rattle.osthreads.proofs.Shifting.{worked-finished}
-use Rattle.osthreads.proofs.Working.{spins-thin, thin}
+use Rattle.osthreads.specs.{declared.ending.Ending.Ending, declared.ending.Kept.Kept, declared.run.Run.Run, declared.worker.Worked.Worked, Seats.AreAt, Seats.shared, Threads.IsEnded, Threads.sent_of, Threads.taken_of, Working.IsMailed, Working.IsWorked, Working.refusal_at}
+use Rattle.osthreads.proofs.{Shifting.worked-finished, Working.spins-thin, Working.thin}
 
 -- What the worker of a core gave back, whatever its end of the mail left behind that says what it sent and took.
 abbrev pub ending : {M : Type 0} → Worked M → Kept → Ending

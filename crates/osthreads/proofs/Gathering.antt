@@ -1,43 +1,23 @@
 -- What the workers of all cores gave back, gathered: their reports are sound.
-use Rattle.std.proofs.lemmas.List.{take_more}
+use Rattle.std.proofs.{lemmas.List.take_more, lemmas.Bool.and_parts, lemmas.Bool.false≢true, lemmas.Bool.or_parts}
 use Rattle.std.proofs.Common.{◌≡◌, ◌<◌, ◌+◌, ℕ, take, filter, cond, Bool, true, false, None, is_some, IsTrue, List, [], ◌∷◌, ◌++◌, map, length, get_or, refl, sym, ap, subst, ◌∙◌, append_assoc, append-nil, arith}
 use Rattle.std.specs.List.{AllByRecursion, list_all, list_any}
-use Rattle.std.proofs.lemmas.Bool.{and_parts, false≢true, or_parts}
-use Rattle.osbase.specs.declared.references.CoreId.{CoreId}
-use Rattle.osbase.specs.declared.messages.Letter.{Letter}
-use Rattle.osbase.specs.declared.turns.Report.{Report}
-use Rattle.osbase.specs.History.{History, posted, received}
-use Rattle.osbase.specs.Sets.{core_ids}
-use Rattle.osplan.specs.Limits.{is_within_limits}
-use Rattle.osplan.specs.Stimuli.{AreKnown}
-use Rattle.osplan.specs.View.{core_of}
-use Rattle.osshared.specs.declared.histories.Plan.{Plan as SeatPlan}
-use Rattle.osshared.specs.Runs.{AreLogged, IsOneRun}
-use Rattle.osshared.specs.Histories.{IsLegal, calls_by}
+use Rattle.osbase.specs.{declared.references.CoreId.CoreId, declared.messages.Letter.Letter, declared.turns.Report.Report, History.History, History.posted, History.received, Sets.core_ids, declared.turns.CoreStimuli.CoreStimuli}
+use Rattle.osplan.specs.{Limits.is_within_limits, Stimuli.AreKnown, View.core_of, declared.plans.Plan.Plan}
+use Rattle.osshared.specs.{declared.histories.Plan.Plan as SeatPlan, Runs.AreLogged, Runs.IsOneRun, Histories.IsLegal, Histories.calls_by}
 use Rattle.osshared.specs.Seats.{AllApart, AllAt, AllStand, Held, IsOneHistory, cores_of, fresh, has}
 use Rattle.osshared.proofs.Runs.{one_run}
-use Rattle.osboard.specs.declared.calls.BoardCall.{BoardCall}
-use Rattle.osboard.specs.declared.calls.BoardReply.{BoardReply}
-use Rattle.osboard.specs.Boards.{IsLook, one_board}
+use Rattle.osboard.specs.{declared.calls.BoardCall.BoardCall, declared.calls.BoardReply.BoardReply, Boards.IsLook, Boards.one_board}
 use Rattle.osboard.proofs.Boards.{looks_idle}
-use Rattle.osspin.specs.declared.calls.SpinCall.{SpinCall}
-use Rattle.osspin.specs.declared.calls.SpinReply.{SpinReply}
-use Rattle.osspin.specs.Spins.{IsRefusedCall, spinlocks}
+use Rattle.osspin.specs.{declared.calls.SpinCall.SpinCall, declared.calls.SpinReply.SpinReply, Spins.IsRefusedCall, Spins.spinlocks}
 use Rattle.osspin.proofs.Locks.{refused_idle}
-use Rattle.osrun.specs.Requests.{Calls, calls_of, no_calls}
-use Rattle.osrun.specs.Fits.{history_by, ids_of}
-use Rattle.osrun.specs.Sound.{AreSound}
-use Rattle.osthreads.specs.declared.ending.Ending.{Ending}
-use Rattle.osplan.specs.declared.plans.Plan.{Plan}
-use Rattle.osbase.specs.declared.turns.CoreStimuli.{CoreStimuli}
-use Rattle.osthreads.specs.declared.seats.Seats.{Seats}
+use Rattle.osrun.specs.{Requests.Calls, Requests.calls_of, Requests.no_calls, Fits.history_by, Fits.ids_of, Sound.AreSound}
+use Rattle.osthreads.specs.{declared.ending.Ending.Ending, declared.seats.Seats.Seats, declared.turns.Stop.Stop}
 use Rattle.osthreads.specs.Runs.{AreFinished, AreOneSpins, AreRuns, IsDelivered, IsOneBoard, IsOneCore, new_board, new_spins}
 use Rattle.osthreads.specs.Seats.{Shared, first_seats, made_from, paired}
 use Rattle.osthreads.specs.Threads.{AreAllFinished, AreAllKept, AreEnded, AreSettled, IsEnded, IsSettled, sent_of, taken_of}
-use Rattle.osthreads.specs.declared.turns.Stop.{Stop}
 use Rattle.osthreads.specs.Working.{IsFinished, Refusal, is_finished_by, is_kept_by, refusal_at, refused_from, was_stopped_by}
-use Rattle.osthreads.proofs.Senders.{ids-apart, nobody-listed}
-use Rattle.osthreads.proofs.Threaded.{both, runs-sound}
+use Rattle.osthreads.proofs.{Senders.ids-apart, Senders.nobody-listed, Threaded.both, Threaded.runs-sound}
 
 -- ---- lists
 

@@ -2,36 +2,15 @@
 -- show together.
 use mathlib.Core.List.{IsPrefix}
 use Rattle.std.proofs.Common.{◌≡◌, ◌⊎◌, inl, inr, ℕ, IsTrue, Bool, true, false, Option, Some, None, is_some, List, [], ◌∷◌, ◌++◌, drop, length, map, refl, sym, ap, subst, ◌∙◌, append_assoc, append-nil, arith}
-use Rattle.std.specs.Option.{option_to_list}
-use Rattle.std.proofs.lemmas.Option.{same_Some}
-use Rattle.std.proofs.lemmas.Bool.{false≢true}
-use Rattle.std.specs.List.{AllByRecursion}
-use Rattle.osbase.specs.declared.references.CoreId.{CoreId}
-use Rattle.osbase.specs.declared.messages.Letter.{Letter}
-use Rattle.osbase.specs.declared.turns.Report.{Report}
-use Rattle.osplan.specs.declared.plans.Plan.{Plan}
-use Rattle.osplan.specs.View.{core_of}
-use Rattle.osmail.specs.declared.ends.MailStep.{MailStep}
-use Rattle.osmail.specs.declared.rings.RingEnd.{RingEnd}
-use Rattle.osmail.specs.Ends.{Streams, sent_to, taken_from}
+use Rattle.std.specs.{Option.option_to_list, List.AllByRecursion}
+use Rattle.std.proofs.{lemmas.Option.same_Some, lemmas.Bool.false≢true}
+use Rattle.osbase.specs.{declared.references.CoreId.CoreId, declared.messages.Letter.Letter, declared.turns.Report.Report, declared.messages.MailKind.MailKind, declared.messages.MailKind.TheVariants.Locked, declared.messages.MailKind.TheVariants.Ring, declared.turns.CoreStimuli.CoreStimuli}
+use Rattle.osplan.specs.{declared.plans.Plan.Plan, View.core_of, Limits.is_within_limits, Stimuli.AreKnown}
+use Rattle.osmail.specs.{declared.ends.MailStep.MailStep, declared.rings.RingEnd.RingEnd, Ends.Streams, Ends.sent_to, Ends.taken_from}
 use Rattle.osmail.specs.Rings.{AreDelivered, EndId, EndPast, IsDelivered, IsUnused, core_of_end, end_id, past_of, ring_sent, ring_taken}
-use Rattle.osrun.specs.Fits.{ids_of}
-use Rattle.osthreads.specs.declared.ending.Ending.{Ending}
-use Rattle.osthreads.specs.declared.ending.Kept.{Kept}
-use Rattle.osthreads.specs.declared.ending.Kept.TheVariants.{Rings, Steps}
-use Rattle.osthreads.specs.declared.ending.Outfit.{Outfit}
-use Rattle.osbase.specs.declared.messages.MailKind.{MailKind}
-use Rattle.osbase.specs.declared.messages.MailKind.TheVariants.{Locked, Ring}
-use Rattle.osthreads.specs.declared.seats.Seats.{Seats}
-use Rattle.osthreads.specs.Seats.{Shared, first_seats}
+use Rattle.osrun.specs.{Fits.ids_of, Sound.AreSound}
+use Rattle.osthreads.specs.{declared.ending.Ending.Ending, declared.ending.Kept.Kept, declared.ending.Kept.TheVariants.Rings, declared.ending.Kept.TheVariants.Steps, declared.ending.Outfit.Outfit, declared.seats.Seats.Seats, Seats.Shared, Seats.first_seats, declared.runs.ThreadReason.ThreadReason, declared.runs.ThreadReason.TheVariants.NoMemory, declared.runs.ThreadReason.TheVariants.NoThread, Runs.IsOneCore}
 use Rattle.osthreads.specs.Threads.{AreAllKept, AreEnded, AreEndsFor, AreEquipped, AreReady, AreSettled, IsReady, IsSameEnd, IsSettled, IsThreadFault, end_kept, end_of, ends_kept, equipped, kept_in, outfit_cores, sent_of, taken_of, which_kept}
-use Rattle.osbase.specs.declared.turns.CoreStimuli.{CoreStimuli}
-use Rattle.osplan.specs.Limits.{is_within_limits}
-use Rattle.osplan.specs.Stimuli.{AreKnown}
-use Rattle.osrun.specs.Sound.{AreSound}
-use Rattle.osthreads.specs.declared.runs.ThreadReason.{ThreadReason}
-use Rattle.osthreads.specs.declared.runs.ThreadReason.TheVariants.{NoMemory, NoThread}
-use Rattle.osthreads.specs.Runs.{IsOneCore}
 use Rattle.osthreads.proofs.Gathering.{AreOneEach, all-configured, reports-alone, reports-cores, reports_of, seats-sound}
 
 pub outfit_cores-push : (os : List Outfit) (o : Outfit) → outfit_cores (os ++ o ∷ []) ≡ outfit_cores os ++ o.seats.board.core ∷ []

@@ -1,54 +1,31 @@
 -- What a worker's turns ask, and which items the answers result in.
 use Rattle.std.proofs.Common.{◌≡◌, ◌⊎◌, ◌<◌, Bool, true, false, cond, Option, Some, None, is_some, IsSome, IsTrue, List, [], ◌∷◌, ◌++◌, length, inl, inr, refl, sym, ap, subst, ◌∙◌, arith, unwrap_or}
-use Rattle.std.proofs.lemmas.Bool.{ltb-true}
-use Rattle.std.proofs.lemmas.Option.{same_Some}
-use Rattle.osbase.specs.declared.statuses.Status.TheVariants.{EOk, EOsId, EOsState}
-use Rattle.osbase.specs.declared.references.CoreId.{CoreId}
-use Rattle.osbase.specs.declared.items.CoreMode.{CoreMode}
-use Rattle.osbase.specs.declared.items.CoreMode.TheVariants.{Named, DontCare}
-use Rattle.osbase.specs.declared.items.Item.{Item}
-use Rattle.osbase.specs.declared.items.Stimulus.{Stimulus}
-use Rattle.osbase.specs.declared.turns.Choice.{Choice}
-use Rattle.osbase.specs.History.{same_core}
-use Rattle.osbase.specs.Sets.{has_core}
-use Rattle.osplan.specs.declared.plans.Plan.{Plan}
-use Rattle.osplan.specs.declared.plans.Core.{Core}
+use Rattle.std.proofs.{lemmas.Bool.ltb-true, lemmas.Option.same_Some}
+use Rattle.osbase.specs.{declared.statuses.Status.TheVariants.EOk, declared.statuses.Status.TheVariants.EOsId, declared.statuses.Status.TheVariants.EOsState, declared.references.CoreId.CoreId, declared.items.CoreMode.CoreMode, declared.items.CoreMode.TheVariants.Named, declared.items.CoreMode.TheVariants.DontCare, declared.items.Item.Item, declared.items.Stimulus.Stimulus, declared.turns.Choice.Choice, History.same_core, Sets.has_core}
+use Rattle.osplan.specs.{declared.plans.Plan.Plan, declared.plans.Core.Core}
 use Rattle.osplan.specs.Limits.{is_core_known, is_core_mode, is_within_limits, sizes_of}
 use Rattle.osplan.specs.View.{View, core_of, is_configured, no_core, view_of}
-use Rattle.osplan.proofs.Numbered.{configured-low}
-use Rattle.osplan.proofs.Tests.{find-passes}
-use Rattle.osplan.proofs.Within.{few-modes, limit-parts}
+use Rattle.osplan.proofs.{Numbered.configured-low, Tests.find-passes, Within.few-modes, Within.limit-parts}
 use Rattle.osstate.proofs.Begun.{is_some-core_of}
 use Rattle.osstate.specs.State.{KernelState}
 use Rattle.osadmit.specs.Admission.{takes_in}
-use Rattle.oskernel.specs.declared.wants.Want.{Want}
-use Rattle.oskernel.specs.declared.wants.Watch.{Watch}
-use Rattle.oskernel.specs.Step.{outbox_size}
-use Rattle.oskernel.specs.Wants.{want_in, watch_in}
+use Rattle.oskernel.specs.{declared.wants.Want.Want, declared.wants.Watch.Watch, Step.outbox_size, Wants.want_in, Wants.watch_in, declared.wants.SpinWish.SpinWish}
 use Rattle.oskernel.proofs.Stages.{is_mail}
-use Rattle.osshared.specs.declared.histories.Entry.{Entry}
+use Rattle.osshared.specs.{declared.histories.Entry.Entry, Seats.Extends, Seats.Held}
 use Rattle.osshared.specs.Histories.{IsLegal, IsLegalFrom, Object, entry}
-use Rattle.osshared.specs.Seats.{Extends, Held}
-use Rattle.osboard.specs.declared.calls.BoardState.{BoardState}
-use Rattle.osboard.specs.declared.calls.BoardCall.{BoardCall}
+use Rattle.osboard.specs.{declared.calls.BoardState.BoardState, declared.calls.BoardCall.BoardCall, declared.calls.BoardReply.BoardReply}
 use Rattle.osboard.specs.declared.calls.BoardCall.TheVariants.{Start, Enter, MakeReady, Drain, Look, LookDrained, AskHalt, LookHalt}
-use Rattle.osboard.specs.declared.calls.BoardReply.{BoardReply}
 use Rattle.osboard.specs.declared.calls.BoardReply.TheVariants.{Started, Acknowledged, Shown, Drained, Decided, Halting}
 use Rattle.osboard.specs.Boards.{HasPlace, IsMode, board_reply, first_asked, start_answer}
-use Rattle.osspin.specs.declared.calls.SpinReply.{SpinReply}
-use Rattle.osspin.specs.declared.calls.SpinReply.TheVariants.{Answered}
+use Rattle.osspin.specs.{declared.calls.SpinReply.SpinReply, declared.calls.SpinReply.TheVariants.Answered}
 use Rattle.osspin.specs.Spins.{holder_of, is_free, is_held_by, spin_reply}
-use Rattle.osrun.specs.declared.requests.Request.{Request}
+use Rattle.osrun.specs.{declared.requests.Request.Request, declared.requests.Reply.Reply, declared.requests.Reply.TheVariants.Replied, declared.requests.Reply.TheVariants.Spun, declared.requests.Reply.TheVariants.Unasked}
 use Rattle.osrun.specs.declared.requests.Request.TheVariants.{OfBoard, OfSpins, Oldest, StartUnknown, TakeStimulus}
-use Rattle.osrun.specs.declared.requests.Reply.{Reply}
-use Rattle.osrun.specs.declared.requests.Reply.TheVariants.{Replied, Spun, Unasked}
-use Rattle.oskernel.specs.declared.wants.SpinWish.{SpinWish}
 use Rattle.oskernel.specs.declared.wants.SpinWish.TheVariants as Wish
 use Rattle.osrun.specs.Requests.{request_by, look_request, item_by, no_calls, own_request, spin_call_of, item_of_spinlock, start_request, call_of_turn}
 use Rattle.osrun.proofs.Resulting.{drained-item, halt-item, is-item, look-item, spinlock-item}
 use Rattle.osthreads.specs.Calling.{ChangesBoard, LoadsBoard, item_of_call, item_of_wish}
-use Rattle.osthreads.specs.declared.turns.Turned.{Turned}
-use Rattle.osthreads.specs.declared.turns.Turned.TheVariants.{Took, Nothing, Refused}
+use Rattle.osthreads.specs.{declared.turns.Turned.Turned, declared.turns.Turned.TheVariants.Took, declared.turns.Turned.TheVariants.Nothing, declared.turns.Turned.TheVariants.Refused}
 use Rattle.osthreads.specs.Working.{IsFruitless, IsStuck, MayAnswer, UnlessTook, MayWait}
 
 -- ---- replies

@@ -2,35 +2,22 @@
 use Rattle.std.proofs.Common.{◌≡◌, ◌<◌, ◌≤◌, ◌+◌, ◌==◌, ◌||◌, ℕ, zero, suc, Bool, true, false, not, cond, nat_lt, Option, Some, None, is_some, IsSome, IsTrue, List, [], ◌∷◌, ◌++◌, length, map, filter, refl, sym, ap, subst, ◌∙◌, arith}
 use Rattle.std.specs.List.{slice_get}
 use Rattle.std.proofs.lemmas.Bool.{and_parts, false≢true, ltb-true, ne_eqb, or_left, or_right, true≢false}
-use Rattle.std.proofs.lemmas.Bool.Decides.{nat_tests}
-use Rattle.std.proofs.lemmas.Option.{slice_get_read}
-use Rattle.osbase.specs.declared.references.CoreId.{CoreId}
-use Rattle.osbase.specs.declared.items.CoreSet.{CoreSet}
-use Rattle.osbase.specs.declared.items.Item.{Item}
-use Rattle.osbase.specs.declared.limits.TheConstants.{CORES}
+use Rattle.std.proofs.{lemmas.Bool.Decides.nat_tests, lemmas.Option.slice_get_read}
+use Rattle.osbase.specs.{declared.references.CoreId.CoreId, declared.items.CoreSet.CoreSet, declared.items.Item.Item, declared.limits.TheConstants.CORES, Phases.is_scheduling, Sets.core_ids, Sets.has_core, Sets.numbers_from}
 use Rattle.osbase.specs.History.{History, Took, received, started_cores}
-use Rattle.osbase.specs.Phases.{is_scheduling}
-use Rattle.osbase.specs.Sets.{core_ids, has_core, numbers_from}
-use Rattle.osbase.proofs.Same.{same_core-true}
-use Rattle.osbase.proofs.Tables.{table-at}
-use Rattle.osplan.specs.declared.plans.Core.{Core}
-use Rattle.osplan.specs.declared.plans.Plan.{Plan}
-use Rattle.osplan.specs.Limits.{is_within_limits}
+use Rattle.osbase.proofs.{Same.same_core-true, Tables.table-at, Places.passes-at}
+use Rattle.osplan.specs.{declared.plans.Core.Core, declared.plans.Plan.Plan, Limits.is_within_limits}
 use Rattle.osplan.specs.View.{View, core_of, is_configured, view_of}
 use Rattle.osplan.proofs.Numbered.{configured-low}
-use Rattle.osbase.proofs.Places.{passes-at}
-use Rattle.osstate.specs.Readings.{phase_at}
-use Rattle.osstate.specs.State.{state_of}
+use Rattle.osstate.specs.{Readings.phase_at, State.state_of}
 use Rattle.osstate.proofs.Begun.{is_some-core_of}
 use Rattle.osadmit.specs.Admission.{admits, are_started_cores}
 use Rattle.osawait.specs.Messages.{is_awaited}
 use Rattle.oskernel.specs.Step.{after, history_from, outbox_size, solo_from}
-use Rattle.oskernel.proofs.Holding.{quiet_after}
-use Rattle.oskernel.proofs.Stages.{solo-parts}
+use Rattle.oskernel.proofs.{Holding.quiet_after, Stages.solo-parts}
 use Rattle.osshared.specs.Seats.{AllApart, has}
 use Rattle.osrun.specs.Fits.{ids_of}
-use Rattle.osrun.proofs.Members.{nobody-there}
-use Rattle.osrun.proofs.Streams.{received_letter, is_from, received-is}
+use Rattle.osrun.proofs.{Members.nobody-there, Streams.received_letter, Streams.is_from, Streams.received-is}
 
 -- ---- the started cores are configured
 

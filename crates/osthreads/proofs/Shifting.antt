@@ -1,30 +1,14 @@
 -- A worker's shift: its beginning, its turns, and what it hands back.
 use Rattle.std.proofs.Common.{⊎_elim, ◌≡◌, ℕ, zero, suc, ◌+◌, ◌*◌, ◌/◌, ◌<◌, ◌≤◌, Bool, true, false, if◌then◌else◌, nat_lt, None, List, [], length, refl, sym, ap, subst, ◌∙◌, arith}
 use Rattle.std.specs.List.{slice_get}
-use Rattle.std.proofs.lemmas.Bool.{cases_eq, false≢true, ltb-true}
-use Rattle.std.proofs.lemmas.Bool.Decides.{nat_tests}
-use Rattle.std.proofs.Math.Nat.{div-lt_iff_lt-mul}
-use Rattle.osbase.specs.declared.references.CoreId.{CoreId}
-use Rattle.osbase.specs.declared.turns.CoreStimuli.{CoreStimuli}
-use Rattle.osbase.specs.declared.turns.Report.{Report}
-use Rattle.osbase.specs.History.{first_phase}
-use Rattle.osbase.specs.Runs.{stimuli_of}
-use Rattle.osplan.specs.declared.plans.Plan.{Plan}
-use Rattle.osplan.specs.View.{View, view_of}
+use Rattle.std.proofs.{lemmas.Bool.cases_eq, lemmas.Bool.false≢true, lemmas.Bool.ltb-true, lemmas.Bool.Decides.nat_tests, Math.Nat.div-lt_iff_lt-mul}
+use Rattle.osbase.specs.{declared.references.CoreId.CoreId, declared.turns.CoreStimuli.CoreStimuli, declared.turns.Report.Report, History.first_phase, Runs.stimuli_of}
+use Rattle.osplan.specs.{declared.plans.Plan.Plan, View.View, View.view_of}
 use Rattle.osstate.specs.State.{KernelState, state_of}
-use Rattle.osrun.specs.Requests.{Calls, no_calls}
+use Rattle.osrun.specs.{Requests.Calls, Requests.no_calls, declared.core_runs.CoreRun.CoreRun, Fits.history_by, Fits.ids_of, Fits.stimuli_in, CoreRuns.is_ended_phase, CoreRuns.report_of, Sound.IsOwn}
 use Rattle.osmail.specs.Ends.{Streams}
-use Rattle.osrun.specs.declared.core_runs.CoreRun.{CoreRun}
-use Rattle.osrun.specs.Fits.{history_by, ids_of, stimuli_in}
-use Rattle.osrun.specs.CoreRuns.{is_ended_phase, report_of}
-use Rattle.osrun.specs.Sound.{IsOwn}
 use Rattle.osrun.proofs.CoreRunning.{seated-first, seated-own}
-use Rattle.osthreads.specs.declared.run.Run.{Run}
-use Rattle.osthreads.specs.declared.turns.Stop.{Stop}
-use Rattle.osthreads.specs.declared.worker.Shift.{Shift}
-use Rattle.osthreads.specs.declared.worker.Worked.{Worked}
-use Rattle.osthreads.specs.declared.worker.Worker.{Worker}
-use Rattle.osthreads.specs.Seats.{made_from}
+use Rattle.osthreads.specs.{declared.run.Run.Run, declared.turns.Stop.Stop, declared.worker.Shift.Shift, declared.worker.Worked.Worked, declared.worker.Worker.Worker, Seats.made_from}
 use Rattle.osthreads.specs.Rounds.{IsGoing, IsStopped, core_count, loads_at, next_at, since_own, turns_of}
 use Rattle.osthreads.specs.Working.{HasDone, HasNoWork, HasWorked, IsFinished, IsStuck, IsWorked, is_ended_by, is_finished_by, refusal_at}
 use Rattle.osthreads.proofs.Working.{next-left}

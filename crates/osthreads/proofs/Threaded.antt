@@ -1,30 +1,17 @@
 -- The runs of all cores, whoever ran them: their reports are sound.
 use mathlib.Core.List.{IsPrefix}
 use Rattle.std.proofs.Common.{◌≡◌, ◌==◌, ◌||◌, Bool, true, false, cond, Some, IsTrue, List, [], ◌∷◌, ◌++◌, map, refl, sym, ap, subst, ◌∙◌}
-use Rattle.std.specs.List.{AllByRecursion, find}
-use Rattle.std.specs.Option.{option_map_or}
+use Rattle.std.specs.{List.AllByRecursion, List.find, Option.option_map_or}
 use Rattle.std.proofs.lemmas.Bool.{eq-eqb, false≢true, ne_eqb}
-use Rattle.osbase.specs.declared.references.CoreId.{CoreId}
-use Rattle.osbase.specs.declared.messages.Letter.{Letter}
-use Rattle.osbase.specs.declared.items.Item.{Item}
-use Rattle.osbase.specs.declared.turns.CoreStimuli.{CoreStimuli}
-use Rattle.osbase.specs.declared.turns.Report.{Report}
-use Rattle.osbase.specs.History.{posted, received, same_core}
-use Rattle.osbase.specs.Runs.{stimuli_of}
+use Rattle.osbase.specs.{declared.references.CoreId.CoreId, declared.messages.Letter.Letter, declared.items.Item.Item, declared.turns.CoreStimuli.CoreStimuli, declared.turns.Report.Report, History.posted, History.received, History.same_core, Runs.stimuli_of}
 use Rattle.osbase.proofs.Same.{same_core-true}
-use Rattle.osplan.specs.declared.plans.Plan.{Plan}
-use Rattle.osplan.specs.Limits.{is_within_limits}
-use Rattle.osplan.specs.Stimuli.{AreKnown}
-use Rattle.osplan.specs.View.{view_of}
-use Rattle.osshared.specs.Runs.{HasLogs}
-use Rattle.osshared.specs.Seats.{has}
+use Rattle.osplan.specs.{declared.plans.Plan.Plan, Limits.is_within_limits, Stimuli.AreKnown, View.view_of}
+use Rattle.osshared.specs.{Runs.HasLogs, Seats.has}
 use Rattle.osboard.specs.Boards.{BoardEntry}
 use Rattle.osspin.specs.Spins.{SpinEntry}
-use Rattle.osrun.specs.Requests.{Calls, calls_of, no_calls}
+use Rattle.osrun.specs.{Requests.Calls, Requests.calls_of, Requests.no_calls, Sound.AreSound, Sound.IsOwn, Sound.lists_in}
 use Rattle.osrun.specs.Fits.{AreAnswered, Fits, FitsCore, history_by, ids_of, items_of}
-use Rattle.osrun.specs.Sound.{AreSound, IsOwn, lists_in}
-use Rattle.osrun.proofs.Alone.{fits-alone}
-use Rattle.osrun.proofs.Grouped.{fits-apart}
+use Rattle.osrun.proofs.{Alone.fits-alone, Grouped.fits-apart}
 use Rattle.osthreads.specs.Runs.{AreDelivered, AreOneSpins, AreRuns, IsDelivered, IsOneBoard}
 use Rattle.osthreads.proofs.Senders.{none-received, unlisted-unseen}
 

@@ -2,55 +2,30 @@
 use Rattle.std.proofs.Common.{◌≡◌, ℕ, zero, suc, ◌+◌, ◌≤◌, Bool, true, false, cond, Option, Some, None, List, [], ◌∷◌, ◌++◌, length, drop, inl, inr, ⊎_elim, refl, sym, ap, subst, ◌∙◌, arith, append_assoc, append-nil, length-append}
 use Rattle.std.specs.List.{AllByRecursion, slice_get}
 use Rattle.std.proofs.lemmas.Option.{same_Some}
-use Rattle.osbase.specs.declared.statuses.Status.TheVariants.{EOsId}
-use Rattle.osbase.specs.declared.references.CoreId.{CoreId}
-use Rattle.osbase.specs.declared.messages.Envelope.{Envelope}
-use Rattle.osbase.specs.declared.messages.Letter.{Letter}
-use Rattle.osbase.specs.declared.histories.Course.{Course}
-use Rattle.osbase.specs.declared.histories.Sent.{Sent}
-use Rattle.osbase.specs.declared.items.Item.{Item}
-use Rattle.osbase.specs.declared.items.Stimulus.{Stimulus}
-use Rattle.osbase.specs.declared.turns.Choice.{Choice}
-use Rattle.osbase.specs.declared.turns.CoreStimuli.{CoreStimuli}
+use Rattle.osbase.specs.{declared.statuses.Status.TheVariants.EOsId, declared.references.CoreId.CoreId, declared.messages.Envelope.Envelope, declared.messages.Letter.Letter, declared.histories.Course.Course, declared.histories.Sent.Sent, declared.items.Item.Item, declared.items.Stimulus.Stimulus, declared.turns.Choice.Choice, declared.turns.CoreStimuli.CoreStimuli, Runs.stimuli_of}
 use Rattle.osbase.specs.History.{History, course_of, front_letter, outbox, posted, received, same_core}
-use Rattle.osbase.specs.Runs.{stimuli_of}
-use Rattle.osplan.specs.declared.plans.Plan.{Plan}
-use Rattle.osplan.specs.View.{View, is_configured, view_of}
+use Rattle.osplan.specs.{declared.plans.Plan.Plan, View.View, View.is_configured, View.view_of}
 use Rattle.osstate.specs.State.{KernelState, state_of}
-use Rattle.oskernel.specs.declared.wants.Watch.{Watch}
+use Rattle.oskernel.specs.{declared.wants.Watch.Watch, declared.wants.SpinWish.SpinWish, declared.wants.Want.Want}
 use Rattle.osadmit.specs.Admission.{serves_in, takes_in}
 use Rattle.oskernel.specs.Step.{after, history_from, outbox_size, serves, takes}
 use Rattle.oskernel.specs.Wants.{front_of, want_in, want_of, watch_in, watch_of}
 use Rattle.oskernel.proofs.Stages.{is_mail}
-use Rattle.osshared.specs.declared.histories.Entry.{Entry}
-use Rattle.osshared.specs.Histories.{Thinned, entry}
+use Rattle.osshared.specs.{declared.histories.Entry.Entry, Histories.Thinned, Histories.entry}
 use Rattle.osshared.proofs.Thins.{logged}
-use Rattle.osboard.specs.declared.calls.BoardCall.{BoardCall}
+use Rattle.osboard.specs.{declared.calls.BoardCall.BoardCall, declared.calls.BoardReply.BoardReply, Boards.BoardEntry, Boards.IsLook}
 use Rattle.osboard.specs.declared.calls.BoardCall.TheVariants.{Start, Enter, MakeReady, Drain, Look, LookDrained, AskHalt, LookHalt}
-use Rattle.osboard.specs.declared.calls.BoardReply.{BoardReply}
 use Rattle.osboard.specs.declared.calls.BoardReply.TheVariants.{Started, Acknowledged, Shown, Drained, Decided, Halting}
-use Rattle.osboard.specs.Boards.{BoardEntry, IsLook}
-use Rattle.osspin.specs.declared.calls.SpinReply.{SpinReply}
-use Rattle.osspin.specs.declared.calls.SpinReply.TheVariants.{Answered}
-use Rattle.osspin.specs.Spins.{IsRefusedCall, SpinEntry}
+use Rattle.osspin.specs.{declared.calls.SpinReply.SpinReply, declared.calls.SpinReply.TheVariants.Answered, Spins.IsRefusedCall, Spins.SpinEntry}
 use Rattle.osmail.specs.Ends.{AreUnchanged, HasOneMore, Streams}
-use Rattle.osrun.specs.declared.requests.Request.{Request}
+use Rattle.osrun.specs.{declared.requests.Request.Request, declared.requests.Reply.Reply, declared.core_runs.CoreRun.CoreRun, CoreRuns.stimulus_count, CoreRuns.Keeps, CoreRuns.Took}
 use Rattle.osrun.specs.declared.requests.Request.TheVariants.{OfBoard, OfSpins, Room, Oldest, StartUnknown, TakeStimulus}
-use Rattle.osrun.specs.declared.requests.Reply.{Reply}
 use Rattle.osrun.specs.declared.requests.Reply.TheVariants.{Replied, Spun, HasRoom, Found, Unasked}
-use Rattle.osrun.specs.declared.core_runs.CoreRun.{CoreRun}
-use Rattle.oskernel.specs.declared.wants.SpinWish.{SpinWish}
-use Rattle.oskernel.specs.declared.wants.Want.{Want}
 use Rattle.osrun.specs.Requests.{Calls, request_by, call_of_item, joined, look_request, item_by, no_calls, own_request, spin_call_of, start_request, call_of_turn}
 use Rattle.osrun.specs.Fits.{AreAnswered, FitsCore, ResultsIn, history_by, stimuli_in}
-use Rattle.osrun.specs.CoreRuns.{stimulus_count}
-use Rattle.osrun.proofs.Answered.{answered-push}
-use Rattle.osrun.proofs.Called.{called-for}
-use Rattle.osrun.proofs.Asked.{IsOwnRequest, asks-own}
+use Rattle.osrun.proofs.{Answered.answered-push, Called.called-for, Asked.IsOwnRequest, Asked.asks-own, CoreRunning.seated-kept, CoreRunning.seated-on}
 use Rattle.osrun.proofs.Resulting.{drained-item, halt-item, is-item, look-item, spinlock-item}
 use Rattle.osrun.proofs.Longer.{IsInTurn, core-on, history_from-push, length-stimuli_in}
-use Rattle.osrun.specs.CoreRuns.{Keeps, Took}
-use Rattle.osrun.proofs.CoreRunning.{seated-kept, seated-on}
 use Rattle.osrun.proofs.Streams.{received_letter, is_from, is_post_to, posted-after, received-is}
 use Rattle.osthreads.specs.Working.{AreCalls, AreSpinCalls, HasDone, IsAsked, IsAtWork, IsFruitless, IsIdleLook, IsMailed, IsRefusedWish, MayWait}
 

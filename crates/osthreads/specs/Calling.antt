@@ -1,8 +1,6 @@
 -- What a worker calls the board and the spinlocks for. [own]
 use Rattle.std.specs.Prelude.{◌≡◌, ◌⊎◌, true}
-use Rattle.osbase.specs.declared.statuses.Status.TheVariants.{EOk}
-use Rattle.osbase.specs.declared.references.CoreId.{CoreId}
-use Rattle.osbase.specs.declared.items.Item.{Item}
+use Rattle.osbase.specs.{declared.statuses.Status.TheVariants.EOk, declared.references.CoreId.CoreId, declared.items.Item.Item}
 use Rattle.osboard.specs.declared.calls.BoardCall.{BoardCall}
 use Rattle.osboard.specs.declared.calls.BoardCall.TheVariants.{Start, Enter, MakeReady, Drain, Look, LookDrained, AskHalt, LookHalt}
 use Rattle.oskernel.specs.declared.wants.SpinWish.{SpinWish}

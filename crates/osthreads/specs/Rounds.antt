@@ -4,8 +4,7 @@ use Rattle.std.specs.Prelude.{◌≡◌, ◌+◌, ◌<◌, ◌≤◌, nat_lt, �
 use Rattle.osbase.specs.declared.turns.CoreStimuli.{CoreStimuli}
 use Rattle.osmail.specs.Ends.{Streams}
 use Rattle.osrun.specs.CoreRuns.{is_ended_phase}
-use Rattle.osthreads.specs.declared.turns.Stop.{Stop}
-use Rattle.osthreads.specs.declared.worker.Shift.{Shift}
+use Rattle.osthreads.specs.{declared.turns.Stop.Stop, declared.worker.Shift.Shift}
 use Rattle.osthreads.specs.Working.{HasNoWork, HasWorked, is_ended_by, refusal_at}
 
 -- A round has a turn for every other core, one for the core's own work, and then a look. So the look has the number of cores as its

@@ -3,20 +3,13 @@
 use mathlib.Core.List.{IsPrefix}
 use Rattle.std.specs.Prelude.{◌≡◌, ℕ, None, List, [], ◌∷◌, map}
 use Rattle.std.specs.List.{AllByRecursion}
-use Rattle.osbase.specs.declared.references.CoreId.{CoreId}
-use Rattle.osbase.specs.declared.turns.CoreStimuli.{CoreStimuli}
-use Rattle.osbase.specs.declared.turns.Report.{Report}
-use Rattle.osbase.specs.History.{posted, received}
-use Rattle.osplan.specs.declared.plans.Plan.{Plan}
-use Rattle.osplan.specs.View.{core_of, view_of}
-use Rattle.osshared.specs.declared.histories.Plan.{Plan as SeatPlan}
-use Rattle.osshared.specs.Histories.{IsLegal}
-use Rattle.osshared.specs.Runs.{IsOneRun}
+use Rattle.osbase.specs.{declared.references.CoreId.CoreId, declared.turns.CoreStimuli.CoreStimuli, declared.turns.Report.Report, History.posted, History.received}
+use Rattle.osplan.specs.{declared.plans.Plan.Plan, View.core_of, View.view_of}
+use Rattle.osshared.specs.{declared.histories.Plan.Plan as SeatPlan, Histories.IsLegal, Runs.IsOneRun}
 use Rattle.osboard.specs.Boards.{one_board}
 use Rattle.osspin.specs.Spins.{spinlocks}
-use Rattle.osrun.specs.Requests.{Calls, calls_of, no_calls}
+use Rattle.osrun.specs.{Requests.Calls, Requests.calls_of, Requests.no_calls, Sound.IsOwn}
 use Rattle.osrun.specs.Fits.{AreAnswered, FitsCore, history_by, ids_of}
-use Rattle.osrun.specs.Sound.{IsOwn}
 use Rattle.osthreads.specs.Working.{IsFinished}
 
 -- The report says what its own items say, and they fit what was listed for its core.

@@ -2,10 +2,8 @@
 use Rattle.std.specs.Prelude.{◌≡◌, List, [], ◌∷◌}
 use Rattle.osbase.specs.declared.references.CoreId.{CoreId}
 use Rattle.osshared.specs.Seats.{Held, Place, fresh}
-use Rattle.osboard.specs.declared.calls.BoardCall.{BoardCall}
-use Rattle.osboard.specs.declared.calls.BoardReply.{BoardReply}
-use Rattle.osspin.specs.declared.calls.SpinCall.{SpinCall}
-use Rattle.osspin.specs.declared.calls.SpinReply.{SpinReply}
+use Rattle.osboard.specs.{declared.calls.BoardCall.BoardCall, declared.calls.BoardReply.BoardReply}
+use Rattle.osspin.specs.{declared.calls.SpinCall.SpinCall, declared.calls.SpinReply.SpinReply}
 use Rattle.osrun.specs.Requests.{Calls}
 use Rattle.osthreads.specs.declared.seats.Seats.{Seats}
 

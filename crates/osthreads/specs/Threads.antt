@@ -2,31 +2,17 @@
 use mathlib.Core.List.{IsPrefix}
 use Rattle.std.specs.Prelude.{◌≡◌, ℕ, true, Option, Some, None, IfSome, IsSome, List, [], ◌∷◌, ◌++◌, map, option_map}
 use Rattle.std.specs.List.{AllByRecursion}
-use Rattle.osbase.specs.declared.references.CoreId.{CoreId}
-use Rattle.osbase.specs.declared.turns.CoreStimuli.{CoreStimuli}
-use Rattle.osplan.specs.declared.plans.Plan.{Plan}
-use Rattle.osplan.specs.View.{core_of, view_of}
+use Rattle.osbase.specs.{declared.references.CoreId.CoreId, declared.turns.CoreStimuli.CoreStimuli, declared.messages.MailKind.MailKind, declared.messages.MailKind.TheVariants.Locked, declared.messages.MailKind.TheVariants.Ring, declared.turns.Report.Report}
+use Rattle.osplan.specs.{declared.plans.Plan.Plan, View.core_of, View.view_of}
 use Rattle.osshared.specs.Histories.{Thinned}
-use Rattle.osmail.specs.declared.rings.RingEnd.{RingEnd}
-use Rattle.osmail.specs.Ends.{Streams, sent_to, taken_from}
+use Rattle.osmail.specs.{declared.rings.RingEnd.RingEnd, Ends.Streams, Ends.sent_to, Ends.taken_from}
 use Rattle.osmail.specs.Rings.{EndId, IsUnused, core_of_end, end_id, ring_sent, ring_taken}
 use Rattle.osboard.specs.Boards.{IsLook}
 use Rattle.osspin.specs.Spins.{IsRefusedCall}
-use Rattle.osrun.specs.Requests.{Calls, no_calls}
-use Rattle.osrun.specs.Fits.{history_by, ids_of}
-use Rattle.osthreads.specs.declared.ending.Ending.{Ending}
-use Rattle.osthreads.specs.declared.ending.Kept.{Kept}
-use Rattle.osthreads.specs.declared.ending.Kept.TheVariants.{Rings, Steps}
-use Rattle.osthreads.specs.declared.ending.Outfit.{Outfit}
-use Rattle.osbase.specs.declared.messages.MailKind.{MailKind}
-use Rattle.osbase.specs.declared.messages.MailKind.TheVariants.{Locked, Ring}
-use Rattle.osthreads.specs.declared.seats.Seats.{Seats}
-use Rattle.osthreads.specs.Runs.{IsOneCore, IsRun}
+use Rattle.osrun.specs.{Requests.Calls, Requests.no_calls, Fits.history_by, Fits.ids_of, Sound.AreSound}
+use Rattle.osthreads.specs.{declared.ending.Ending.Ending, declared.ending.Kept.Kept, declared.ending.Kept.TheVariants.Rings, declared.ending.Kept.TheVariants.Steps, declared.ending.Outfit.Outfit, declared.seats.Seats.Seats, Runs.IsOneCore, Runs.IsRun, declared.runs.ThreadReason.ThreadReason}
 use Rattle.osthreads.specs.Seats.{AreAt, Shared, first_seats, made_from}
 use Rattle.osthreads.specs.Working.{IsFinished, IsMailed, is_finished_by, is_kept_by, refusal_at}
-use Rattle.osrun.specs.Sound.{AreSound}
-use Rattle.osbase.specs.declared.turns.Report.{Report}
-use Rattle.osthreads.specs.declared.runs.ThreadReason.{ThreadReason}
 use Rattle.osthreads.specs.declared.runs.ThreadReason.TheVariants.{NotBegun, NoMemory, NoThread, MailBreak}
 
 -- What a core's end of the mail sent and took, by what it left behind.

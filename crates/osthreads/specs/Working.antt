@@ -1,46 +1,22 @@
 -- What a worker of one core has done, said of its core, of its calls of the board and the spinlocks, and of its end of the mail. [own]
 use Rattle.std.specs.Prelude.{◌≡◌, ◌⊎◌, ◌+◌, ◌/◌, ◌<◌, ◌≤◌, ℕ, Bool, true, false, Option, Some, None, if◌then◌else◌, List, [], ◌∷◌, ◌++◌, length, slice_get, vec_len, vec_capacity}
 use Rattle.std.specs.List.{AllByRecursion}
-use Rattle.osbase.specs.declared.references.CoreId.{CoreId}
-use Rattle.osbase.specs.declared.messages.Letter.{Letter}
-use Rattle.osbase.specs.declared.items.Item.{Item}
-use Rattle.osbase.specs.declared.items.Stimulus.{Stimulus}
-use Rattle.osbase.specs.declared.turns.Choice.{Choice}
-use Rattle.osbase.specs.declared.turns.CoreStimuli.{CoreStimuli}
-use Rattle.osbase.specs.declared.turns.Report.{Report}
+use Rattle.osbase.specs.{declared.references.CoreId.CoreId, declared.messages.Letter.Letter, declared.items.Item.Item, declared.items.Stimulus.Stimulus, declared.turns.Choice.Choice, declared.turns.CoreStimuli.CoreStimuli, declared.turns.Report.Report, Runs.stimuli_of}
 use Rattle.osbase.specs.History.{History, posted, received, same_core}
-use Rattle.osbase.specs.Runs.{stimuli_of}
-use Rattle.osplan.specs.declared.plans.Plan.{Plan}
-use Rattle.osplan.specs.View.{View, view_of}
+use Rattle.osplan.specs.{declared.plans.Plan.Plan, View.View, View.view_of}
 use Rattle.osstate.specs.State.{KernelState, state_of}
 use Rattle.osadmit.specs.Admission.{takes_in}
 use Rattle.oskernel.specs.Step.{after, history_from, outbox_size, serves, takes}
-use Rattle.oskernel.specs.Wants.{want_in, want_of, watch_in}
+use Rattle.oskernel.specs.{Wants.want_in, Wants.want_of, Wants.watch_in, declared.wants.SpinWish.SpinWish, declared.wants.Want.Want}
 use Rattle.osshared.specs.Histories.{Thinned, entry}
-use Rattle.osboard.specs.declared.calls.BoardState.{BoardState}
-use Rattle.osboard.specs.Boards.{BoardEntry, IsLook, board_reply}
-use Rattle.osspin.specs.declared.calls.SpinReply.TheVariants.{Answered}
-use Rattle.osspin.specs.Spins.{SpinEntry, spin_reply}
+use Rattle.osboard.specs.{declared.calls.BoardState.BoardState, Boards.BoardEntry, Boards.IsLook, Boards.board_reply}
+use Rattle.osspin.specs.{declared.calls.SpinReply.TheVariants.Answered, Spins.SpinEntry, Spins.spin_reply}
 use Rattle.osmail.specs.Ends.{Streams}
-use Rattle.osrun.specs.declared.requests.Reply.{Reply}
-use Rattle.osrun.specs.declared.requests.Reply.TheVariants.{Replied, Spun}
-use Rattle.osrun.specs.declared.requests.Request.{Request}
-use Rattle.osrun.specs.declared.requests.Request.TheVariants.{OfBoard, OfSpins, Room}
-use Rattle.osrun.specs.declared.core_runs.CoreRun.{CoreRun}
-use Rattle.oskernel.specs.declared.wants.SpinWish.{SpinWish}
+use Rattle.osrun.specs.{declared.requests.Reply.Reply, declared.requests.Reply.TheVariants.Replied, declared.requests.Reply.TheVariants.Spun, declared.requests.Request.Request, declared.requests.Request.TheVariants.OfBoard, declared.requests.Request.TheVariants.OfSpins, declared.requests.Request.TheVariants.Room, declared.core_runs.CoreRun.CoreRun, CoreRuns.HasRoomForItem, CoreRuns.IsCoreRun, Sound.IsOwn}
 use Rattle.oskernel.specs.declared.wants.SpinWish.TheVariants as Wish
-use Rattle.oskernel.specs.declared.wants.Want.{Want}
 use Rattle.osrun.specs.Requests.{Calls, request_by, call_of_item, item_by, spin_call_of}
 use Rattle.osrun.specs.Fits.{AreAnswered, FitsCore, history_by, ids_of, stimuli_in}
-use Rattle.osrun.specs.CoreRuns.{HasRoomForItem, IsCoreRun}
-use Rattle.osrun.specs.Sound.{IsOwn}
-use Rattle.osthreads.specs.declared.run.Run.{Run}
-use Rattle.osthreads.specs.Seats.{made_from}
-use Rattle.osthreads.specs.declared.turns.Stop.{Stop}
-use Rattle.osthreads.specs.declared.turns.Turned.{Turned}
-use Rattle.osthreads.specs.declared.turns.Turned.TheVariants.{Took, Nothing, Refused}
-use Rattle.osthreads.specs.declared.worker.Worker.{Worker}
-use Rattle.osthreads.specs.declared.worker.Worked.{Worked}
+use Rattle.osthreads.specs.{declared.run.Run.Run, Seats.made_from, declared.turns.Stop.Stop, declared.turns.Turned.Turned, declared.turns.Turned.TheVariants.Took, declared.turns.Turned.TheVariants.Nothing, declared.turns.Turned.TheVariants.Refused, declared.worker.Worker.Worker, declared.worker.Worked.Worked}
 
 -- ---- what a turn requests
 

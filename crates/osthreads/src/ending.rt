@@ -70,8 +70,7 @@ pub struct EndOf<'a> {
 }
 
 impl<'a> Promise<Ending> for EndOf<'a> {
-    ghost use Rattle.osthreads.specs.Seats.{shared};
-    ghost use Rattle.osthreads.specs.Threads.{IsEnded, IsSameEnd};
+    ghost use Rattle.osthreads.specs.{Seats.shared, Threads.IsEnded, Threads.IsSameEnd};
 
     ghost kept_by = { λ p e. IsEnded p.run.config.now p.run.stimuli.now p.run.turns (shared p.run.board.now p.run.bank.now) p.id e × IsSameEnd p.end.value e.kept };
 }

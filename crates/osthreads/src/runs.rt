@@ -2,18 +2,12 @@
 
 ghost use Rattle.std.specs.Prelude.{◌≡◌, ◌≤◌, [], ◌⊎◌, IsTrue, IfOk, IfErr, IfNone, IfSome, map, vec_len, vec_capacity};
 ghost use Rattle.osmail.specs.Rings.{AreCores, IsUnused, end_id};
-ghost use Rattle.osbase.specs.declared.limits.TheConstants.{MAILBOX};
-ghost use Rattle.osbase.specs.declared.messages.MailKind.TheVariants.{Locked};
+ghost use Rattle.osbase.specs.{declared.limits.TheConstants.MAILBOX, declared.messages.MailKind.TheVariants.Locked};
 ghost use Rattle.std.specs.List.{AllByRecursion, list_all, list_any};
 ghost use Rattle.osplan.specs.Stimuli.{AreKnown};
-ghost use Rattle.osrun.specs.Fits.{ids_of};
-ghost use Rattle.osrun.specs.Sound.{AreSound};
-ghost use Rattle.osthreads.specs.declared.ending.Ending.{Ending as EndingValue};
-ghost use Rattle.osthreads.specs.Runs.{AreFinished, new_board, new_spins};
-ghost use Rattle.osthreads.specs.declared.runs.ThreadReason.TheVariants.{NoMemory, NoThread};
-ghost use Rattle.osthreads.specs.Seats.{first_seats, paired, shared};
+ghost use Rattle.osrun.specs.{Fits.ids_of, Sound.AreSound};
+ghost use Rattle.osthreads.specs.{declared.ending.Ending.Ending as EndingValue, Runs.AreFinished, Runs.new_board, Runs.new_spins, declared.runs.ThreadReason.TheVariants.NoMemory, declared.runs.ThreadReason.TheVariants.NoThread, Seats.first_seats, Seats.paired, Seats.shared, Working.is_kept_by, Working.was_stopped_by};
 ghost use Rattle.osthreads.specs.Threads.{AreAllFinished, AreAllKept, AreEndsFor, AreEquipped, AreSettled, IsSettled, IsThreadFault, ends_kept, equipped};
-ghost use Rattle.osthreads.specs.Working.{is_kept_by, was_stopped_by};
 
 use crate::ending::{Ending, Outfit};
 use crate::gates::Gate;

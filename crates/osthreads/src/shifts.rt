@@ -1,12 +1,9 @@
 //! One core's worker: turn by turn, until its core has ended or its turns change nothing any more.
 
 ghost use Rattle.std.specs.Prelude.{◌≡◌, ◌+◌, ◌<◌, [], IsSome, IfNone, IfSome, List, length};
-ghost use Rattle.osbase.specs.declared.references.CoreId.{CoreId as CoreIdValue};
-ghost use Rattle.osbase.specs.declared.turns.CoreStimuli.{CoreStimuli as CoreStimuliValue};
+ghost use Rattle.osbase.specs.{declared.references.CoreId.CoreId as CoreIdValue, declared.turns.CoreStimuli.CoreStimuli as CoreStimuliValue};
 ghost use Rattle.osplan.specs.View.{core_of};
-ghost use Rattle.osrun.specs.Fits.{ids_of};
-ghost use Rattle.osrun.specs.CoreRuns.{report_of};
-ghost use Rattle.osrun.specs.Requests.{no_calls};
+ghost use Rattle.osrun.specs.{Fits.ids_of, CoreRuns.report_of, Requests.no_calls};
 ghost use Rattle.osthreads.specs.Seats.{AreAt, made_from, shared};
 ghost use Rattle.osthreads.specs.Rounds.{IsGoing, IsStopped, loads_at, next_at};
 ghost use Rattle.osthreads.specs.Working.{HasNoWork, IsSameWorker, IsWorked, MayTake, Turns, UnlessTook};

@@ -4,15 +4,9 @@
 ghost use Rattle.std.specs.Prelude.{false, ◌≡◌, ◌<◌, ◌⊎◌, OnOk};
 ghost use Rattle.osadmit.specs.Admission.{takes_in};
 ghost use Rattle.oskernel.specs.Step.{outbox_size};
-ghost use Rattle.osshared.specs.Histories.{entry};
-ghost use Rattle.osshared.specs.Seats.{Extends};
-ghost use Rattle.osspin.specs.declared.calls.SpinReply.TheVariants.{Answered};
-ghost use Rattle.osspin.specs.Spins.{spinlocks};
-ghost use Rattle.osrun.specs.declared.requests.Reply.{Reply as ReplyValue};
-ghost use Rattle.osrun.specs.declared.requests.Reply.TheVariants.{Unasked};
-ghost use Rattle.osrun.specs.declared.requests.Request.TheVariants.{OfBoard, OfSpins, Room};
-ghost use Rattle.osrun.specs.CoreRuns.{Keeps};
-ghost use Rattle.osrun.specs.Requests.{spin_call_of};
+ghost use Rattle.osshared.specs.{Histories.entry, Seats.Extends};
+ghost use Rattle.osspin.specs.{declared.calls.SpinReply.TheVariants.Answered, Spins.spinlocks};
+ghost use Rattle.osrun.specs.{declared.requests.Reply.Reply as ReplyValue, declared.requests.Reply.TheVariants.Unasked, declared.requests.Request.TheVariants.OfBoard, declared.requests.Request.TheVariants.OfSpins, declared.requests.Request.TheVariants.Room, CoreRuns.Keeps, Requests.spin_call_of};
 ghost use Rattle.osboard.specs.Boards.{HasPlace};
 ghost use Rattle.osbase.specs.declared.limits.TheConstants.{SPINLOCKS};
 ghost use Rattle.osthreads.specs.Calling.{ChangesBoard, LoadsBoard, item_of_call, item_of_wish};

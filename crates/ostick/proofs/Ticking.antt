@@ -1,23 +1,13 @@
 -- A tick, counter by counter.
-use Rattle.std.proofs.Common.{◌≡◌, ℕ, zero, suc, ◌+◌, ◌≤◌, Bool, true, false, List, [], ◌∷◌, ◌++◌, length, filter, refl, ap, sym, subst, ◌∙◌, arith, sum_by, add-one, Vec, Global}
+use Rattle.std.proofs.Common.{◌≡◌, ℕ, zero, suc, ◌+◌, ◌≤◌, true, List, [], ◌∷◌, ◌++◌, length, filter, refl, ap, ◌∙◌, arith, sum_by, add-one}
 use Rattle.std.proofs.lemmas.List.Sums.{length-filter, sum_by-cons, sum_by-le-sum_by, sum_by_push}
-use Rattle.osbase.specs.declared.references.AlarmRef.{AlarmRef}
-use Rattle.osbase.specs.declared.references.CounterRef.{CounterRef}
-use Rattle.osbase.specs.declared.references.TableRef.{TableRef}
-use Rattle.osbase.specs.declared.marks.Mark.{Mark}
-use Rattle.osbase.specs.Sets.{numbers_from}
-use Rattle.osplan.specs.declared.plans.Core.{Core}
-use Rattle.osplan.specs.Objects.{most_posts_of_table, most_posts_per_tick}
+use Rattle.osbase.specs.{declared.references.AlarmRef.AlarmRef, declared.references.CounterRef.CounterRef, declared.references.TableRef.TableRef, Sets.numbers_from}
+use Rattle.osplan.specs.{declared.plans.Core.Core, Objects.most_posts_of_table, Objects.most_posts_per_tick}
 use Rattle.osclock.specs.Clocks.{alarm_refs, attached_to, counter_ref}
 use Rattle.osclock.proofs.Portions.{attached-portions}
 use Rattle.osstate.specs.State.{KernelState}
 use Rattle.ostable.specs.Tables.{table_refs, timed_by}
-use Rattle.ostable.proofs.Portions.{sum-of-plans, timed-portions}
-use Rattle.ostable.proofs.Sums.{sum-both}
-use Rattle.osacts.specs.Acts.{Acts, look, when}
-use Rattle.osacts.specs.Runs.{seen_in}
-use Rattle.osacts.specs.Seen.{Seen}
-use Rattle.osacts.specs.Steps.{Steps}
+use Rattle.ostable.proofs.{Portions.sum-of-plans, Portions.timed-portions, Sums.sum-both}
 use Rattle.osexpiry.specs.Advancing.{posted_at_point, posted_by, posted_for, posts_by}
 use Rattle.osexpiry.proofs.Postings.{sum-of-alarms}
 
@@ -107,21 +97,3 @@ posted-within core place =
     )
 
 -- ---- steps at what is read now, and by a test
-
-module _ {a m : ℕ} {s s' : KernelState} {vec vec' : Vec Mark Global} where
-  pub looked : {f : Seen → Acts} → Steps a m (f (seen_in s)) s s' vec vec' → Steps a m (look f) s s' vec vec'
-  looked e = record { state = e.state; prints = e.prints; view = e.view; phase = e.phase; count = e.count; len = e.len; capacity = e.capacity }
-
-  pub where-holds : {b : Bool} {x y : Acts} → b ≡ true → Steps a m x s s' vec vec' → Steps a m (when b x y) s s' vec vec'
-  where-holds {b} {x} {y} is e =
-      subst (λ (c : Bool). Steps a m (when c x y) s s' vec vec') (sym is)
-      (record { state = e.state; prints = e.prints; view = e.view; phase = e.phase; count = e.count; len = e.len; capacity = e.capacity })
-
-  pub where-fails : {b : Bool} {x y : Acts} → b ≡ false → Steps a m y s s' vec vec' → Steps a m (when b x y) s s' vec vec'
-  where-fails {b} {x} {y} is e =
-      subst (λ (c : Bool). Steps a m (when c x y) s s' vec vec') (sym is)
-      (record { state = e.state; prints = e.prints; view = e.view; phase = e.phase; count = e.count; len = e.len; capacity = e.capacity })
-
-  -- With room for more.
-  pub wider : {b n : ℕ} {x : Acts} → a ≤ b → m ≤ n → Steps a m x s s' vec vec' → Steps b n x s s' vec vec'
-  wider few short e = record { state = e.state; prints = e.prints; view = e.view; phase = e.phase; count = omega (arith, few, e.count); len = omega (arith, short, e.len); capacity = e.capacity }

@@ -1,8 +1,6 @@
 -- A job that has used up its execution budget or a lock budget, and how its core answers.
 use Rattle.std.specs.Prelude.{if◌then◌else◌, Option, Some, None}
-use Rattle.osbase.specs.declared.statuses.Status.{Status}
-use Rattle.osbase.specs.declared.statuses.Status.TheVariants.{EOsProtectionLocked, EOsProtectionTime}
-use Rattle.osbase.specs.declared.references.Runner.{Runner}
+use Rattle.osbase.specs.{declared.statuses.Status.Status, declared.statuses.Status.TheVariants.EOsProtectionLocked, declared.statuses.Status.TheVariants.EOsProtectionTime, declared.references.Runner.Runner}
 use Rattle.osbase.specs.declared.marks.Mark.TheVariants as Mark
 use Rattle.osplan.specs.declared.protection.Protection.{Protection}
 use Rattle.osjobs.specs.Locks.{is_overheld}

@@ -2,8 +2,7 @@
 use Rattle.std.specs.Prelude.{ℕ}
 use Rattle.osbase.specs.declared.marks.Mark.TheVariants as Mark
 use Rattle.osbase.specs.Phases.{is_going}
-use Rattle.osplan.specs.declared.plans.Core.{Core}
-use Rattle.osplan.specs.declared.plans.Counter.{Counter}
+use Rattle.osplan.specs.{declared.plans.Core.Core, declared.plans.Counter.Counter}
 use Rattle.osclock.specs.Clocks.{counter_ref}
 use Rattle.osacts.specs.Acts.{Acts, both, in_turn, look, nothing, prints, when}
 use Rattle.osexpiry.specs.Advancing.{counts}

@@ -3,10 +3,9 @@
 ghost use Rattle.std.specs.Prelude.{◌≡◌, IsTrue};
 ghost use Rattle.osjobs.specs.Priorities.{is_own_runner};
 ghost use Rattle.osstate.specs.Does.{HasRoom};
-ghost use Rattle.osacts.specs.Acts.{look};
+ghost use Rattle.osacts.specs.{Acts.look, Runs.seen_in, Steps.PostsNone};
+ghost use Rattle.osservice.specs.Terms.{MayAct};
 ghost use Rattle.ostick.specs.Faults.{answers_fault, ends_by_force, faults_with, fault_of, protects};
-ghost use Rattle.osacts.specs.Runs.{seen_in};
-ghost use Rattle.osacts.specs.Steps.{Steps};
 
 use osbase::{Mark, Runner, Status};
 use oscall::shutdown::go_down;
@@ -20,8 +19,7 @@ pub(crate) fn protect<const P: usize, const J: usize, const OUT: usize>(
     marks: &mut Vec<Mark>,
 )
     requires { HasRoom 3 2 state.old marks.old }
-    ensures steps { Steps 3 2 (look (λ s. protects s s.running)) state.old state.new marks.old marks.new }
-    ensures outbox { state.new.border.outbox ≡ state.old.border.outbox }
+    ensures { PostsNone 3 2 (look (λ s. protects s s.running)) state.old state.new marks.old marks.new }
 {
     if let Some(job) = state.running_job() {
         protect_from(state, job.runner, marks);
@@ -33,10 +31,8 @@ fn protect_from<const P: usize, const J: usize, const OUT: usize>(
     runner: Runner,
     marks: &mut Vec<Mark>,
 )
-    requires own { IsTrue (is_own_runner state.old.view.own runner) }
-    requires room { HasRoom 3 2 state.old marks.old }
-    ensures steps { Steps 3 2 (look (λ s. faults_with s.core.protection runner (fault_of s runner))) state.old state.new marks.old marks.new }
-    ensures outbox { state.new.border.outbox ≡ state.old.border.outbox }
+    requires { MayAct 3 2 state.old runner marks.old }
+    ensures { PostsNone 3 2 (look (λ s. faults_with s.core.protection runner (fault_of s runner))) state.old state.new marks.old marks.new }
 {
     if let Some(status) = fault_of(state, runner) {
         state.print(Mark::ProtectionHook(status), marks);
@@ -68,10 +64,8 @@ fn answer<const P: usize, const J: usize, const OUT: usize>(
     status: Status,
     marks: &mut Vec<Mark>,
 )
-    requires own { IsTrue (is_own_runner state.old.view.own runner) }
-    requires room { HasRoom 2 1 state.old marks.old }
-    ensures steps { Steps 2 1 (look (λ s. answers_fault s.core.protection runner status)) state.old state.new marks.old marks.new }
-    ensures outbox { state.new.border.outbox ≡ state.old.border.outbox }
+    requires { MayAct 2 1 state.old runner marks.old }
+    ensures { PostsNone 2 1 (look (λ s. answers_fault s.core.protection runner status)) state.old state.new marks.old marks.new }
 {
     match state.protection() {
         Protection::TerminateTaskIsr => end_by_force(state, runner, marks),
@@ -85,10 +79,8 @@ fn end_by_force<const P: usize, const J: usize, const OUT: usize>(
     runner: Runner,
     marks: &mut Vec<Mark>,
 )
-    requires own { IsTrue (is_own_runner state.old.view.own runner) }
-    requires room { HasRoom 1 1 state.old marks.old }
-    ensures steps { Steps 1 1 (ends_by_force runner) state.old state.new marks.old marks.new }
-    ensures outbox { state.new.border.outbox ≡ state.old.border.outbox }
+    requires { MayAct 1 1 state.old runner marks.old }
+    ensures { PostsNone 1 1 (ends_by_force runner) state.old state.new marks.old marks.new }
 {
     match runner {
         Runner::Task(task) => state.terminate(task, marks),

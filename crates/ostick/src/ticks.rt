@@ -1,14 +1,13 @@
 //! A tick: the budget of the running job, and the core's hardware counters.
 
-ghost use Rattle.std.specs.Prelude.{◌+◌, ◌≤◌, IsTrue, length};
+ghost use Rattle.std.specs.Prelude.{◌+◌, IsTrue};
 ghost use Rattle.osbase.specs.Objects.{counter_object};
 ghost use Rattle.osplan.specs.Objects.{is_own_object, most_posts_per_tick};
 ghost use Rattle.osstate.specs.Does.{service_entries, service_marks};
 ghost use Rattle.osservice.specs.Terms.{MayPost};
-ghost use Rattle.osacts.specs.Acts.{nothing, when};
+ghost use Rattle.osacts.specs.{Acts.nothing, Acts.when, Steps.Posts, Steps.Steps};
 ghost use Rattle.osexpiry.specs.Advancing.{count_entries, count_marks, counts, posted_by};
 ghost use Rattle.ostick.specs.Ticks.{counted_entries, counted_marks, counts_each, ticks};
-ghost use Rattle.osacts.specs.Steps.{Steps};
 
 use crate::faults::protect;
 use osbase::{CounterRef, Mark};
@@ -59,8 +58,7 @@ fn count_by_tick<const P: usize, const J: usize, const OUT: usize>(
 )
     requires own { IsTrue (is_own_object state.old.view.own (counter_object reference)) }
     requires posts { MayPost (posted_by state.old.view.own reference) OUT (count_entries state.old.view.own reference) (count_marks state.old.view.own reference) state.old marks.old }
-    ensures steps { Steps (count_entries state.old.view.own reference) (count_marks state.old.view.own reference) (when counter.now.software nothing (counts reference)) state.old state.new marks.old marks.new }
-    ensures outbox { length state.new.border.outbox ≤ length state.old.border.outbox + posted_by state.old.view.own reference }
+    ensures { Posts (posted_by state.old.view.own reference) (count_entries state.old.view.own reference) (count_marks state.old.view.own reference) (when counter.now.software nothing (counts reference)) state.old state.new marks.old marks.new }
 {
     if !counter.software {
         osexpiry::advance(state, reference, marks);

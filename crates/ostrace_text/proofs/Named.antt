@@ -4,15 +4,8 @@ use native.Mathlib.Omega.{arith}
 use Rattle.std.proofs.Common.{◌≡◌, Bool, true, List, [], ◌∷◌, ◌++◌, ℕ, refl, ap, ◌∙◌}
 use Rattle.std.specs.List.{list_all}
 use Rattle.std.proofs.lemmas.Bool.{and_parts}
-use Rattle.osbase.specs.declared.references.CoreId.{CoreId}
-use Rattle.osbase.specs.declared.references.Runner.{Runner}
-use Rattle.osbase.specs.declared.messages.RemoteCall.{RemoteCall}
-use Rattle.osbase.specs.declared.marks.Mark.{Mark}
-use Rattle.osbase.specs.Marks.{core_of_runner, names_only}
-use Rattle.osbase.specs.Objects.{object_of_call}
-use Rattle.osplan.specs.declared.plans.Plan.{Plan}
-use Rattle.osplan.specs.Names.{runner_name}
-use Rattle.osplan.specs.View.{core_of}
+use Rattle.osbase.specs.{declared.references.CoreId.CoreId, declared.references.Runner.Runner, declared.messages.RemoteCall.RemoteCall, declared.marks.Mark.Mark, Marks.core_of_runner, Marks.names_only, Objects.object_of_call}
+use Rattle.osplan.specs.{declared.plans.Plan.Plan, Names.runner_name, View.core_of}
 use Rattle.ostrace_text.specs.Trace.{call_words, line_end, line_of, lines_of, spaced, words_of}
 
 module _ (p q : Plan) (test : CoreId → Bool) (same : (core : CoreId) → test core ≡ true → core_of p core ≡ core_of q core) where

@@ -3,16 +3,8 @@
 -- A line is words divided by one space. An object is printed by its name in the configuration; an
 -- object that the configuration lacks has the empty name.
 use Rattle.std.specs.Prelude.{ℕ, ℤ, List, [], ◌∷◌, ◌++◌, codes}
-use Rattle.std.specs.Fmt.{decimal, signed_decimal}
-use Rattle.std.specs.List.{flat_map}
-use Rattle.osbase.specs.declared.references.CoreId.{CoreId}
-use Rattle.osbase.specs.declared.references.Variable.{Variable}
-use Rattle.osbase.specs.declared.messages.RemoteCall.{RemoteCall}
-use Rattle.osbase.specs.declared.messages.RemoteCall.TheVariants.{GetAlarm}
-use Rattle.osbase.specs.declared.marks.Mark.{Mark}
-use Rattle.osbase.specs.declared.statuses.Status.TheVariants.{EOk}
-use Rattle.osbase.specs.declared.turns.Report.{Report}
-use Rattle.osbase.specs.Words.{status_name, service_name}
+use Rattle.std.specs.{Fmt.decimal, Fmt.signed_decimal, List.flat_map}
+use Rattle.osbase.specs.{declared.references.CoreId.CoreId, declared.references.Variable.Variable, declared.messages.RemoteCall.RemoteCall, declared.messages.RemoteCall.TheVariants.GetAlarm, declared.marks.Mark.Mark, declared.statuses.Status.TheVariants.EOk, declared.turns.Report.Report, Words.status_name, Words.service_name}
 use Rattle.ossyntax.specs.Call as forms
 use Rattle.osplan.specs.declared.plans.Plan.{Plan}
 use Rattle.osplan.specs.Names.{alarm_name, isr_name, name_of, runner_name, table_name, task_name}

@@ -19,8 +19,7 @@ pub struct BlockNames<'a> {
 
 impl<'a> Model for BlockNames<'a> {
     ghost use Rattle.std.specs.Prelude.{◌≡◌, option_copied};
-    ghost use Rattle.osplan.specs.declared.plans.Plan.{Plan};
-    ghost use Rattle.osplan.specs.View.{core_of};
+    ghost use Rattle.osplan.specs.{declared.plans.Plan.Plan, View.core_of};
 
     ghost Value = { Plan };
 

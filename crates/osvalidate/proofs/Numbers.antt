@@ -1,11 +1,10 @@
 -- The numbers of a text within its limits: how many jobs there are, how the points of tables ascend, and how many letters alarms and tables post.
 use Rattle.std.proofs.Common.{◌≡◌, ℕ, ◌*◌, ◌≤◌, true, sum_by, List, [], ◌∷◌, length, unwrap_or, Option, arith, suc, ◌-◌, ◌<◌, map, Some, is_some, refl, ap, ◌∙◌}
 use Rattle.std.specs.List.{list_all, slice_get}
-use Rattle.std.proofs.{lemmas.Bool.Decides.nat_tests, lemmas.List.length-map, lemmas.List.Folds.fold-map, lemmas.List.Folds.list_all-map, lemmas.List.Sums.sum_by-cons, lemmas.List.Sums.count_by-le-length}
+use Rattle.std.proofs.{lemmas.Bool.Decides.nat_tests, lemmas.List.length-map, lemmas.List.Folds.fold-map, lemmas.List.Folds.list_all-map, lemmas.List.Sums.sum_by-cons, lemmas.List.Sums.count_by-le-length, lemmas.Bool.and_from, lemmas.Bool.leb-true}
 use Rattle.osplan.specs.Limits.{TaskSizes, is_between, is_task_within, jobs_of, PointSizes, are_ascending, is_before, last_offset, are_alarms_within, are_tables_within, is_point_within, is_table_within}
 use Rattle.osvalidate.specs.Words.{TaskText, PointText, AlarmText, CoreId, Declaration, TableText}
 use Rattle.osvalidate.specs.Check.{task_sizes, point_sizes, alarm_sizes, table_sizes}
-use Rattle.std.proofs.lemmas.Bool.{and_from, leb-true}
 use Rattle.osbase.specs.History.{greater}
 use Rattle.osplan.specs.Objects.{greatest_of}
 use Rattle.osplan.proofs.Within.{between}

@@ -1,7 +1,7 @@
 -- What a reading finds of the operations of a script, and of an action.
 use Rattle.std.proofs.Common.{◌≡◌, ℕ, ◌&&◌, nat_le, Bool, true, false, cond, List, [], ◌∷◌, length, map, Some, None, option_map, unwrap_or, refl, sym, ap, subst, ◌∙◌, arith}
 use Rattle.std.specs.List.{list_all}
-use Rattle.osvalidate.specs.{Words.CoreId, Words.Declaration, Words.Op, declared.verdicts.Judged.Judged, declared.verdicts.Verdict.Verdict, Check.is_operation_local, Operation.is_operation, Operation.is_operation_known, Operation.op_of}
+use Rattle.osvalidate.specs.{Words.CoreId, Words.Declaration, Words.Op, declared.verdicts.Judged.Judged, declared.verdicts.Verdict.Verdict, Check.is_operation_local, Operation.is_operation, Operation.is_operation_known, Operation.op_of, Verdict.action_verdict, Verdict.judged_op}
 use Rattle.oscript.specs.declared.Op.TheVariants.{Work}
 use Rattle.oscript.specs.Rows as rows
 use Rattle.ossyntax.specs.{Action.is_action_op, Operation.has_masks, Operation.op_of_text}
@@ -9,7 +9,6 @@ use Rattle.ossyntax.proofs.{ActionTexts.meant_action, Alike.AreAlike, Alike.name
 use Rattle.osplan.specs.Limits.{is_local_to}
 use Rattle.osjson.specs.Reading.{each, each_of_few}
 use Rattle.osschema.specs.Declarations.{place_of}
-use Rattle.osvalidate.specs.Verdict.{action_verdict, judged_op}
 
 each-made : {X Y : Type 0} (f : X → Y) (xs : List X) → each (λ x. Some (f x)) xs ≡ Some (map f xs)
 each-made f [] = refl

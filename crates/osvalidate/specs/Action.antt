@@ -1,10 +1,8 @@
 -- The actions of alarms and schedule tables, and what the names in them refer to. [own]
 use Rattle.std.specs.Prelude.{ℕ, ◌||◌, not, Bool, unwrap_or, List}
-use Rattle.osvalidate.specs.Words.{Declaration, RemoteCall}
+use Rattle.osvalidate.specs.{Words.Declaration, Words.RemoteCall, Operation.is_operation_known, Operation.op_of}
 use Rattle.oscript.specs.Calls.{action_of_op}
-use Rattle.ossyntax.specs.Action.{is_action}
-use Rattle.ossyntax.specs.Operation.{has_masks}
-use Rattle.osvalidate.specs.Operation.{is_operation_known, op_of}
+use Rattle.ossyntax.specs.{Action.is_action, Operation.has_masks}
 pub use Rattle.oscript.specs.Calls.{any_action}
 
 -- The action that a text means. If it is not in form, or its name has no task, it stands for one that is not used.

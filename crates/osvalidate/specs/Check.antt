@@ -1,24 +1,18 @@
 -- The tests of a configuration's text, a row for each fault past its shape that a text can have so far. Each is defined apart from
 -- the others, over the text as it stands; `tests_of` says which of them pass over a name that is unknown or stands twice. [own]
 use Rattle.std.specs.Prelude.{ℕ, ◌&&◌, ◌||◌, not, true, Bool, Option, None, is_some, option_and_then, option_map, List, [], ◌∷◌, ◌++◌, length, map}
-use Rattle.std.specs.List.{list_all}
-use Rattle.std.specs.Option.{option_map_or}
-use Rattle.std.specs.Str.{bytes_eq}
+use Rattle.std.specs.{List.list_all, Option.option_map_or, Str.bytes_eq}
 use Rattle.osvalidate.specs.Words.{AlarmStartText, AlarmText, ConfigText, CoreId, CoreText, Declaration, IsrText, PointText, SpinlockId, SpinlockText, TableStartText, TableText, TaskText}
-use Rattle.osbase.specs.declared.objects.ObjectKind.TheVariants.{Counter, Mode, Spinlock}
-use Rattle.osbase.specs.History.{same_core}
-use Rattle.ossyntax.specs.Action.{is_action}
-use Rattle.ossyntax.specs.Operation.{has_masks}
+use Rattle.osbase.specs.{declared.objects.ObjectKind.TheVariants.Counter, declared.objects.ObjectKind.TheVariants.Mode, declared.objects.ObjectKind.TheVariants.Spinlock, History.same_core}
+use Rattle.ossyntax.specs.{Action.is_action, Operation.has_masks}
 use Rattle.osplan.specs.Representable.{are_distinct, dont_care, is_free_of_resources, is_jumping_within, is_reserved}
 use Rattle.osplan.specs.Limits.{CounterSizes, StartSizes, TableSizes, CoreSizes, Sizes, is_by, is_core_numbered, is_short, is_versioned, is_within, is_table_timed, has_number, are_numbers_distinct, is_local_to}
-use Rattle.osplan.specs.Spinlocks.{are_links_ordered}
+use Rattle.osplan.specs.{Spinlocks.are_links_ordered, Fault.Tests}
 use Rattle.osplan.specs.declared.faults.ConfFault.TheVariants.{Limit, DuplicateName, UnknownName, WrongCore, SpinOrder, BadMask, BadTable, BadScript}
-use Rattle.osplan.specs.Fault.{Tests}
-use Rattle.osvalidate.specs.Action.{is_action_known, is_action_masked}
+use Rattle.osvalidate.specs.{Action.is_action_known, Action.is_action_masked, Posted.most_posts_per_tick}
 use Rattle.osschema.specs.Declarations.{counter_declared, counter_ref, declarations, declared_sizes, id_of, names_of, place_of, spinlock_ref}
 pub use Rattle.osschema.specs.Shape.{task_sizes, isr_sizes, resource_sizes, counter_sizes, point_sizes}
 use Rattle.osschema.specs.Shape.{start_numbers, table_numbers, core_numbers, text_numbers}
-use Rattle.osvalidate.specs.Posted.{most_posts_per_tick}
 use Rattle.osvalidate.specs.Operation.{operations_of, op_of, named_op, is_operation_known, is_operation}
 
 -- ---- limits: those of a configuration, over the text's numbers

@@ -2,8 +2,7 @@
 use Rattle.std.specs.Prelude.{◌&&◌, nat_le, Bool, length}
 use Rattle.std.specs.List.{list_all}
 use Rattle.osvalidate.specs.Words.{ConfigText, CoreText, ObjectKind}
-use Rattle.osplan.specs.declared.plans.TheConstants.{COMMON, KINDS}
-use Rattle.osplan.specs.Limits.{most_cores, most_of}
+use Rattle.osplan.specs.{declared.plans.TheConstants.COMMON, declared.plans.TheConstants.KINDS, Limits.most_cores, Limits.most_of}
 use Rattle.osschema.specs.Shape.{common_in, objects_in}
 
 -- Of a core no more of each kind than it may have.

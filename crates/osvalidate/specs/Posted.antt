@@ -2,8 +2,7 @@
 use Rattle.std.specs.Prelude.{ℕ, ◌+◌, Bool, false, not, option_and_then, List, map, count_by, sum_by}
 use Rattle.std.specs.Option.{option_map_or}
 use Rattle.osvalidate.specs.Words.{AlarmText, CoreId, CoreText, Declaration, PointText, RemoteCall, TableText}
-use Rattle.osbase.specs.History.{same_core}
-use Rattle.osbase.specs.Objects.{object_of_call}
+use Rattle.osbase.specs.{History.same_core, Objects.object_of_call}
 use Rattle.oscript.specs.Calls.{action_of_op}
 use Rattle.ossyntax.specs.Operation.{op_of_text}
 use Rattle.osplan.specs.Objects.{greatest_of}

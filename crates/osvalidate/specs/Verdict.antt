@@ -1,18 +1,12 @@
 -- What is right of each part of a text: its names, the cores that these are of, its masks and its form. [own]
 use Rattle.std.specs.Prelude.{◌≡◌, ◌⊎◌, ℕ, ◌&&◌, Bool, true, false, is_some, List, Result, Ok, Err}
 use Rattle.std.specs.List.{list_all}
-use Rattle.osbase.specs.declared.objects.ObjectKind.TheVariants.{Counter}
+use Rattle.osbase.specs.{declared.objects.ObjectKind.TheVariants.Counter, History.same_core}
 use Rattle.osvalidate.specs.Words.{AlarmText, ConfigText, CoreId, CoreText, Declaration, Op, PointText, SpinlockText, TableText, TaskText}
-use Rattle.osbase.specs.History.{same_core}
-use Rattle.ossyntax.specs.Action.{is_action}
-use Rattle.ossyntax.specs.Operation.{has_masks}
-use Rattle.osplan.specs.declared.faults.ConfFault.{ConfFault}
-use Rattle.osplan.specs.declared.faults.ConfFault.TheVariants.{Limit, NoMemory}
+use Rattle.ossyntax.specs.{Action.is_action, Operation.has_masks}
+use Rattle.osplan.specs.{declared.faults.ConfFault.ConfFault, declared.faults.ConfFault.TheVariants.Limit, declared.faults.ConfFault.TheVariants.NoMemory}
 use Rattle.osschema.specs.Declarations.{counter_ref, declarations, place_of}
-use Rattle.osvalidate.specs.declared.verdicts.Judged.{Judged}
-use Rattle.osvalidate.specs.declared.verdicts.Verdict.{Verdict}
-use Rattle.osvalidate.specs.Action.{is_action_known, is_action_masked}
-use Rattle.osvalidate.specs.Operation.{is_operation, is_operation_known, op_of}
+use Rattle.osvalidate.specs.{declared.verdicts.Judged.Judged, declared.verdicts.Verdict.Verdict, Action.is_action_known, Action.is_action_masked, Operation.is_operation, Operation.is_operation_known, Operation.op_of}
 use Rattle.osvalidate.specs.Check.{are_operations_known, is_alarm_acting, is_alarm_known, is_alarm_masked, is_alarm_local, is_core_known, is_core_masked, has_local_references, is_core_script, is_isr_script, is_operation_local, is_point_acting, is_point_known, is_point_masked, is_script, is_script_masked, is_script_local, is_spinlock_known, is_table_acting, is_table_known, is_table_masked, is_table_local, is_task_known, is_task_masked, is_task_script}
 
 -- Nothing is wrong.

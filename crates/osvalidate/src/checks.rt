@@ -2,20 +2,13 @@
 
 ghost use Rattle.std.specs.Prelude.{◌≡◌, ◌&&◌, ◌-◌, ◌<◌, ◌≤◌, ◌^◌, true, Some, length, map, sum_by};
 ghost use Rattle.std.specs.List.{list_all};
-ghost use Rattle.osschema.specs.declared.shapes.AlarmText.{AlarmText as Alarm};
-ghost use Rattle.osschema.specs.declared.shapes.CoreText.{CoreText as Core};
-ghost use Rattle.osschema.specs.declared.shapes.CounterText.{CounterText as Counter};
-ghost use Rattle.osschema.specs.declared.shapes.IsrText.{IsrText as Isr};
-ghost use Rattle.osschema.specs.declared.shapes.ResourceText.{ResourceText as Resource};
-ghost use Rattle.osschema.specs.declared.shapes.TaskText.{TaskText as Task};
+ghost use Rattle.osschema.specs.{declared.shapes.AlarmText.AlarmText as Alarm, declared.shapes.CoreText.CoreText as Core, declared.shapes.CounterText.CounterText as Counter, declared.shapes.IsrText.IsrText as Isr, declared.shapes.ResourceText.ResourceText as Resource, declared.shapes.TaskText.TaskText as Task, Declarations.declarations};
 ghost use Rattle.osplan.specs.Limits.{are_alarms_within, are_counters_within, are_isrs_within, are_numbers_distinct, cores_by, has_number, is_alarm_within, is_between, is_core_numbered, is_counter_within, is_isr_within, is_resource_within, is_second, is_start, is_task_within, is_versioned, jobs_of, most_cores, most_of, same_number};
 ghost use Rattle.osbase.specs.declared.objects.ObjectKind.{ObjectKind};
 ghost use Rattle.osplan.specs.Fault.{failing, first_fault};
 ghost use Rattle.osplan.specs.Spinlocks as plans;
-ghost use Rattle.osschema.specs.Declarations.{declarations};
-ghost use Rattle.osvalidate.specs.Few.{are_objects_few, is_core_few};
+ghost use Rattle.osvalidate.specs.{Few.are_objects_few, Few.is_core_few, Verdict.text_verdict};
 ghost use Rattle.osvalidate.specs.Check.{is_text_numbered, task_sizes, isr_sizes, resource_sizes, counter_sizes, alarm_sizes, bare_sizes, core_sizes, numbers_of, is_text_within, sizes_of, is_unreserved, is_each_once, is_core_mode_known, is_mode_known, is_spinlock_known, alarm_modes, are_timed, links_of, tests_of};
-ghost use Rattle.osvalidate.specs.Verdict.{text_verdict};
 
 use crate::table_checks::{are_posted_few, are_tables_timed, are_tables_within};
 use crate::verdicts::Verdict;

@@ -2,18 +2,12 @@
 
 ghost use Rattle.std.specs.Prelude.{◌≡◌, IfOk, Some, length, map, nat_le};
 ghost use Rattle.std.specs.List.{list_all, list_any};
-ghost use Rattle.oscript.specs.Calls.{any_action as any_action_value};
-ghost use Rattle.oscript.specs.Rows.{has_masks as has_events, uses_resource};
-ghost use Rattle.oscript.specs.declared.Op.{Op as OpValue};
+ghost use Rattle.oscript.specs.{Calls.any_action as any_action_value, Rows.has_masks as has_events, Rows.uses_resource, declared.Op.Op as OpValue};
 ghost use Rattle.ossyntax.specs.Operation.{op_of_text, place_of_any};
 ghost use Rattle.osplan.specs.Representable.{goes_within, is_jumping_within};
 ghost use Rattle.osplan.specs.Limits as limits;
 ghost use Rattle.osschema.specs.Declarations.{counter_ref, place_of};
-ghost use Rattle.osvalidate.specs.declared.verdicts.Judged.{Judged as JudgedValue};
-ghost use Rattle.osvalidate.specs.declared.verdicts.Verdict.{Verdict as VerdictValue};
-ghost use Rattle.osvalidate.specs.Action.{action_of, is_action_known, is_action_masked};
-ghost use Rattle.osvalidate.specs.Check.{is_operation_local};
-ghost use Rattle.osvalidate.specs.Operation.{is_operation, op_of, operations_of};
+ghost use Rattle.osvalidate.specs.{declared.verdicts.Judged.Judged as JudgedValue, declared.verdicts.Verdict.Verdict as VerdictValue, Action.action_of, Action.is_action_known, Action.is_action_masked, Check.is_operation_local, Operation.is_operation, Operation.op_of, Operation.operations_of};
 ghost use Rattle.osvalidate.specs.Verdict.{Judges, action_verdict, counter_verdict, isr_verdict, judged_op, script_verdict};
 
 use crate::verdicts::{Judged, Verdict};

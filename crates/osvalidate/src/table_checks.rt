@@ -1,11 +1,9 @@
 //! What is tested of the schedule tables of a configuration's text.
 
 ghost use Rattle.std.specs.Prelude.{◌≡◌, ◌<◌, ◌^◌, map, nat_le, true, unwrap_or};
-ghost use Rattle.std.specs.List.{list_all};
-ghost use Rattle.std.specs.Option.{option_map_or};
-ghost use Rattle.osschema.specs.declared.table_shapes.TableText.{TableText as Table};
+ghost use Rattle.std.specs.{List.list_all, Option.option_map_or};
+ghost use Rattle.osschema.specs.{declared.table_shapes.TableText.TableText as Table, Declarations.declared_sizes, Declarations.place_alone};
 ghost use Rattle.osplan.specs.Limits.{are_alarms_within, are_ascending, are_tables_within, delays, is_before, is_delay, is_final, is_table_timed, is_table_within, is_timed_by, last_offset, most_posted};
-ghost use Rattle.osschema.specs.Declarations.{declared_sizes, place_alone};
 ghost use Rattle.osvalidate.specs.Posted.{most_posts_of_table, is_posting, posted_at, posted_by_alarms, posted_by_tables, most_posts_per_tick};
 ghost use Rattle.osvalidate.specs.Check.{alarm_sizes, is_mode_known, point_sizes, table_modes, table_sizes, table_times};
 

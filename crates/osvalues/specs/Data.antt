@@ -3,16 +3,12 @@ use Rattle.std.specs.Prelude.{ℕ, Option, Some, None, List, map, codes}
 use Rattle.std.specs.List.{join_by}
 use Rattle.serde_json.specs.Data.{unsigned, Data, null, boolean, number, string, array, object, no_members, member}
 use Rattle.serde_json.specs.View.{items_of}
-use Rattle.osbase.specs.Objects.{counter_place}
+use Rattle.osbase.specs.{Objects.counter_place, declared.items.CoreMode.TheVariants.DontCare, declared.items.CoreMode.TheVariants.Named}
 use Rattle.osbase.specs.declared.{items.CoreMode.CoreMode, messages.RemoteCall.RemoteCall, objects.ObjectKind.ObjectKind, references.CoreId.CoreId, references.ModeId.ModeId, references.SpinlockId.SpinlockId}
-use Rattle.oscript.specs.declared.Op.{Op}
+use Rattle.oscript.specs.{declared.Op.Op, Calls.op_of_call}
 use Rattle.osplan.specs.declared.plans.{Alarm.Alarm, AlarmStart.AlarmStart, Core.Core, Counter.Counter, ExpiryPoint.ExpiryPoint, Isr.Isr, Plan.Plan, Resource.Resource, Spinlock.Spinlock, Table.Table, TableStart.TableStart, Task.Task}
 use Rattle.ossyntax.specs.Operation as forms
-use Rattle.oscript.specs.Calls.{op_of_call}
-use Rattle.osbase.specs.declared.items.CoreMode.TheVariants.{DontCare, Named}
-use Rattle.osplan.specs.Representable.{dont_care}
-use Rattle.osplan.specs.Names.{name_of_mode, name_of, spinlock_name}
-use Rattle.osplan.specs.Protection.{protection_word}
+use Rattle.osplan.specs.{Representable.dont_care, Names.name_of_mode, Names.name_of, Names.spinlock_name, Protection.protection_word}
 
 -- ---- scripts
 

@@ -1,8 +1,7 @@
 //! The JSON values of a plan's parts, each by its own writer.
 
 ghost use Rattle.std.specs.Prelude.{◌≡◌, IfOk, string_bytes};
-ghost use Rattle.serde_json.specs.Data.{Data};
-ghost use Rattle.serde_json.specs.View.{view};
+ghost use Rattle.serde_json.specs.{Data.Data, View.view};
 ghost use Rattle.osvalues.specs.Data.{core_mode_word, name_data, script_text, id_data, mode_data, list_data, start_data, or_null_data, alarm_data, action_data, point_data, table_start_data, table_data, counter_data, resource_data, spinlock_data, spinlock_name_data, isr_data, task_data, core_data};
 
 use osbase::{

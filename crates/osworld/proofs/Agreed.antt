@@ -1,41 +1,21 @@
 -- What a turn names by what a run holds is what the world's definition names.
 use Rattle.std.proofs.Common.{◌≡◌, ℕ, ◌+◌, ◌-◌, ◌<◌, ◌≤◌, Bool, true, false, ◌&&◌, cond, Option, Some, None, option_map, List, [], ◌∷◌, length, drop, refl, sym, ap, ◌∙◌, arith, nat_lt, length-drop}
-use Rattle.std.specs.Option.{option_map_or}
-use Rattle.std.specs.List.{slice_get}
-use Rattle.std.proofs.lemmas.Bool.{ltb-true, eqb-true}
-use Rattle.std.proofs.lemmas.Bool.Decides.{nat_tests}
-use Rattle.osbase.specs.declared.references.CoreId.{CoreId}
-use Rattle.osbase.specs.declared.messages.Letter.{Letter}
-use Rattle.osbase.specs.declared.items.Item.{Item}
-use Rattle.osbase.specs.declared.items.Stimulus.{Stimulus}
-use Rattle.osbase.specs.declared.turns.Choice.{Choice}
-use Rattle.osbase.specs.declared.turns.CoreStimuli.{CoreStimuli}
-use Rattle.osbase.specs.declared.limits.TheConstants.{CORES}
-use Rattle.osbase.specs.History.{History, posted, received_count}
-use Rattle.osbase.specs.Runs.{stimuli_of}
+use Rattle.std.specs.{Option.option_map_or, List.slice_get}
+use Rattle.std.proofs.{lemmas.Bool.ltb-true, lemmas.Bool.eqb-true, lemmas.Bool.Decides.nat_tests}
+use Rattle.osbase.specs.{declared.references.CoreId.CoreId, declared.messages.Letter.Letter, declared.items.Item.Item, declared.items.Stimulus.Stimulus, declared.turns.Choice.Choice, declared.turns.CoreStimuli.CoreStimuli, declared.limits.TheConstants.CORES, History.History, History.posted, History.received_count, Runs.stimuli_of}
 use Rattle.osmail.specs.Mail.{box_of, has_room as room_in, oldest_of}
-use Rattle.osplan.specs.declared.plans.Plan.{Plan}
-use Rattle.osplan.specs.View.{View, view_of}
+use Rattle.osplan.specs.{declared.plans.Plan.Plan, View.View, View.view_of}
 use Rattle.osstate.specs.State.{KernelState, state_of}
-use Rattle.oskernel.specs.Step.{history_from}
-use Rattle.oskernel.specs.declared.wants.Watch.{Watch}
-use Rattle.oskernel.specs.Wants.{want_in, watch_in, watch_of}
-use Rattle.osboard.specs.declared.calls.BoardState.{BoardState}
-use Rattle.osrun.specs.declared.core_runs.CoreRun.{CoreRun}
-use Rattle.osboard.specs.Boards.{board_reply}
+use Rattle.oskernel.specs.{Step.history_from, declared.wants.Watch.Watch, Wants.want_in, Wants.watch_in, Wants.watch_of}
+use Rattle.osboard.specs.{declared.calls.BoardState.BoardState, Boards.board_reply}
+use Rattle.osrun.specs.{declared.core_runs.CoreRun.CoreRun, declared.requests.Request.Request, declared.requests.Reply.Reply, CoreRuns.stimulus_count}
 use Rattle.osspin.specs.Spins.{spin_reply}
-use Rattle.osworld.specs.declared.answering.Shared.{Shared}
-use Rattle.osrun.specs.declared.requests.Request.{Request}
+use Rattle.osworld.specs.{declared.answering.Shared.Shared, Answering.reply_by, Answering.next_by, Playing.IsMail, Playing.lists_of}
 use Rattle.osrun.specs.declared.requests.Request.TheVariants.{OfBoard, OfSpins, Room, Oldest}
-use Rattle.osrun.specs.declared.requests.Reply.{Reply}
 use Rattle.osrun.specs.declared.requests.Reply.TheVariants.{Replied, Spun, HasRoom, Found}
 use Rattle.osrun.specs.Requests.{request_of_turn, request_by, next_item, item_by, spin_call_of}
 use Rattle.osworld.specs.World.{World, reply_in, board_in, has_room, history_in, holders_in, items_in, next_in, next_stimulus}
-use Rattle.osrun.specs.CoreRuns.{stimulus_count}
-use Rattle.osworld.specs.Answering.{reply_by, next_by}
-use Rattle.osworld.specs.Playing.{IsMail, lists_of}
-use Rattle.osworld.proofs.Listed.{is_seat_of, list_of}
-use Rattle.osworld.proofs.Waiting.{front-drop}
+use Rattle.osworld.proofs.{Listed.is_seat_of, Listed.list_of, Waiting.front-drop}
 
 -- no seat is of a core that is numbered 16 or above
 pub list_of-beyond : (id : CoreId) (core_runs : List CoreRun) → nat_lt id.number CORES ≡ false → list_of id (lists_of core_runs) ≡ None

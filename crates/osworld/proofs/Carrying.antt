@@ -1,26 +1,15 @@
 -- The histories and the mailboxes after a turn that appends an item.
 use Rattle.std.proofs.Common.{◌≡◌, ℕ, suc, ◌<◌, ◌≤◌, Bool, true, false, ◌&&◌, cond, Option, Some, None, IsSome, List, [], ◌∷◌, ◌++◌, length, drop, refl, sym, ap, subst, ◌∙◌, arith, append-nil, length-append, length-set}
 use Rattle.std.specs.List.{slice_get}
-use Rattle.std.proofs.lemmas.List.{drop-append-le}
-use Rattle.std.proofs.lemmas.Option.{slice_get_within}
-use Rattle.osbase.specs.declared.references.CoreId.{CoreId}
-use Rattle.osbase.specs.declared.messages.Letter.{Letter}
-use Rattle.osbase.specs.declared.messages.Message.{Message}
-use Rattle.osbase.specs.declared.items.Item.{Item}
-use Rattle.osbase.specs.declared.limits.TheConstants.{CORES}
-use Rattle.osbase.specs.declared.histories.Sent.{Sent}
+use Rattle.std.proofs.{lemmas.List.drop-append-le, lemmas.Option.slice_get_within, Math.Bool.and-true}
+use Rattle.osbase.specs.{declared.references.CoreId.CoreId, declared.messages.Letter.Letter, declared.messages.Message.Message, declared.items.Item.Item, declared.limits.TheConstants.CORES, declared.histories.Sent.Sent}
 use Rattle.osbase.specs.History.{front_letter, outbox, posted, received_count, same_core}
 use Rattle.osmail.specs.Mail.{Mail, after_take, box_of, oldest_of, with_box}
-use Rattle.osplan.specs.declared.plans.Plan.{Plan}
-use Rattle.osplan.specs.View.{view_of}
-use Rattle.std.proofs.Math.Bool.{and-true}
+use Rattle.osplan.specs.{declared.plans.Plan.Plan, View.view_of}
 use Rattle.osbase.proofs.Same.{same_core-true}
-use Rattle.oskernel.specs.Step.{after, history_from}
-use Rattle.oskernel.specs.Wants.{front_of}
+use Rattle.oskernel.specs.{Step.after, Step.history_from, Wants.front_of}
 use Rattle.osrun.specs.declared.requests.Request.{Request}
-use Rattle.osworld.specs.World.{World, appends, history_in}
-use Rattle.osworld.specs.Answering.{mail_after, IsPlaced}
-use Rattle.osworld.specs.Playing.{IsMail, waiting}
+use Rattle.osworld.specs.{World.World, World.appends, World.history_in, Answering.mail_after, Answering.IsPlaced, Playing.IsMail, Playing.waiting}
 use Rattle.osworld.proofs.Listed.{items_by, list_of, list_of-same, list_of-other}
 use Rattle.osrun.proofs.Longer.{history_from-push}
 use Rattle.osrun.proofs.Streams.{is_post_to, is_from, posted-after, received-after}

@@ -1,31 +1,17 @@
 -- The rounds of the default schedule, one by one.
 use Rattle.std.proofs.Common.{◌≡◌, ℕ, zero, suc, ◌+◌, ◌^◌, ◌≤◌, Bool, IsTrue, true, false, not, ◌||◌, cond, List, [], ◌∷◌, length, map, refl, ap, sym, subst, ◌∙◌, arith, nat_eq, nat_le, inl, inr, ◌⊎◌, Vec, Global, take, length-append}
 use Rattle.std.specs.List.{All, list_all}
-use Rattle.std.proofs.lemmas.Bool.{leb-true}
-use Rattle.std.proofs.lemmas.Bool.Decides.{nat_tests}
-use Rattle.std.proofs.lemmas.List.Elements.{All-head, All-tail}
-use Rattle.std.proofs.Math.Seq.{take-append-add}
-use Rattle.osbase.specs.declared.references.CoreId.{CoreId}
-use Rattle.osbase.specs.declared.items.Item.{Item}
-use Rattle.osbase.specs.declared.turns.Choice.{Choice}
-use Rattle.osbase.specs.declared.turns.CoreStimuli.{CoreStimuli}
-use Rattle.osworld.specs.declared.answering.Shared.{Shared}
-use Rattle.osplan.specs.declared.plans.Plan.{Plan}
-use Rattle.osplan.specs.Limits.{is_within_limits}
-use Rattle.osplan.specs.Stimuli.{AreKnown}
-use Rattle.osbase.specs.Sets.{has_core}
+use Rattle.std.proofs.{lemmas.Bool.leb-true, lemmas.Bool.Decides.nat_tests, lemmas.List.Elements.All-head, lemmas.List.Elements.All-tail, Math.Seq.take-append-add}
+use Rattle.osbase.specs.{declared.references.CoreId.CoreId, declared.items.Item.Item, declared.turns.Choice.Choice, declared.turns.CoreStimuli.CoreStimuli, Sets.has_core, declared.turns.Report.Report}
+use Rattle.osworld.specs.{declared.answering.Shared.Shared, declared.runs.RunFault.TheVariants.NoMemory}
+use Rattle.osplan.specs.{declared.plans.Plan.Plan, Limits.is_within_limits, Stimuli.AreKnown}
 use Rattle.osstate.specs.State.{KernelState}
-use Rattle.osbase.specs.declared.turns.Report.{Report}
-use Rattle.osworld.specs.declared.runs.RunFault.TheVariants.{NoMemory}
 use Rattle.osboard.specs.declared.calls.BoardState.{BoardState}
-use Rattle.osrun.specs.declared.core_runs.CoreRun.{CoreRun}
+use Rattle.osrun.specs.{declared.core_runs.CoreRun.CoreRun, CoreRuns.is_ended_phase, CoreRuns.IsCoreRun, CoreRuns.report_of}
 use Rattle.osworld.specs.World.{World, board_in, first_world, world, world_from, is_unchanged, item_total}
 use Rattle.osworld.specs.Runs.{default_turns, has_ended, is_default, is_default_from, is_over, round_of, AreReports, IsDefaultBrokenOff, IsDefaultRun, IsDefaultSchedule}
-use Rattle.osrun.specs.CoreRuns.{is_ended_phase, IsCoreRun, report_of}
 use Rattle.osworld.specs.Playing.{IsBegun, IsCutShort, IsDefaultCutShort, IsDefaultPlayed, IsPlayed, lists_of, Plays}
-use Rattle.osworld.proofs.Played.{world_from-append, world_from-grows}
-use Rattle.osworld.proofs.Reported.{reports-played}
-use Rattle.osworld.proofs.Short.{world-bounded}
+use Rattle.osworld.proofs.{Played.world_from-append, Played.world_from-grows, Reported.reports-played, Short.world-bounded}
 
 -- Whether all have ended, read off the seats.
 abbrev pub seats_over : BoardState → List CoreRun → Bool

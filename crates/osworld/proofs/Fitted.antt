@@ -2,37 +2,24 @@
 use mathlib.Core.List.{IsPrefix}
 use Rattle.std.proofs.Common.{◌≡◌, Bool, true, false, ◌&&◌, cond, Option, Some, List, [], ◌∷◌, ◌++◌, refl, sym, ap, subst, ◌∙◌, append-nil}
 use Rattle.std.specs.List.{slice_get}
-use Rattle.std.proofs.lemmas.Bool.{false≢true}
-use Rattle.osbase.specs.declared.references.CoreId.{CoreId}
-use Rattle.osbase.specs.declared.messages.Letter.{Letter}
-use Rattle.osbase.specs.declared.items.Item.{Item}
-use Rattle.osbase.specs.declared.turns.Choice.{Choice}
-use Rattle.osbase.specs.declared.turns.CoreStimuli.{CoreStimuli}
+use Rattle.std.proofs.{lemmas.Bool.false≢true, Math.Bool.and-true}
+use Rattle.osbase.specs.{declared.references.CoreId.CoreId, declared.messages.Letter.Letter, declared.items.Item.Item, declared.turns.Choice.Choice, declared.turns.CoreStimuli.CoreStimuli, Runs.stimuli_of}
 use Rattle.osbase.specs.History.{History, course_of, front_letter, outbox, posted, received, received_count, same_core, letter_with}
-use Rattle.osbase.specs.Runs.{stimuli_of}
-use Rattle.osplan.specs.declared.plans.Plan.{Plan}
-use Rattle.osplan.specs.View.{view_of}
+use Rattle.osplan.specs.{declared.plans.Plan.Plan, View.view_of}
 use Rattle.osstate.specs.State.{state_of}
-use Rattle.std.proofs.Math.Bool.{and-true}
 use Rattle.osbase.proofs.Same.{same_core-true}
 use Rattle.osshared.specs.Histories.{IsLegal, entry}
 use Rattle.osshared.proofs.Steps.{legal_snoc}
 use Rattle.osboard.specs.Boards.{board_reply, first_board, one_board}
 use Rattle.osspin.specs.Spins.{no_holders, spin_reply, spinlocks}
-use Rattle.osrun.specs.declared.requests.Request.{Request}
-use Rattle.osrun.specs.declared.requests.Request.TheVariants.{OfBoard, OfSpins}
+use Rattle.osrun.specs.{declared.requests.Request.Request, declared.requests.Request.TheVariants.OfBoard, declared.requests.Request.TheVariants.OfSpins}
 use Rattle.osrun.specs.Requests.{Calls, calls_of, joined, no_calls, spin_call_of, call_of_turn}
 use Rattle.osrun.specs.Fits.{FitsBy, ids_of, AreAnswered, Fits, FitsCore}
 use Rattle.osworld.specs.World.{World, reply_in, appends, board_in, first_world, history_in, holders_in, items_in, next_stimulus, world}
-use Rattle.osrun.proofs.Beginnings.{begins-longer, begins-next, begins-through}
-use Rattle.osworld.proofs.Listed.{items_by, list_of-same, list_of-other}
-use Rattle.osrun.proofs.Longer.{length-stimuli_in, IsInTurn, core-on}
+use Rattle.osrun.proofs.{Beginnings.begins-longer, Beginnings.begins-next, Beginnings.begins-through, Longer.length-stimuli_in, Longer.IsInTurn, Longer.core-on, Asked.IsOwnRequest, Asked.asks-own}
+use Rattle.osworld.proofs.{Listed.items_by, Listed.list_of-same, Listed.list_of-other, Started.no_history, Started.nothing_of, Turns.Appends, Turns.turns-keep, Fitting.IsNext, Fitting.follows}
 use Rattle.osrun.proofs.Streams.{is_from, is_post_to, received_letter, length-received, received-is}
 use Rattle.osworld.proofs.Carrying.{and_false, history-same, history-other, posted-in}
-use Rattle.osworld.proofs.Started.{no_history, nothing_of}
-use Rattle.osworld.proofs.Turns.{Appends, turns-keep}
-use Rattle.osworld.proofs.Fitting.{IsNext, follows}
-use Rattle.osrun.proofs.Asked.{IsOwnRequest, asks-own}
 use Rattle.osrun.proofs.Answered.{answered-push, calls_of-joined, joined-none, told-other, told-own}
 
 -- the world's lists fit by its own calls of the board

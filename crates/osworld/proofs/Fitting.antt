@@ -1,25 +1,16 @@
 -- Every world fits: a turn's item fits the items of the cores and the calls of the board.
 use Rattle.std.proofs.Common.{◌≡◌, Bool, true, false, Option, Some, None, List, refl}
 use Rattle.std.specs.List.{slice_get}
-use Rattle.osbase.specs.declared.references.CoreId.{CoreId}
-use Rattle.osbase.specs.declared.messages.Letter.{Letter}
-use Rattle.osbase.specs.declared.items.Item.{Item}
-use Rattle.osbase.specs.declared.turns.CoreStimuli.{CoreStimuli}
+use Rattle.osbase.specs.{declared.references.CoreId.CoreId, declared.messages.Letter.Letter, declared.items.Item.Item, declared.turns.CoreStimuli.CoreStimuli, Phases.is_going, Runs.stimuli_of}
 use Rattle.osbase.specs.History.{course_of, posted, received_count, letter_with}
-use Rattle.osbase.specs.Phases.{is_going}
-use Rattle.osbase.specs.Runs.{stimuli_of}
-use Rattle.osplan.specs.declared.plans.Plan.{Plan}
-use Rattle.osplan.specs.View.{view_of}
+use Rattle.osplan.specs.{declared.plans.Plan.Plan, View.view_of}
 use Rattle.osstate.specs.State.{state_of}
 use Rattle.oskernel.specs.declared.wants.Watch.{Watch}
 use Rattle.osboard.specs.declared.calls.BoardCall.TheVariants.{Drain, Look, LookDrained, LookHalt}
 use Rattle.osspin.specs.Spins.{spin_reply}
-use Rattle.osrun.specs.declared.requests.Request.{Request}
+use Rattle.osrun.specs.{declared.requests.Request.Request, declared.requests.Reply.TheVariants.HasRoom, declared.requests.Reply.TheVariants.Found, Requests.item_by, Requests.spin_call_of, CoreRuns.stimulus_count}
 use Rattle.osrun.specs.declared.requests.Request.TheVariants.{OfBoard, OfSpins, Room, Oldest, StartUnknown, TakeStimulus}
-use Rattle.osrun.specs.declared.requests.Reply.TheVariants.{HasRoom, Found}
-use Rattle.osrun.specs.Requests.{item_by, spin_call_of}
 use Rattle.osworld.specs.World.{World, reply_in, board_in, has_room, history_in, holders_in, items_in, next_stimulus}
-use Rattle.osrun.specs.CoreRuns.{stimulus_count}
 use Rattle.osrun.proofs.Asked.{IsOwnRequest}
 use Rattle.osrun.proofs.Resulting.{drained-item, halt-item, is-item, look-item, spinlock-item}
 

@@ -1,17 +1,11 @@
 -- The item lists of a world, and those of the seats of a run.
 use Rattle.std.proofs.Common.{◌≡◌, ℕ, zero, suc, ◌+◌, ◌<◌, ◌≤◌, Bool, true, false, not, cond, Option, Some, None, List, [], ◌∷◌, ◌++◌, length, get_or, set, refl, sym, ap, subst, ◌∙◌, arith, nat_lt, sum_by, length-append}
-use Rattle.std.specs.Option.{option_map_or}
-use Rattle.std.specs.List.{find, position, position_or_len}
-use Rattle.std.proofs.lemmas.Bool.{ltb-true}
-use Rattle.std.proofs.lemmas.Bool.Decides.{nat_tests}
-use Rattle.std.proofs.lemmas.List.Sums.{sum_by-cons}
-use Rattle.osbase.specs.declared.references.CoreId.{CoreId}
-use Rattle.osbase.specs.declared.items.Item.{Item}
-use Rattle.osbase.specs.History.{same_core}
+use Rattle.std.specs.{Option.option_map_or, List.find, List.position, List.position_or_len}
+use Rattle.std.proofs.{lemmas.Bool.ltb-true, lemmas.Bool.Decides.nat_tests, lemmas.List.Sums.sum_by-cons}
+use Rattle.osbase.specs.{declared.references.CoreId.CoreId, declared.items.Item.Item, History.same_core}
 use Rattle.osbase.proofs.Same.{same_core-true}
 use Rattle.osrun.specs.declared.core_runs.CoreRun.{CoreRun}
-use Rattle.osworld.specs.World.{with_item}
-use Rattle.osworld.specs.Playing.{lists_of}
+use Rattle.osworld.specs.{World.with_item, Playing.lists_of}
 
 abbrev pub Lists : Type 0
 Lists = List (CoreId × List Item)

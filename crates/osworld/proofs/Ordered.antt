@@ -1,18 +1,12 @@
 -- Turns whose listed run has the same cores and items as these reports have exactly these reports, but for their clocks.
 use Rattle.std.proofs.Common.{◌≡◌, ◌<◌, ℕ, List, map, length, get_or, sym, ap, subst, ◌∙◌}
 use Rattle.std.proofs.Math.ListN as seq
-use Rattle.std.proofs.lemmas.List.{get_or-map}
-use Rattle.std.proofs.lemmas.Simd.{map-map}
+use Rattle.std.proofs.{lemmas.List.get_or-map, lemmas.Simd.map-map}
 use Rattle.std.specs.List.{AllByRecursion}
-use Rattle.osbase.specs.declared.references.CoreId.{CoreId}
-use Rattle.osbase.specs.declared.turns.Choice.{Choice}
-use Rattle.osbase.specs.declared.turns.CoreStimuli.{CoreStimuli}
-use Rattle.osbase.specs.declared.turns.Report.{Report}
+use Rattle.osbase.specs.{declared.references.CoreId.CoreId, declared.turns.Choice.Choice, declared.turns.CoreStimuli.CoreStimuli, declared.turns.Report.Report, declared.items.Item.Item}
 use Rattle.osplan.specs.declared.plans.Plan.{Plan}
-use Rattle.osbase.specs.declared.items.Item.{Item}
 use Rattle.osrun.specs.Sound.{IsOwn, lists_in, report_by, unclocked}
-use Rattle.osworld.specs.World.{world}
-use Rattle.osworld.specs.Runs.{AreReports}
+use Rattle.osworld.specs.{World.world, Runs.AreReports}
 use Rattle.osworld.proofs.Reported.{by-their-items, reports_by}
 
 -- Reports of the same cores with the same items are so each by each.

@@ -1,14 +1,8 @@
 -- Where the cores sit.
 use Rattle.std.proofs.Common.{◌≡◌, ℕ, zero, suc, nat_eq, ◌+◌, ◌<◌, ◌≤◌, Bool, true, false, Option, Some, None, List, [], ◌∷◌, cond, nat_lt, not, map, length, get_or, set, slice_get, refl, sym, ap, ◌∙◌, arith, get_or-set_same, length-set}
 use Rattle.std.specs.List.{position, position_or_len}
-use Rattle.std.proofs.lemmas.Bool.{eqb-false, eqb-true}
-use Rattle.std.proofs.lemmas.Bool.Decides.{nat_tests}
-use Rattle.std.proofs.lemmas.List.{length-map}
-use Rattle.std.proofs.lemmas.Option.{slice_get_read}
-use Rattle.std.proofs.Math.Seq.{map-set_same}
-use Rattle.osbase.specs.declared.references.CoreId.{CoreId}
-use Rattle.osbase.specs.declared.limits.TheConstants.{CORES}
-use Rattle.osbase.specs.History.{same_core}
+use Rattle.std.proofs.{lemmas.Bool.eqb-false, lemmas.Bool.eqb-true, lemmas.Bool.Decides.nat_tests, lemmas.List.length-map, lemmas.Option.slice_get_read, Math.Seq.map-set_same}
+use Rattle.osbase.specs.{declared.references.CoreId.CoreId, declared.limits.TheConstants.CORES, History.same_core}
 use Rattle.osrun.specs.declared.core_runs.CoreRun.{CoreRun}
 use Rattle.osworld.proofs.Listed.{is_seat_of}
 

@@ -1,22 +1,15 @@
 -- Turn by turn: what was played before, and one turn more.
 use Rattle.std.proofs.Common.{◌≡◌, ℕ, zero, suc, ◌+◌, ◌<◌, ◌≤◌, Bool, true, false, not, ◌||◌, List, [], ◌∷◌, ◌++◌, length, get_or, take, refl, sym, ap, subst, ◌∙◌, arith, nat_eq, length-append, append-nil, append_assoc, drop, Bor}
-use Rattle.std.proofs.lemmas.Bool.Decides.{nat_tests}
+use Rattle.std.proofs.{lemmas.Bool.Decides.nat_tests, lemmas.List.Concat.flat_map-cons, Math.Seq.take-append-add}
 use Rattle.std.specs.List.{flat_map}
-use Rattle.std.proofs.lemmas.List.Concat.{flat_map-cons}
 use Rattle.std.proofs.lemmas.List.{take-append-drop, take-append-le, take_more, take_all}
-use Rattle.std.proofs.Math.Seq.{take-append-add}
-use Rattle.osbase.specs.declared.references.CoreId.{CoreId}
-use Rattle.osbase.specs.declared.turns.Choice.{Choice}
-use Rattle.osbase.specs.declared.turns.CoreStimuli.{CoreStimuli}
+use Rattle.osbase.specs.{declared.references.CoreId.CoreId, declared.turns.Choice.Choice, declared.turns.CoreStimuli.CoreStimuli}
 use Rattle.osplan.specs.declared.plans.Plan.{Plan}
-use Rattle.osworld.specs.declared.answering.Shared.{Shared}
+use Rattle.osworld.specs.{declared.answering.Shared.Shared, Runs.AppendsAt, declared.worlds.World.World as Run}
 use Rattle.osrun.specs.declared.core_runs.CoreRun.{CoreRun}
 use Rattle.osworld.specs.World.{World, turn, world_from, item_total, is_unchanged}
-use Rattle.osworld.specs.Runs.{AppendsAt}
 use Rattle.osworld.specs.Playing.{IsCutShort, IsPlayed, Plays, PlaysTurns, StopsShort}
-use Rattle.osworld.specs.declared.worlds.World.{World as Run}
-use Rattle.osworld.proofs.Listed.{total-push}
-use Rattle.osworld.proofs.Turns.{turns-keep}
+use Rattle.osworld.proofs.{Listed.total-push, Turns.turns-keep}
 
 abbrev Turns : Type 0
 Turns = List (CoreId × Choice)

@@ -1,30 +1,15 @@
 -- The reports of a run that stands for a world are sound, and have the world's items.
 use Rattle.std.proofs.Common.{◌≡◌, ◌<◌, ℕ, List, [], ◌∷◌, ◌++◌, map, take, length, Bool, true, false, cond, IsTrue, refl, ap, sym, subst, ◌∙◌}
 use Rattle.std.specs.List.{All, AllByRecursion}
-use Rattle.std.proofs.lemmas.List.Elements.{All-head, All-tail}
-use Rattle.std.proofs.lemmas.Simd.{map-map}
-use Rattle.osbase.specs.declared.references.CoreId.{CoreId}
-use Rattle.osbase.specs.declared.items.Item.{Item}
-use Rattle.osbase.specs.declared.turns.Choice.{Choice}
-use Rattle.osbase.specs.declared.turns.CoreStimuli.{CoreStimuli}
-use Rattle.osbase.specs.declared.turns.Report.{Report}
-use Rattle.osplan.specs.Stimuli.{AreKnown}
-use Rattle.osworld.specs.declared.answering.Shared.{Shared}
-use Rattle.osplan.specs.declared.plans.Plan.{Plan}
-use Rattle.osplan.specs.Limits.{is_within_limits}
-use Rattle.osrun.specs.declared.core_runs.CoreRun.{CoreRun}
-use Rattle.osrun.specs.Fits.{Fits, ids_of}
+use Rattle.std.proofs.{lemmas.List.Elements.All-head, lemmas.List.Elements.All-tail, lemmas.Simd.map-map}
+use Rattle.osbase.specs.{declared.references.CoreId.CoreId, declared.items.Item.Item, declared.turns.Choice.Choice, declared.turns.CoreStimuli.CoreStimuli, declared.turns.Report.Report}
+use Rattle.osplan.specs.{Stimuli.AreKnown, declared.plans.Plan.Plan, Limits.is_within_limits}
+use Rattle.osworld.specs.{declared.answering.Shared.Shared, Runs.AppendsAt, Runs.AreReports, Playing.IsCutShort, Playing.IsPlayed, Playing.Plays}
+use Rattle.osrun.specs.{declared.core_runs.CoreRun.CoreRun, Fits.Fits, Fits.ids_of, CoreRuns.IsCoreRun, CoreRuns.report_of}
 use Rattle.osrun.specs.Sound.{IsOwn, lists_in, report_by, unclocked}
 use Rattle.osworld.specs.World.{World, first_world, with_item, world}
-use Rattle.osworld.specs.Runs.{AppendsAt, AreReports}
-use Rattle.osrun.specs.CoreRuns.{IsCoreRun, report_of}
-use Rattle.osworld.specs.Playing.{IsCutShort, IsPlayed, Plays}
-use Rattle.osrun.proofs.Alone.{fits-alone}
-use Rattle.osrun.proofs.Grouped.{fits-apart}
-use Rattle.osrun.proofs.CoreRunning.{seated-own}
-use Rattle.osworld.proofs.Fitted.{world_fits}
-use Rattle.osworld.proofs.Listed.{Lists, is_of}
-use Rattle.osworld.proofs.Turns.{turns-keep}
+use Rattle.osrun.proofs.{Alone.fits-alone, Grouped.fits-apart, CoreRunning.seated-own}
+use Rattle.osworld.proofs.{Fitted.world_fits, Listed.Lists, Listed.is_of, Turns.turns-keep}
 
 -- a turn leaves the cores that have lists
 abbrev ids : Lists → List CoreId

@@ -1,33 +1,16 @@
 -- A core for which no envelope waits serves the others, and nothing changes.
 use Rattle.std.proofs.Common.{◌≡◌, ◌<◌, ℕ, Bool, true, false, not, ◌&&◌, cond, nat_lt, Option, Some, None, slice_get, List, [], nat_eq, ◌≤◌, ◌∷◌, ◌++◌, filter, length, get_or, map, refl, sym, ap, subst, ◌∙◌, arith, ◌⊎◌, inl, inr}
 use Rattle.std.specs.List.{position}
-use Rattle.std.proofs.lemmas.Bool.{ltb-true}
-use Rattle.std.proofs.lemmas.Bool.Decides.{nat_tests}
-use Rattle.std.proofs.lemmas.List.{map-append}
-use Rattle.std.proofs.lemmas.List.Elements.{filter-append}
-use Rattle.std.proofs.lemmas.Option.{slice_get_cases}
-use Rattle.osbase.specs.declared.references.CoreId.{CoreId}
-use Rattle.osbase.specs.declared.messages.Letter.{Letter}
-use Rattle.osbase.specs.declared.turns.Choice.{Choice}
-use Rattle.osbase.specs.declared.turns.Choice.TheVariants.{Serve}
-use Rattle.osbase.specs.declared.turns.CoreStimuli.{CoreStimuli}
-use Rattle.osbase.specs.declared.limits.TheConstants.{CORES}
+use Rattle.std.proofs.{lemmas.Bool.ltb-true, lemmas.Bool.Decides.nat_tests, lemmas.List.map-append, lemmas.List.Elements.filter-append, lemmas.Option.slice_get_cases}
+use Rattle.osbase.specs.{declared.references.CoreId.CoreId, declared.messages.Letter.Letter, declared.turns.Choice.Choice, declared.turns.Choice.TheVariants.Serve, declared.turns.CoreStimuli.CoreStimuli, declared.limits.TheConstants.CORES, History.same_core}
 use Rattle.osmail.specs.Mail.{has_mail, oldest_of}
 use Rattle.osmail.proofs.Counts.{no_mail}
 use Rattle.osplan.specs.declared.plans.Plan.{Plan}
 use Rattle.oskernel.specs.Wants.{watch_in}
-use Rattle.osworld.specs.declared.answering.Shared.{Shared}
-use Rattle.osrun.specs.declared.requests.Request.TheVariants.{Oldest}
-use Rattle.osrun.specs.declared.requests.Reply.TheVariants.{Found}
-use Rattle.osrun.specs.declared.core_runs.CoreRun.{CoreRun}
-use Rattle.osworld.specs.Answering.{next_by}
-use Rattle.osrun.specs.Requests.{request_and_item}
-use Rattle.osbase.specs.History.{same_core}
-use Rattle.osworld.specs.Playing.{IsPlayed, Plays}
-use Rattle.osworld.specs.Runs.{serves_of}
+use Rattle.osworld.specs.{declared.answering.Shared.Shared, Answering.next_by, Playing.IsPlayed, Playing.Plays, Runs.serves_of}
+use Rattle.osrun.specs.{declared.requests.Request.TheVariants.Oldest, declared.requests.Reply.TheVariants.Found, declared.core_runs.CoreRun.CoreRun, Requests.request_and_item}
 use Rattle.osworld.specs.World.{World, is_unchanged, item_total, turn, world_from}
-use Rattle.osworld.proofs.Listed.{is_seat_of, core_run_place}
-use Rattle.osworld.proofs.Turned.{at_core, turn-nowhere, turn-unanswered}
+use Rattle.osworld.proofs.{Listed.is_seat_of, Listed.core_run_place, Turned.at_core, Turned.turn-nowhere, Turned.turn-unanswered}
 
 abbrev serves : CoreId → List CoreId → List (CoreId × Choice)
 serves core froms = map (λ (from : CoreId). (core, Serve from)) froms

@@ -1,27 +1,17 @@
 -- No core takes more than 2 ^ 48 items, so a world's items are bounded.
 use Rattle.std.proofs.Common.{◌≡◌, ℕ, suc, ◌+◌, ◌*◌, ◌^◌, ◌<◌, ◌≤◌, Bool, true, false, cond, Option, Some, is_some, List, [], ◌∷◌, ◌++◌, length, map, refl, ap, sym, subst, ◌∙◌, arith, nat_lt, sum_by, length-append}
 use Rattle.std.specs.Option.{option_map_or}
-use Rattle.std.proofs.lemmas.Bool.{and_parts, ltb-true}
-use Rattle.std.proofs.lemmas.List.{length-map}
-use Rattle.std.proofs.lemmas.List.Sums.{sum_by-cons}
-use Rattle.osbase.specs.declared.references.CoreId.{CoreId}
-use Rattle.osbase.specs.declared.items.Item.{Item}
-use Rattle.osbase.specs.declared.turns.Choice.{Choice}
-use Rattle.osbase.specs.declared.turns.CoreStimuli.{CoreStimuli}
-use Rattle.osbase.specs.History.{History, item_count}
-use Rattle.osplan.specs.declared.plans.Plan.{Plan}
-use Rattle.osplan.specs.View.{View, core_of, view_of}
+use Rattle.std.proofs.{lemmas.Bool.and_parts, lemmas.Bool.ltb-true, lemmas.List.length-map, lemmas.List.Sums.sum_by-cons}
+use Rattle.osbase.specs.{declared.references.CoreId.CoreId, declared.items.Item.Item, declared.turns.Choice.Choice, declared.turns.CoreStimuli.CoreStimuli, History.History, History.item_count, Sets.core_ids}
+use Rattle.osplan.specs.{declared.plans.Plan.Plan, View.View, View.core_of, View.view_of}
 use Rattle.osplan.proofs.Tests.{length-filter-le}
-use Rattle.osbase.specs.Sets.{core_ids}
 use Rattle.osstate.specs.State.{state_of}
 use Rattle.osadmit.specs.Admission.{admits}
 use Rattle.oskernel.specs.Step.{after, history_from, outbox_size}
-use Rattle.osrun.specs.Fits.{ids_of}
-use Rattle.osrun.specs.declared.requests.Request.{Request}
+use Rattle.osrun.specs.{Fits.ids_of, declared.requests.Request.Request}
 use Rattle.osworld.specs.World.{World, appends, first_world, history_in, turn, with_item, world, item_total}
 use Rattle.oskernel.proofs.Holding.{quiet_after}
-use Rattle.osworld.proofs.Listed.{Lists, is_of, list_of}
-use Rattle.osworld.proofs.Turns.{Appends, turns-keep}
+use Rattle.osworld.proofs.{Listed.Lists, Listed.is_of, Listed.list_of, Turns.Appends, Turns.turns-keep}
 
 -- Each list has at most 2 ^ 48 items.
 abbrev are_short : Lists → Type 0

@@ -1,30 +1,17 @@
 -- The seats, and what stands between the cores, before the first turn.
 use Rattle.std.proofs.Common.{◌≡◌, ℕ, ◌+◌, ◌*◌, ◌<◌, ◌≤◌, Bool, true, false, cond, Some, List, [], ◌∷◌, ◌++◌, map, drop, refl, sym, ap, ◌∙◌, arith}
-use Rattle.std.specs.List.{All}
-use Rattle.std.specs.Option.{option_map_or}
-use Rattle.std.proofs.lemmas.List.{map-append, length-replicate}
-use Rattle.std.proofs.lemmas.List.Elements.{All-push}
-use Rattle.osbase.specs.declared.references.CoreId.{CoreId}
-use Rattle.osbase.specs.declared.messages.Letter.{Letter}
-use Rattle.osbase.specs.declared.items.Item.{Item}
-use Rattle.osbase.specs.declared.turns.CoreStimuli.{CoreStimuli}
-use Rattle.osbase.specs.declared.limits.TheConstants.{CORES}
-use Rattle.osbase.specs.History.{History, posted, received_count}
-use Rattle.osbase.specs.Runs.{stimuli_of}
+use Rattle.std.specs.{List.All, Option.option_map_or}
+use Rattle.std.proofs.{lemmas.List.map-append, lemmas.List.length-replicate, lemmas.List.Elements.All-push}
+use Rattle.osbase.specs.{declared.references.CoreId.CoreId, declared.messages.Letter.Letter, declared.items.Item.Item, declared.turns.CoreStimuli.CoreStimuli, declared.limits.TheConstants.CORES, History.History, History.posted, History.received_count, Runs.stimuli_of}
 use Rattle.osmail.specs.Mail.{Mail, empty_mail}
 use Rattle.osmail.proofs.Boxes.{box_of-empty}
-use Rattle.osplan.specs.declared.plans.Plan.{Plan}
-use Rattle.osplan.specs.View.{view_of}
+use Rattle.osplan.specs.{declared.plans.Plan.Plan, View.view_of}
 use Rattle.osstate.specs.State.{state_of}
 use Rattle.oskernel.specs.Step.{history_from}
-use Rattle.osrun.specs.declared.core_runs.CoreRun.{CoreRun}
+use Rattle.osrun.specs.{declared.core_runs.CoreRun.CoreRun, Fits.ids_of, CoreRuns.IsCoreRun}
 use Rattle.osboard.specs.Boards.{first_board}
 use Rattle.osspin.specs.Spins.{no_holders}
-use Rattle.osworld.specs.declared.answering.Shared.{Shared}
-use Rattle.osrun.specs.Fits.{ids_of}
-use Rattle.osworld.specs.World.{first_world, history_in}
-use Rattle.osworld.specs.Playing.{IsMail, lists_of, Plays}
-use Rattle.osrun.specs.CoreRuns.{IsCoreRun}
+use Rattle.osworld.specs.{declared.answering.Shared.Shared, World.first_world, World.history_in, Playing.IsMail, Playing.lists_of, Playing.Plays}
 use Rattle.osworld.proofs.Listed.{Lists, is_of, list_of}
 use Rattle.osrun.proofs.Configured.{id_at, ids_below, ids_below-push, ids_below-skip, is_there}
 use Rattle.osrun.proofs.CoreRunning.{seated-first}

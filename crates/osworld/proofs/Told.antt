@@ -1,8 +1,7 @@
 -- The reports of the cores, one after another, while each core gives up what it has.
 use Rattle.std.proofs.Common.{◌≡◌, ◌+◌, ◌<◌, ℕ, suc, List, [], ◌∷◌, ◌++◌, drop, get_or, length, map, take, ap, sym, ◌∙◌, add-one, arith}
 use Rattle.std.specs.List.{slice_set}
-use Rattle.std.proofs.lemmas.List.{drop-set-lt, map-append}
-use Rattle.std.proofs.Math.Seq.{drop-cons, take-suc}
+use Rattle.std.proofs.{lemmas.List.drop-set-lt, lemmas.List.map-append, Math.Seq.drop-cons, Math.Seq.take-suc}
 
 module _ {A B : Type 0} (f : A → B) (all now : List A) (n : ℕ) (x : A) (as-many : length now ≡ length all) (within : n < length now) (so : drop n now ≡ drop n all) (at : x ≡ get_or now n x) where
   of-all : drop n all ≡ get_or all n x ∷ drop (suc n) all

@@ -1,51 +1,26 @@
 -- One turn of a run, as its contract has it.
 use Rattle.std.proofs.Common.{◌≡◌, ℕ, suc, ◌<◌, Bool, true, false, not, ◌&&◌, cond, nat_lt, IsTrue, IsSome, Option, Some, None, option_map, slice_get, List, [], ◌∷◌, length, get_or, set, refl, sym, ap, subst, ◌∙◌, arith, nat_eq, Result, Ok, Err}
-use Rattle.std.specs.Result.{IfOk, OnErr}
-use Rattle.std.specs.List.{position, position_or_len}
-use Rattle.std.proofs.lemmas.Bool.{eq-eqb, ltb-true, not-true}
-use Rattle.std.proofs.lemmas.Option.{slice_get_read}
-use Rattle.std.proofs.lemmas.Bool.Decides.{nat_tests}
-use Rattle.std.proofs.lemmas.List.Elements.{All-get_or, All-set}
-use Rattle.std.proofs.Math.Seq.{map-set_same}
-use Rattle.osbase.specs.declared.references.CoreId.{CoreId}
-use Rattle.osbase.specs.declared.messages.Envelope.{Envelope}
-use Rattle.osbase.specs.declared.messages.Letter.{Letter}
-use Rattle.osbase.specs.declared.items.Item.{Item}
-use Rattle.osbase.specs.declared.turns.Choice.{Choice}
-use Rattle.osbase.specs.declared.turns.CoreStimuli.{CoreStimuli}
-use Rattle.osbase.specs.History.{same_core}
-use Rattle.osbase.specs.declared.statuses.Status.TheVariants.{EOsId}
-use Rattle.osbase.specs.declared.limits.TheConstants.{CORES}
+use Rattle.std.specs.{Result.IfOk, Result.OnErr, List.position, List.position_or_len}
+use Rattle.std.proofs.{lemmas.Bool.eq-eqb, lemmas.Bool.ltb-true, lemmas.Bool.not-true, lemmas.Option.slice_get_read, lemmas.Bool.Decides.nat_tests, lemmas.List.Elements.All-get_or, lemmas.List.Elements.All-set, Math.Seq.map-set_same}
+use Rattle.osbase.specs.{declared.references.CoreId.CoreId, declared.messages.Envelope.Envelope, declared.messages.Letter.Letter, declared.items.Item.Item, declared.turns.Choice.Choice, declared.turns.CoreStimuli.CoreStimuli, History.same_core, declared.statuses.Status.TheVariants.EOsId, declared.limits.TheConstants.CORES}
 use Rattle.osmail.specs.Mail.{Mail, has_room, oldest_of}
-use Rattle.osplan.specs.declared.plans.Plan.{Plan}
-use Rattle.osplan.specs.View.{view_of}
+use Rattle.osplan.specs.{declared.plans.Plan.Plan, View.view_of}
 use Rattle.osstate.specs.Does.{Reads}
 use Rattle.osbase.proofs.Same.{same_core-true}
-use Rattle.oskernel.specs.Step.{outbox_size, takes}
-use Rattle.oskernel.specs.declared.wants.Watch.{Watch}
-use Rattle.oskernel.specs.Wants.{front_of, watch_in}
-use Rattle.osboard.specs.declared.calls.BoardCall.{BoardCall}
+use Rattle.oskernel.specs.{Step.outbox_size, Step.takes, declared.wants.Watch.Watch, Wants.front_of, Wants.watch_in}
+use Rattle.osboard.specs.{declared.calls.BoardCall.BoardCall, declared.calls.BoardReply.BoardReply, Boards.board_reply}
 use Rattle.osboard.specs.declared.calls.BoardCall.TheVariants.{Start, Enter, MakeReady, Drain, Look, LookDrained, AskHalt, LookHalt}
-use Rattle.osboard.specs.declared.calls.BoardReply.{BoardReply}
 use Rattle.osboard.specs.declared.calls.BoardReply.TheVariants.{Started, Acknowledged, Shown, Drained, Decided, Halting}
-use Rattle.osboard.specs.Boards.{board_reply}
-use Rattle.osrun.specs.declared.core_runs.CoreRun.{CoreRun}
-use Rattle.osrun.specs.declared.requests.Request.{Request}
+use Rattle.osrun.specs.{declared.core_runs.CoreRun.CoreRun, declared.requests.Request.Request, declared.requests.Reply.TheVariants.HasRoom, declared.requests.Reply.TheVariants.Found, declared.requests.Reply.Reply, Fits.history_by, CoreRuns.IsCoreRun, Requests.item_by, Requests.item_of_board, Requests.spin_call_of, CoreRuns.Keeps, CoreRuns.Took}
 use Rattle.osrun.specs.declared.requests.Request.TheVariants.{OfBoard, OfSpins, Room, Oldest, StartUnknown, TakeStimulus}
-use Rattle.osrun.specs.declared.requests.Reply.TheVariants.{HasRoom, Found}
-use Rattle.osrun.specs.declared.requests.Reply.{Reply}
 use Rattle.osspin.specs.Spins.{spin_reply}
 use Rattle.osworld.specs.declared.answering.Shared.{Shared}
-use Rattle.osrun.specs.Fits.{history_by}
 use Rattle.osworld.specs.World.{World, turn, is_unchanged, item_total}
 use Rattle.osworld.specs.Answering.{reply_by, mail_after, IsPlaced, next_by, settled, after_call}
-use Rattle.osrun.specs.CoreRuns.{IsCoreRun}
-use Rattle.osrun.specs.Requests.{item_by, item_of_board, spin_call_of}
 use Rattle.osworld.specs.Playing.{IsAnswered, IsCutShort, IsPlayed, Plays}
 use Rattle.osrun.proofs.Resulting.{drained-item, halt-item, is-item, look-item, spinlock-item}
 use Rattle.osworld.proofs.Listed.{is_seat_of, seat_is_of, seat_nowhere, core_run_place}
 use Rattle.osworld.proofs.Turning.{turn-nobody, turn-nothing, turn-refused, turn-taken, turn-appends}
-use Rattle.osrun.specs.CoreRuns.{Keeps, Took}
 use Rattle.osrun.proofs.CoreRunning.{seated-kept, took-kept}
 
 unchanged-same : (w : World) (next : World) → next ≡ w → false ≡ not (is_unchanged w next)

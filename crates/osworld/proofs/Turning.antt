@@ -2,35 +2,20 @@
 use Rattle.std.proofs.Common.{◌≡◌, ℕ, suc, ◌<◌, ◌≤◌, Bool, true, false, cond, Option, Some, None, is_some, List, [], ◌∷◌, ◌++◌, length, drop, get_or, set, sym, ap, subst, ◌∙◌, append-nil}
 use Rattle.std.specs.List.{All, position_or_len}
 use Rattle.std.proofs.lemmas.List.Elements.{All-get_or, All-set}
-use Rattle.osbase.specs.declared.references.CoreId.{CoreId}
-use Rattle.osbase.specs.declared.items.Item.{Item}
-use Rattle.osbase.specs.declared.turns.Choice.{Choice}
-use Rattle.osbase.specs.declared.turns.CoreStimuli.{CoreStimuli}
-use Rattle.osbase.specs.History.{History}
-use Rattle.osbase.specs.Runs.{stimuli_of}
-use Rattle.osplan.specs.declared.plans.Plan.{Plan}
-use Rattle.osplan.specs.View.{view_of}
+use Rattle.osbase.specs.{declared.references.CoreId.CoreId, declared.items.Item.Item, declared.turns.Choice.Choice, declared.turns.CoreStimuli.CoreStimuli, History.History, Runs.stimuli_of}
+use Rattle.osplan.specs.{declared.plans.Plan.Plan, View.view_of}
 use Rattle.osstate.specs.State.{KernelState, state_of}
-use Rattle.oskernel.specs.Step.{takes, outbox_size}
-use Rattle.oskernel.specs.Wants.{front_of}
-use Rattle.osrun.specs.declared.core_runs.CoreRun.{CoreRun}
+use Rattle.oskernel.specs.{Step.takes, Step.outbox_size, Wants.front_of}
+use Rattle.osrun.specs.{declared.core_runs.CoreRun.CoreRun, declared.requests.Request.Request, declared.requests.Request.TheVariants.OfBoard, declared.requests.Request.TheVariants.OfSpins, Requests.spin_call_of, Requests.call_of_turn, Fits.history_by, CoreRuns.stimulus_count, CoreRuns.IsCoreRun, CoreRuns.Took}
 use Rattle.osshared.specs.Histories.{entry, state_after}
 use Rattle.osshared.proofs.Steps.{after_snoc}
 use Rattle.osboard.specs.Boards.{board_reply, first_board, one_board}
 use Rattle.osspin.specs.Spins.{no_holders, spin_reply, spinlocks}
-use Rattle.osworld.specs.declared.answering.Shared.{Shared}
-use Rattle.osrun.specs.declared.requests.Request.{Request}
-use Rattle.osrun.specs.declared.requests.Request.TheVariants.{OfBoard, OfSpins}
-use Rattle.osrun.specs.Requests.{spin_call_of, call_of_turn}
-use Rattle.osrun.specs.Fits.{history_by}
+use Rattle.osworld.specs.{declared.answering.Shared.Shared, Playing.IsMail, Playing.lists_of, Playing.Plays}
 use Rattle.osworld.specs.World.{World, reply_in, appends, board_in, history_in, holders_in, items_in, next_in, turn, turn_by, with_item, item_total}
-use Rattle.osrun.specs.CoreRuns.{stimulus_count, IsCoreRun}
 use Rattle.osworld.specs.Answering.{board_by, mail_after, IsPlaced, next_by, settled, holders_by}
-use Rattle.osworld.specs.Playing.{IsMail, lists_of, Plays}
 use Rattle.osworld.proofs.Listed.{is_seat_of, items_by, list_of, list_of-nobody, list_of-core_run, lists_of-set, total-push}
-use Rattle.osworld.proofs.Carrying.{carries_on}
-use Rattle.osworld.proofs.Agreed.{next-agrees}
-use Rattle.osrun.specs.CoreRuns.{Took}
+use Rattle.osworld.proofs.{Carrying.carries_on, Agreed.next-agrees}
 use Rattle.osrun.proofs.CoreRunning.{seated-on}
 
 -- the board and the spinlocks after one more call

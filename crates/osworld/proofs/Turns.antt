@@ -1,16 +1,9 @@
 -- What each item that a turn appends keeps, every world has.
 use Rattle.std.proofs.Common.{◌≡◌, Bool, true, false, cond, Option, Some, None, option_map, is_some, List, [], ◌∷◌, refl}
-use Rattle.osbase.specs.declared.references.CoreId.{CoreId}
-use Rattle.osbase.specs.declared.items.Item.{Item}
-use Rattle.osbase.specs.declared.turns.Choice.{Choice}
-use Rattle.osbase.specs.declared.turns.CoreStimuli.{CoreStimuli}
-use Rattle.osplan.specs.declared.plans.Plan.{Plan}
-use Rattle.osbase.specs.History.{History}
-use Rattle.osplan.specs.View.{View, view_of}
-use Rattle.oskernel.specs.Step.{takes, outbox_size}
-use Rattle.oskernel.specs.Wants.{watch_of}
-use Rattle.osrun.specs.declared.requests.Request.{Request}
-use Rattle.osrun.specs.Requests.{request_of_turn, next_item, item_for_reply}
+use Rattle.osbase.specs.{declared.references.CoreId.CoreId, declared.items.Item.Item, declared.turns.Choice.Choice, declared.turns.CoreStimuli.CoreStimuli, History.History}
+use Rattle.osplan.specs.{declared.plans.Plan.Plan, View.View, View.view_of}
+use Rattle.oskernel.specs.{Step.takes, Step.outbox_size, Wants.watch_of}
+use Rattle.osrun.specs.{declared.requests.Request.Request, Requests.request_of_turn, Requests.next_item, Requests.item_for_reply}
 use Rattle.osworld.specs.World.{World, reply_in, appends, history_in, next_in, next_stimulus, turn, turn_by, world_from}
 use Rattle.osworld.proofs.Listed.{list_of}
 

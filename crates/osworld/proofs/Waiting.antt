@@ -1,12 +1,8 @@
 -- The mailboxes that hold what is on its way between the cores.
 use Rattle.std.proofs.Common.{◌≡◌, ℕ, zero, suc, ◌+◌, ◌*◌, ◌<◌, Bool, true, false, ◌&&◌, cond, List, [], ◌∷◌, length, drop, refl, sym, ap, subst, ◌∙◌, arith}
-use Rattle.std.proofs.lemmas.List.{drop-drop}
+use Rattle.std.proofs.{lemmas.List.drop-drop, lemmas.Bool.false≢true}
 use Rattle.std.specs.List.{slice_get}
-use Rattle.std.proofs.lemmas.Bool.{false≢true}
-use Rattle.osbase.specs.declared.references.CoreId.{CoreId}
-use Rattle.osbase.specs.declared.messages.Letter.{Letter}
-use Rattle.osbase.specs.declared.limits.TheConstants.{CORES}
-use Rattle.osbase.specs.History.{same_core}
+use Rattle.osbase.specs.{declared.references.CoreId.CoreId, declared.messages.Letter.Letter, declared.limits.TheConstants.CORES, History.same_core}
 use Rattle.osmail.specs.Mail.{Mail, box_of, with_box}
 use Rattle.osmail.proofs.Boxes.{box_of-with_box_same, box_of-with_box_other}
 use Rattle.osbase.proofs.Same.{same_core-true, same_core-refl}

@@ -3,27 +3,17 @@
 -- definition reads off the items. Who reads what a run promises needs none of it. [own]
 use Rattle.std.specs.Prelude.{◌<◌, ◌&&◌, nat_lt, if◌then◌else◌, Bool, true, false, IsTrue, is_none, Option, None, IsSome, List, slice_get}
 use Rattle.std.specs.Option.{option_map_or}
-use Rattle.osbase.specs.declared.references.CoreId.{CoreId}
-use Rattle.osbase.specs.declared.messages.Envelope.{Envelope}
-use Rattle.osbase.specs.declared.items.Item.{Item}
-use Rattle.osbase.specs.declared.items.Stimulus.{Stimulus}
-use Rattle.osbase.specs.declared.turns.Choice.{Choice}
-use Rattle.osbase.specs.declared.limits.TheConstants.{CORES}
+use Rattle.osbase.specs.{declared.references.CoreId.CoreId, declared.messages.Envelope.Envelope, declared.items.Item.Item, declared.items.Stimulus.Stimulus, declared.turns.Choice.Choice, declared.limits.TheConstants.CORES}
 use Rattle.osmail.specs.Mail.{Mail, has_room, oldest_of, after_send, after_take}
-use Rattle.osplan.specs.declared.plans.Plan.{Plan}
-use Rattle.osplan.specs.View.{view_of}
+use Rattle.osplan.specs.{declared.plans.Plan.Plan, View.view_of}
 use Rattle.osstate.specs.State.{KernelState}
-use Rattle.oskernel.specs.declared.wants.Watch.{Watch}
-use Rattle.oskernel.specs.Wants.{want_in, watch_in}
-use Rattle.osboard.specs.declared.calls.BoardState.{BoardState}
-use Rattle.osboard.specs.Boards.{board_after, board_reply}
+use Rattle.oskernel.specs.{declared.wants.Watch.Watch, Wants.want_in, Wants.watch_in}
+use Rattle.osboard.specs.{declared.calls.BoardState.BoardState, Boards.board_after, Boards.board_reply}
 use Rattle.osspin.specs.Spins.{holders_after, spin_reply}
-use Rattle.osrun.specs.declared.requests.Request.{Request}
+use Rattle.osrun.specs.{declared.requests.Request.Request, declared.requests.Reply.Reply, Requests.request_by, Requests.next_item, Requests.spin_call_of}
 use Rattle.osrun.specs.declared.requests.Request.TheVariants.{OfBoard, OfSpins, Room, Oldest}
-use Rattle.osrun.specs.declared.requests.Reply.{Reply}
 use Rattle.osrun.specs.declared.requests.Reply.TheVariants.{Replied, Spun, HasRoom, Found, Unasked}
 use Rattle.osworld.specs.declared.answering.Shared.{Shared}
-use Rattle.osrun.specs.Requests.{request_by, next_item, spin_call_of}
 
 -- The reply of what a run holds in memory between its cores: the mailboxes, the board and the spinlocks.
 abbrev pub reply_by : Shared → CoreId → Request → Reply

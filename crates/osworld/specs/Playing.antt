@@ -1,26 +1,14 @@
 -- What a listed run holds in memory, beside the world's definition. Who reads what a run promises needs none of it. [own]
 use Rattle.std.specs.Prelude.{◌≡◌, ℕ, ◌*◌, ◌<◌, ◌≤◌, Bool, not, IsTrue, Some, List, length, drop, take, map, position, slice_get}
 use Rattle.std.specs.List.{All}
-use Rattle.osbase.specs.declared.references.CoreId.{CoreId}
-use Rattle.osbase.specs.declared.messages.Letter.{Letter}
-use Rattle.osbase.specs.declared.items.Item.{Item}
-use Rattle.osbase.specs.declared.turns.Choice.{Choice}
-use Rattle.osbase.specs.declared.turns.CoreStimuli.{CoreStimuli}
-use Rattle.osbase.specs.declared.limits.TheConstants.{CORES}
-use Rattle.osbase.specs.History.{posted, received_count, same_core}
+use Rattle.osbase.specs.{declared.references.CoreId.CoreId, declared.messages.Letter.Letter, declared.items.Item.Item, declared.turns.Choice.Choice, declared.turns.CoreStimuli.CoreStimuli, declared.limits.TheConstants.CORES, History.posted, History.received_count, History.same_core}
 use Rattle.osmail.specs.Mail.{Mail, box_of}
 use Rattle.osplan.specs.declared.plans.Plan.{Plan}
 use Rattle.oskernel.specs.Wants.{watch_in}
-use Rattle.osrun.specs.declared.requests.Request.{Request}
-use Rattle.osrun.specs.declared.requests.Reply.{Reply}
-use Rattle.osworld.specs.declared.answering.Shared.{Shared}
-use Rattle.osrun.specs.declared.core_runs.CoreRun.{CoreRun}
-use Rattle.osworld.specs.declared.worlds.World.{World as Run}
-use Rattle.osworld.specs.Answering.{next_by}
-use Rattle.osrun.specs.Requests.{request_and_item}
+use Rattle.osrun.specs.{declared.requests.Request.Request, declared.requests.Reply.Reply, declared.core_runs.CoreRun.CoreRun, Requests.request_and_item, CoreRuns.IsCoreRun}
+use Rattle.osworld.specs.{declared.answering.Shared.Shared, declared.worlds.World.World as Run, Answering.next_by}
 use Rattle.osworld.specs.Runs.{AppendsAt, HasAtLeast, default_turns, is_default, round_of}
 use Rattle.osworld.specs.World.{World, board_in, first_world, history_in, holders_in, is_unchanged, world, world_from}
-use Rattle.osrun.specs.CoreRuns.{IsCoreRun}
 
 -- The item lists of seats.
 abbrev pub lists_of : List CoreRun → List (CoreId × List Item)

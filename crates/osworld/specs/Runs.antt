@@ -1,23 +1,12 @@
 -- What a run of listed turns promises, and the default schedule.
 use Rattle.std.specs.Prelude.{◌≡◌, ◌⊎◌, ℕ, zero, suc, ◌+◌, ◌<◌, ◌==◌, ◌||◌, Bool, false, not, if◌then◌else◌, IsTrue, List, [], ◌∷◌, ◌++◌, length, map, filter, take}
 use Rattle.std.specs.List.{list_all, flat_map}
-use Rattle.osbase.specs.declared.references.CoreId.{CoreId}
-use Rattle.osbase.specs.declared.items.Item.{Item}
-use Rattle.osbase.specs.declared.turns.CoreStimuli.{CoreStimuli}
-use Rattle.osbase.specs.declared.turns.Choice.{Choice}
-use Rattle.osbase.specs.declared.turns.Choice.TheVariants.{Own, Serve, Look}
-use Rattle.osbase.specs.declared.turns.Report.{Report}
-use Rattle.osbase.specs.History.{same_core}
-use Rattle.osbase.specs.Sets.{has_core}
-use Rattle.osplan.specs.declared.plans.Plan.{Plan}
-use Rattle.osplan.specs.View.{view_of}
+use Rattle.osbase.specs.{declared.references.CoreId.CoreId, declared.items.Item.Item, declared.turns.CoreStimuli.CoreStimuli, declared.turns.Choice.Choice, declared.turns.Choice.TheVariants.Own, declared.turns.Choice.TheVariants.Serve, declared.turns.Choice.TheVariants.Look, declared.turns.Report.Report, History.same_core, Sets.has_core}
+use Rattle.osplan.specs.{declared.plans.Plan.Plan, View.view_of}
 use Rattle.osstate.specs.Readings.{phase_at}
-use Rattle.osworld.specs.declared.runs.RunFault.{RunFault}
-use Rattle.osworld.specs.declared.runs.RunFault.TheVariants.{NotBegun, NoMemory}
-use Rattle.osrun.specs.Fits.{history_by, ids_of}
-use Rattle.osrun.specs.Sound.{AreSound, report_by}
+use Rattle.osworld.specs.{declared.runs.RunFault.RunFault, declared.runs.RunFault.TheVariants.NotBegun, declared.runs.RunFault.TheVariants.NoMemory}
+use Rattle.osrun.specs.{Fits.history_by, Fits.ids_of, Sound.AreSound, Sound.report_by, CoreRuns.is_ended_phase}
 use Rattle.osworld.specs.World.{World, board_in, first_world, is_unchanged, world, world_from}
-use Rattle.osrun.specs.CoreRuns.{is_ended_phase}
 
 -- ---- listed turns
 

@@ -1,29 +1,17 @@
 -- The world: all cores of a configuration, turn by turn. It is the cores' item lists and the calls of the board and the
 -- spinlocks, and nothing else: where a core stands is read off its own items.
 use Rattle.std.specs.Prelude.{ℕ, ◌+◌, ◌==◌, ◌&&◌, nat_lt, Bool, if◌then◌else◌, Option, Some, None, is_some, List, [], ◌∷◌, ◌++◌, length, map, find, slice_get, sum_by}
-use Rattle.osbase.specs.declared.references.CoreId.{CoreId}
-use Rattle.osbase.specs.declared.items.Item.{Item}
-use Rattle.osbase.specs.declared.items.Stimulus.{Stimulus}
-use Rattle.osbase.specs.declared.turns.CoreStimuli.{CoreStimuli}
-use Rattle.osbase.specs.declared.turns.Choice.{Choice}
+use Rattle.osbase.specs.{declared.references.CoreId.CoreId, declared.items.Item.Item, declared.items.Stimulus.Stimulus, declared.turns.CoreStimuli.CoreStimuli, declared.turns.Choice.Choice, Runs.stimuli_of, declared.limits.TheConstants.CORES}
 use Rattle.osbase.specs.History.{History, same_core, posted, received_count}
-use Rattle.osbase.specs.Runs.{stimuli_of}
-use Rattle.osbase.specs.declared.limits.TheConstants.{CORES}
-use Rattle.osplan.specs.declared.plans.Plan.{Plan}
-use Rattle.osplan.specs.View.{view_of}
-use Rattle.oskernel.specs.Step.{takes, outbox_size}
-use Rattle.oskernel.specs.Wants.{watch_of}
+use Rattle.osplan.specs.{declared.plans.Plan.Plan, View.view_of}
+use Rattle.oskernel.specs.{Step.takes, Step.outbox_size, Wants.watch_of}
 use Rattle.osshared.specs.Histories.{state_after}
-use Rattle.osboard.specs.declared.calls.BoardState.{BoardState}
-use Rattle.osboard.specs.Boards.{board_reply, first_board, one_board}
+use Rattle.osboard.specs.{declared.calls.BoardState.BoardState, Boards.board_reply, Boards.first_board, Boards.one_board}
 use Rattle.osspin.specs.Spins.{no_holders, spin_reply, spinlocks}
-use Rattle.osrun.specs.declared.requests.Request.{Request}
+use Rattle.osrun.specs.{declared.requests.Request.Request, declared.requests.Reply.Reply, Fits.history_by, Fits.ids_of, Fits.items_of, CoreRuns.stimulus_count}
 use Rattle.osrun.specs.declared.requests.Request.TheVariants.{OfBoard, OfSpins, Room, Oldest}
-use Rattle.osrun.specs.declared.requests.Reply.{Reply}
 use Rattle.osrun.specs.declared.requests.Reply.TheVariants.{Replied, Spun, HasRoom, Found, Unasked}
 use Rattle.osrun.specs.Requests.{Calls, request_of_turn, next_item, joined, no_calls, spin_call_of, call_of_turn}
-use Rattle.osrun.specs.Fits.{history_by, ids_of, items_of}
-use Rattle.osrun.specs.CoreRuns.{stimulus_count}
 
 -- All cores after some turns: the items of each configured core, the oldest first, and the calls of the board and the spinlocks that
 -- became items. Nothing else is kept: where a core stands is read off its own items. [own]

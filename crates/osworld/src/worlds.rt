@@ -3,17 +3,10 @@
 ghost use Rattle.std.specs.Prelude.{IsTrue, ◌≡◌, ◌+◌, ◌<◌, ◌≤◌, ◌∷◌, [], Some, IfSome, IfOk, OnErr, false, vec_len, vec_capacity, length, map, not, ◌||◌, position, slice_get};
 ghost use Rattle.std.specs.List.{list_all};
 ghost use Rattle.std.proofs.Props.{props};
-ghost use Rattle.osbase.specs.declared.limits.TheConstants.{CORES};
-ghost use Rattle.osbase.specs.declared.references.CoreId.{CoreId as CoreIdValue};
-ghost use Rattle.osbase.specs.declared.turns.Choice.{Choice as ChoiceValue};
-ghost use Rattle.osbase.specs.History.{same_core};
+ghost use Rattle.osbase.specs.{declared.limits.TheConstants.CORES, declared.references.CoreId.CoreId as CoreIdValue, declared.turns.Choice.Choice as ChoiceValue, History.same_core, Sets.has_core};
 ghost use Rattle.osplan.specs.Limits.{is_within_limits};
-ghost use Rattle.osrun.specs.declared.core_runs.CoreRun.{CoreRun as CoreRunValue};
-ghost use Rattle.osbase.specs.Sets.{has_core};
-ghost use Rattle.osworld.specs.Answering.{reply_by};
-ghost use Rattle.osworld.specs.World.{first_world};
-ghost use Rattle.osrun.specs.CoreRuns.{is_ended_phase, report_of};
-ghost use Rattle.osworld.specs.Runs.{round_by, serves_of, turns_in_round};
+ghost use Rattle.osrun.specs.{declared.core_runs.CoreRun.CoreRun as CoreRunValue, CoreRuns.is_ended_phase, CoreRuns.report_of};
+ghost use Rattle.osworld.specs.{Answering.reply_by, World.first_world, Runs.round_by, Runs.serves_of, Runs.turns_in_round};
 
 use crate::answering::Shared;
 use osbase::{CORE_NUMBERS, CORES, Choice, CoreId, CoreStimuli, Item, Report, Turn};

@@ -10,8 +10,7 @@ use Rattle.osplan.specs.Limits.{number_of, CoreSizes, CounterSizes, TableSizes, 
 use Rattle.osplan.specs.Representable as said
 use Rattle.osplan.specs.Objects as plans
 use Rattle.osplan.specs.{Names.name_of_mode, Names.name_of, Names.spinlock_name, Spinlocks.are_links_ordered, Spinlocks.links_of, Protection.protection_named, Protection.protection_word, declared.protection.Protection.Protection, View.core_of, View.counter_in, Fault.if_faultless, Fault.failing}
-use Rattle.osplan.proofs.{Scripts.all_scripts, SpinlockObjects.there-spinlock, Found.IsFound, Found.each-found, Numbered.master-low, ModeObjects.mode-named, ModeObjects.mode-said, ModeObjects.nobody, ModeObjects.there-mode}
-use Rattle.osplan.proofs.{Tests.each-flat, Tests.any-find, Tests.any-mapped, Within.between, Within.cap-within, Within.version-within, Within.limit-parts, Within.text-parts, Within.core-text-parts, Within.TextParts, Within.LimitParts}
+use Rattle.osplan.proofs.{Scripts.all_scripts, SpinlockObjects.there-spinlock, Found.IsFound, Found.each-found, Numbered.master-low, ModeObjects.mode-named, ModeObjects.mode-said, ModeObjects.nobody, ModeObjects.there-mode, Tests.each-flat, Tests.any-find, Tests.any-mapped, Within.between, Within.cap-within, Within.version-within, Within.limit-parts, Within.text-parts, Within.core-text-parts, Within.TextParts, Within.LimitParts}
 use Rattle.oscript.specs.{declared.Op.TheVariants.Work, Calls.action_of_op, Calls.op_of_call, Rows.has_masks, Rows.is_in_form}
 use Rattle.oscript.proofs.Acting.{action-back as action-of, call-objects}
 use Rattle.ossyntax.specs.{Operation.op_of_text, Operation.has_masks as text_has_masks, Action.is_action as is_action_text}

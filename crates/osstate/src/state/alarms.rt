@@ -2,16 +2,11 @@
 
 ghost use Rattle.std.specs.Prelude.{◌≡◌, ◌<◌, ◌≤◌, ◌^◌, IsTrue, length, option_copied, option_map, Some, suc};
 ghost use Rattle.std.specs.List.{list_all};
-ghost use Rattle.osbase.specs.declared.references.AlarmRef.{AlarmRef as AlarmRefValue};
+ghost use Rattle.osbase.specs.{declared.references.AlarmRef.AlarmRef as AlarmRefValue, Objects.alarm_object, Objects.counter_object};
 ghost use Rattle.osbase.specs.History.{Noted, AlarmCancelled, AlarmSet, CounterIncremented};
-ghost use Rattle.osbase.specs.Objects.{alarm_object, counter_object};
-ghost use Rattle.osplan.specs.Clocked.{are_clocks_within};
-ghost use Rattle.osplan.specs.Objects.{is_own_object, may_act};
-ghost use Rattle.osplan.specs.declared.plans.Alarm.{Alarm as AlarmValue};
-ghost use Rattle.osplan.specs.View.{own_alarm};
+ghost use Rattle.osplan.specs.{Clocked.are_clocks_within, Objects.is_own_object, Objects.may_act, declared.plans.Alarm.Alarm as AlarmValue, View.own_alarm};
 ghost use Rattle.osclock.specs.Clocks.{alarm_in, attached_to, counter_in, counts_to_in, due_in, is_used, left_in, max_for};
-ghost use Rattle.osstate.specs.Readings.{alarm_named, counter_named};
-ghost use Rattle.osstate.specs.Steps.{state_after};
+ghost use Rattle.osstate.specs.{Readings.alarm_named, Readings.counter_named, Steps.state_after};
 
 use super::CoreState;
 use osbase::{AlarmRef, CounterRef, RemoteCall};

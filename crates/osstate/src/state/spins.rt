@@ -4,7 +4,7 @@ ghost use Rattle.std.specs.Prelude.{◌≡◌, IfSome, IsTrue, length, nat_lt};
 ghost use Rattle.osbase.specs.Spins.{has_spinlock, is_owing, newest_of, newest_owed};
 ghost use Rattle.osplan.specs.Spinlocks.{comes_after};
 ghost use Rattle.osgot.specs.Grants.{is_held_by};
-ghost use Rattle.osstate.specs.Sound.{is_lock_known};
+ghost use Rattle.osprogress.specs.Border.{is_lock_known};
 
 use super::CoreState;
 use osbase::{Runner, SpinlockId};

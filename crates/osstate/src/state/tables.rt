@@ -2,16 +2,13 @@
 
 ghost use Rattle.std.specs.Prelude.{◌≡◌, ◌<◌, ◌≤◌, ◌^◌, ℕ, IsTrue, IfSome, length, option_copied, suc, sum_by};
 ghost use Rattle.std.specs.List.{list_all};
-ghost use Rattle.osbase.specs.declared.references.TableRef.{TableRef as TableRefValue};
+ghost use Rattle.osbase.specs.{declared.references.TableRef.TableRef as TableRefValue, Objects.counter_object, Objects.table_object};
 ghost use Rattle.osbase.specs.History.{Noted, TableNext, TableStopped, TableStarted};
-ghost use Rattle.osbase.specs.Objects.{counter_object, table_object};
-ghost use Rattle.osplan.specs.Clocked.{are_clocks_within};
-ghost use Rattle.osplan.specs.Objects.{is_own_object, may_act, table_actions};
+ghost use Rattle.osplan.specs.{Clocked.are_clocks_within, Objects.is_own_object, Objects.may_act, Objects.table_actions};
 ghost use Rattle.osclock.specs.Clocks.{counts_to_value_in, max_of};
 ghost use Rattle.ostable.specs.Tables.{due_tables_in, next_in, status_in, table_in, timed_by};
 ghost use Rattle.ostable.specs.Waiting.{are_of_one_counter, are_own, ends_alone, with_next};
-ghost use Rattle.osstate.specs.Readings.{table_named};
-ghost use Rattle.osstate.specs.Steps.{state_after};
+ghost use Rattle.osstate.specs.{Readings.table_named, Steps.state_after};
 
 use super::CoreState;
 use osbase::{CounterRef, TableRef};

@@ -1,7 +1,5 @@
 ghost use Rattle.std.specs.Prelude.{◌≡◌, ◌<◌, ◌+◌, ◌≤◌, ℕ, [], All, IfOk, map, slice_index_or, vec_capacity, vec_len};
-ghost use Rattle.osshared.specs.Histories.{Thinned};
-ghost use Rattle.osshared.specs.Runs.{IsOneRun, IsRunOf};
-ghost use Rattle.osshared.specs.Seats.{AllApart};
+ghost use Rattle.osshared.specs.{Histories.Thinned, Runs.IsOneRun, Runs.IsRunOf, Seats.AllApart};
 ghost use Rattle.osbase.specs.declared.limits.TheConstants.{CORES};
 ghost use Rattle.osboard.specs.Boards.{IsLook, one_board};
 

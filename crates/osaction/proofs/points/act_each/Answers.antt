@@ -1,6 +1,5 @@
 use Rattle.std.proofs.Common.{◌≡◌, ◌<◌, IsTrue, false, get_or, length, rules, ap, sym, ◌∙◌}
-use Rattle.osbase.specs.History.{same_core}
-use Rattle.osbase.specs.Phases.{is_before_live}
+use Rattle.osbase.specs.{History.same_core, Phases.is_before_live}
 use Rattle.std.proofs.lemmas.List.{take_all}
 use Rattle.oscript.specs.Calls.{any_action}
 use Rattle.osplan.specs.Objects.{may_act}
@@ -8,10 +7,9 @@ use Rattle.osplan.proofs.Tests.{all-filter}
 use Rattle.osstate.specs.Does.{HasRoom}
 use Rattle.oscall.specs.Border.{core_of_call, is_known_call}
 use Rattle.osaction.specs.Points.{is_of_kind}
-use Rattle.osaction.proofs.Joining.{joined, known-call, place-left}
+use Rattle.osaction.proofs.{Joining.joined, Joining.known-call, Joining.place-left, points.act_each.Goals.then-is_of_kind, points.act_each.Goals.else-is_of_kind}
 use Rattle.osservice.proofs.InTurn.{left-out, next-kept, one-acted, places-left, room-left, still-passes}
 use Rattle.osaction.proofs.points.act_each.Goals as goal
-use Rattle.osaction.proofs.points.act_each.Goals.{then-is_of_kind, else-is_of_kind}
 
 pub act-requires : goal.act-requires
 act-requires g c =

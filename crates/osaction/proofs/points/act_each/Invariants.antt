@@ -1,6 +1,5 @@
 use Rattle.std.proofs.Common.{take}
-use Rattle.osaction.specs.Actions.{acts}
-use Rattle.osaction.specs.Points.{of_kind}
+use Rattle.osaction.specs.{Actions.acts, Points.of_kind}
 use Rattle.osaction.proofs.Joining.{posted_by_action}
 use Rattle.osservice.proofs.InTurn.{InTurn}
 use Rattle.osaction.proofs.points.act_each.Given as goal

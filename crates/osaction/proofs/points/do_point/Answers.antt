@@ -1,8 +1,7 @@
 use Rattle.std.proofs.Common.{◌≤◌, ◌+◌, ◌*◌, IsTrue, Bool, true, false, count_by, length, rules, refl, ap, arith}
 use Rattle.std.specs.List.{list_all}
 use Rattle.osplan.specs.Objects.{is_posting, may_act}
-use Rattle.osstate.specs.Does.{HasRoom}
-use Rattle.osstate.specs.State.{KernelState}
+use Rattle.osstate.specs.{Does.HasRoom, State.KernelState}
 use Rattle.osacts.proofs.Each.{as_steps, printed, then}
 use Rattle.osaction.specs.Points.{of_kind}
 use Rattle.osaction.proofs.Joining.{kinds-long, kinds-posted, point-parts, within-point}
@@ -42,19 +41,18 @@ act_each-requires-2 g c =
     }) in
     search (rules, known, outbox, room)
 
-pub returns-clause-steps : goal.returns-clause-steps
-returns-clause-steps g c =
+pub returns : goal.returns
+returns g c =
     let few = (point-parts c.args.state.now.view.own c.args.point.now c.requires.known).1 in
     let long = kinds-long c.args.point.now.actions in
     let first = rw (c.as_slice-actions.ensures) at c.act_each.ensures.steps in
     let second = rw (c.as_slice-actions.ensures) at c.act_each-2.ensures.steps in
     let kinds = λ (activating : Bool). length (of_kind activating c.args.point.now.actions) in
     let most = within-point (kinds true) (kinds false) (length c.args.point.now.actions) long few in
-    as_steps refl refl most most (then (then (printed c.print.ensures.state c.print.ensures.marks) first) second)
-
-pub returns-clause-outbox : goal.returns-clause-outbox
-returns-clause-outbox g c =
     let same = ap (λ (s : KernelState). length s.border.outbox) c.print.ensures.state in
     let joined = rw (ap (λ (s : KernelState). s.view) c.print.ensures.state, c.as_slice-actions.ensures) at c.act_each.ensures.outbox in
     let more = rw (c.act_each.ensures.steps.view, ap (λ (s : KernelState). s.view) c.print.ensures.state, c.as_slice-actions.ensures) at c.act_each-2.ensures.outbox in
-    omega (arith, joined, more, same, kinds-posted c.args.state.now.view.own c.args.point.now.actions)
+    record {
+      steps = as_steps refl refl most most (then (then (printed c.print.ensures.state c.print.ensures.marks) first) second);
+      outbox = omega (arith, joined, more, same, kinds-posted c.args.state.now.view.own c.args.point.now.actions);
+    }

@@ -1,9 +1,6 @@
 use Rattle.std.proofs.Common.{◌≡◌, ◌||◌, ◌&&◌, ◌-◌, ◌+◌, ◌<◌, ℕ, Bool, true, false, List, not, map, refl, sym, ap, ◌∙◌, arith}
 use Rattle.std.specs.List.{list_all}
-use Rattle.osbase.specs.declared.references.CoreId.{CoreId}
-use Rattle.osbase.specs.declared.items.CoreSet.{CoreSet}
-use Rattle.osbase.specs.declared.limits.TheConstants.{CORES}
-use Rattle.osbase.specs.Sets.{has_core, numbers_from}
+use Rattle.osbase.specs.{declared.references.CoreId.CoreId, declared.items.CoreSet.CoreSet, declared.limits.TheConstants.CORES, Sets.has_core, Sets.numbers_from}
 use Rattle.osbase.proofs.Tables.{numbers-next}
 use Rattle.osplan.specs.View.{View, is_configured}
 use Rattle.osadmit.proofs.admission.are_configured.Goals as goal

@@ -1,8 +1,6 @@
 use Rattle.std.proofs.Common.{◌≡◌, ◌||◌, ◌-◌, ℕ, not, map}
 use Rattle.std.specs.List.{list_all}
-use Rattle.osbase.specs.declared.references.CoreId.{CoreId}
-use Rattle.osbase.specs.declared.limits.TheConstants.{CORES}
-use Rattle.osbase.specs.Sets.{core_ids, has_core, numbers_from}
+use Rattle.osbase.specs.{declared.references.CoreId.CoreId, declared.limits.TheConstants.CORES, Sets.core_ids, Sets.has_core, Sets.numbers_from}
 use Rattle.osplan.specs.View.{is_configured}
 use Rattle.osadmit.proofs.admission.are_configured.Given as goal
 

@@ -1,12 +1,9 @@
 use Rattle.std.proofs.Common.{◌≡◌, ◌++◌, Bool, true, cond, ap, sym, ◌∙◌, lit≤}
 use Rattle.osbase.specs.declared.objects.Object.{Object}
 use Rattle.osstate.specs.Readings.{is_this_core}
-use Rattle.osacts.specs.Acts.{both}
-use Rattle.osacts.specs.Runs.{runs, says, seen_in}
+use Rattle.osacts.specs.{Acts.both, Runs.runs, Runs.says, Runs.seen_in}
 use Rattle.osacts.proofs.Each.{as_steps, then}
-use Rattle.osservice.specs.declared.returning.ServiceResult.{ServiceResult}
-use Rattle.osservice.specs.Returning.{asks}
-use Rattle.osservice.specs.Service.{carries_out, returns_with, serves}
+use Rattle.osservice.specs.{declared.returning.ServiceResult.ServiceResult, Returning.asks, Service.carries_out, Service.returns_with, Service.serves}
 use Rattle.oscall.specs.Border.{core_of_call, service_of}
 use Rattle.oscall.proofs.border.cross.Goals as goal
 

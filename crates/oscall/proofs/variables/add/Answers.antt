@@ -1,7 +1,6 @@
 use Rattle.std.proofs.Common.{◌≡◌, SFits, w64, ℤ, ap, sym, ◌∙◌, rules, lit≤}
 use Rattle.std.proofs.lemmas.Int.{to_z-of_z}
-use Rattle.oscript.specs.declared.Frame.{Frame}
-use Rattle.oscript.specs.Frames.{value_of}
+use Rattle.oscript.specs.{declared.Frame.Frame, Frames.value_of}
 use Rattle.osrunner.specs.Rows.{frame_in}
 use Rattle.osacts.specs.Runs.{runs, says}
 use Rattle.osacts.proofs.Each.{as_steps}

@@ -1,12 +1,8 @@
 use Rattle.std.proofs.Common.{◌≡◌, ◌<◌, ◌&&◌, Bool, true, false, not, refl, sym, subst, ◌∙◌, rules, arith}
 use Rattle.std.proofs.lemmas.Bool.{leb-false}
-use Rattle.osbase.specs.declared.references.Runner.{Runner}
-use Rattle.osbase.specs.declared.references.TaskRef.{TaskRef}
-use Rattle.osbase.specs.History.{job_count, same_runner, without_oldest}
+use Rattle.osbase.specs.{declared.references.Runner.Runner, declared.references.TaskRef.TaskRef, History.job_count, History.same_runner, History.without_oldest}
 use Rattle.osbase.proofs.Same.{same_runner-true}
-use Rattle.osstate.specs.Queries.{is_at_limit_in}
-use Rattle.osstate.specs.Sound.{activation_limit}
-use Rattle.osstate.specs.State.{KernelState}
+use Rattle.osstate.specs.{Queries.is_at_limit_in, Sound.activation_limit, State.KernelState}
 use Rattle.osstate.proofs.JobLists.{job_count-without_oldest}
 use Rattle.oschain.proofs.chaining.chain_here.Goals as goal
 

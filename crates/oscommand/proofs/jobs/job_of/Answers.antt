@@ -1,17 +1,11 @@
 use Rattle.std.proofs.Common.{refl, sym, subst, Bool, cond, true, false, inl, inr, ap, ◌≡◌, ◌∙◌, List, [], ◌∷◌, Option, Result, Ok, Err, map}
-use Rattle.std.specs.Prelude.{IfOk, IsSomeAnd}
+use Rattle.std.specs.{Prelude.IfOk, Prelude.IsSomeAnd, declared.alloc.AllocError.AllocError}
 use Rattle.std.proofs.lemmas.Result.{err_from_is_err_and}
-use Rattle.std.specs.declared.alloc.AllocError.{AllocError}
-use Rattle.clap.specs.Kinds.{or_else}
+use Rattle.clap.specs.{Kinds.or_else, declared.builder.command.Command.Command, declared.error.Error.Error, declared.error.kind.ErrorKind.TheVariants.ArgumentConflict, declared.error.kind.ErrorKind.TheVariants.OutOfMemory, declared.parser.matches.ArgMatches.ArgMatches}
 use Rattle.clap.specs.Words.{App, HasKind, HasMatchesOf, Kinds, Row, Text, app_of, fault_of, is_simple, is_simple_and_free, kind_of, subcommand_of, subcommand_rows_of}
-use Rattle.clap.specs.declared.builder.command.Command.{Command}
-use Rattle.clap.specs.declared.error.Error.{Error}
-use Rattle.clap.specs.declared.error.kind.ErrorKind.TheVariants.{ArgumentConflict, OutOfMemory}
-use Rattle.clap.specs.declared.parser.matches.ArgMatches.{ArgMatches}
 use Rattle.clap.proofs.OnLiterals.{clap_on_literals}
-use Rattle.oscommand.specs.declared.jobs.Job.{Job}
+use Rattle.oscommand.specs.{declared.jobs.Job.Job, Entries.AreChecked, Entries.IsNamed}
 use Rattle.oscommand.specs.CommandLine.{AreMailKinds, AsksFor, FailsByWords, MailKinds, command_line, excludes, usage_fault}
-use Rattle.oscommand.specs.Entries.{AreChecked, IsNamed}
 use Rattle.oscommand.proofs.Usage.{names_job}
 use Rattle.oscommand.proofs.jobs.job_of.Goals as goal
 

@@ -1,5 +1,4 @@
-use Rattle.std.proofs.Common.{sym, codes, ◌∙◌}
-use Rattle.std.proofs.lemmas.Slice.Eq.{bytes_eq-Decides}
+use Rattle.std.proofs.{Common.sym, Common.codes, Common.◌∙◌, lemmas.Slice.Eq.bytes_eq-Decides}
 use Rattle.oscommand.proofs.Usage.{not_ring}
 use Rattle.oscommand.proofs.jobs.mail_in.Goals as goal
 

@@ -1,7 +1,6 @@
 use Rattle.std.proofs.Common.{ap, ap₂, codes, ◌≡◌, ◌∙◌}
 use Rattle.std.proofs.lemmas.Result.{IfOk-weaker}
-use Rattle.clap.specs.Simple.{app_of_fields}
-use Rattle.clap.specs.Words.{app_of, new_app, with_rule}
+use Rattle.clap.specs.{Simple.app_of_fields, Words.app_of, Words.new_app, Words.with_rule}
 use Rattle.oscommand.proofs.jobs.threads_command.Goals as goal
 
 pub returns : goal.returns

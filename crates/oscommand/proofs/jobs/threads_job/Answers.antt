@@ -1,8 +1,7 @@
 use Rattle.std.proofs.Common.{refl, subst, Option}
 use Rattle.std.specs.Prelude.{IfSome}
 use Rattle.clap.specs.Words.{found_of, rows_of}
-use Rattle.oscommand.specs.CommandLine.{SaysPrint}
-use Rattle.oscommand.specs.declared.jobs.Print.{Print}
+use Rattle.oscommand.specs.{CommandLine.SaysPrint, declared.jobs.Print.Print}
 use Rattle.oscommand.proofs.jobs.threads_job.Goals as goal
 
 pub returns-in-Some-clause-entries : goal.returns-in-Some-clause-entries

@@ -1,11 +1,8 @@
 use Rattle.std.proofs.Common.{◌≡◌, ℕ, suc, Bool, true, false, nat_lt, cond, Option, Some, None, List, [], ◌∷◌, ◌++◌, length, refl, ◌∙◌, arith}
-use Rattle.std.specs.List.{list_all}
-use Rattle.std.specs.Option.{option_map_or}
+use Rattle.std.specs.{List.list_all, Option.option_map_or}
 use Rattle.std.proofs.lemmas.Bool.{and_parts, and_from, lt-ltb, ltb-true}
 use Rattle.std.proofs.lemmas.List.Folds.{list_all-append}
-use Rattle.osbase.specs.declared.marks.Mark.{Mark}
-use Rattle.osbase.specs.declared.references.Runner.{Runner}
-use Rattle.osbase.specs.declared.histories.Job.{Job}
+use Rattle.osbase.specs.{declared.marks.Mark.Mark, declared.references.Runner.Runner, declared.histories.Job.Job}
 use Rattle.osbase.specs.History.{Entry, History, Printed, jobs_after, live_jobs, oldest, same_runner, stamped_anew, without_oldest}
 use Rattle.osplan.proofs.Tests.{all-weaker}
 use Rattle.oskernel.proofs.JobLists.{without-all}

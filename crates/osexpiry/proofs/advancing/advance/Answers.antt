@@ -1,24 +1,15 @@
 use Rattle.std.proofs.Common.{◌≡◌, ◌≤◌, ◌+◌, ◌*◌, IsTrue, List, length, rules, sum_by, ap, sym, arith}
 use Rattle.std.specs.List.{list_all}
-use Rattle.osbase.specs.declared.references.AlarmRef.{AlarmRef}
-use Rattle.osbase.specs.declared.references.CounterRef.{CounterRef}
-use Rattle.osbase.specs.History.{CounterIncremented}
-use Rattle.osbase.specs.Objects.{alarm_object}
+use Rattle.osbase.specs.{declared.references.AlarmRef.AlarmRef, declared.references.CounterRef.CounterRef, History.CounterIncremented, Objects.alarm_object}
 use Rattle.osplan.specs.Objects.{is_own_object}
 use Rattle.osclock.specs.Clocks.{due_in}
-use Rattle.ostable.specs.declared.tables.DueTable.{DueTable}
-use Rattle.ostable.specs.Tables.{due_tables_in}
-use Rattle.ostable.specs.Waiting.{are_own}
-use Rattle.osstate.specs.Does.{HasRoom}
-use Rattle.osstate.specs.State.{KernelState}
+use Rattle.ostable.specs.{declared.tables.DueTable.DueTable, Tables.due_tables_in, Waiting.are_own}
+use Rattle.osstate.specs.{Does.HasRoom, State.KernelState}
 use Rattle.osacts.specs.Acts.{Acts, Notes, both, one_then}
 use Rattle.osacts.specs.Runs.{runs, says}
 use Rattle.osacts.proofs.Each.{as_steps, noted, then, unprinted}
-use Rattle.osexpiry.specs.Advancing.{posted_at_point, posted_for}
-use Rattle.osexpiry.specs.Expiring.{expire_each}
-use Rattle.osexpiry.specs.ExpiryPoints.{process_tables, posted_by_table}
-use Rattle.osexpiry.proofs.Counted.{fewer-entries, fewer-marks}
-use Rattle.osexpiry.proofs.Postings.{both-posted, due-posted}
+use Rattle.osexpiry.specs.{Advancing.posted_at_point, Advancing.posted_for, Expiring.expire_each, ExpiryPoints.process_tables, ExpiryPoints.posted_by_table}
+use Rattle.osexpiry.proofs.{Counted.fewer-entries, Counted.fewer-marks, Postings.both-posted, Postings.due-posted}
 use Rattle.osexpiry.proofs.advancing.advance.Goals as goal
 
 -- a count, with these alarms and tables due
@@ -60,27 +51,22 @@ process_tables-requires g c =
     }) in
     search (rules, own, outbox, room)
 
-pub returns-clause-steps : goal.returns-clause-steps
-returns-clause-steps g c =
+pub returns : goal.returns
+returns g c =
     let alarms = rw (c.as_slice-due_alarms.ensures.value) at c.expire_each.ensures.steps in
     let tables = rw (c.as_slice-due_tables.ensures.value) at c.process_tables.ensures.steps in
+    let counted = noted (CounterIncremented c.args.counter) c.args.state.now c.count.ensures in
     let same : counting c.args.counter (due_in c.args.state.now.view.own c.args.counter c.args.state.now.clocks) (due_tables_in c.args.state.now.view.own c.args.counter c.args.state.now.tables) ≡ counting c.args.counter _ _ =
     λ i. counting c.args.counter (sym c.due_next-alarms.ensures.value i) (sym c.due_tables-tables.ensures.value i) in
-    as_steps (ap (λ (x : Acts). runs x c.args.state.now) same) (ap (λ (x : Acts). says x c.args.state.now) same)
-    (fewer-entries _ _ _ _ c.due_next-alarms.ensures.few c.due_tables-tables.ensures.few) (fewer-marks _ _ _ _ c.due_next-alarms.ensures.few c.due_tables-tables.ensures.few)
-    (then (then (unprinted (noted (CounterIncremented c.args.counter) c.args.state.now c.count.ensures)) alarms) tables)
-
-pub returns-clause-outbox : goal.returns-clause-outbox
-returns-clause-outbox g c =
-    let counted = noted (CounterIncremented c.args.counter) c.args.state.now c.count.ensures in
-    let same = ap (λ (s : KernelState). length s.border.outbox) c.count.ensures in
+    let before = ap (λ (s : KernelState). length s.border.outbox) c.count.ensures in
     let joined = rw (counted.view, c.as_slice-due_alarms.ensures.value) at c.expire_each.ensures.outbox in
     let more = rw (c.expire_each.ensures.steps.view, counted.view, c.as_slice-due_tables.ensures.value) at c.process_tables.ensures.outbox in
-    let tables = c.due_tables-tables.ensures in
-    omega (
-      arith,
-      same,
-      joined,
-      more,
-      both-posted c.args.state.now.view.own c.args.counter c.args.state.now.clocks c.due_next-alarms.result.items c.due_tables-tables.result.items c.due_next-alarms.ensures.value tables.ends (tables.once (posted_at_point c.args.state.now.view.own)),
-    )
+    let due = c.due_tables-tables.ensures in
+    let posted = both-posted c.args.state.now.view.own c.args.counter c.args.state.now.clocks c.due_next-alarms.result.items c.due_tables-tables.result.items c.due_next-alarms.ensures.value due.ends (due.once (posted_at_point c.args.state.now.view.own)) in
+    record {
+      steps =
+          as_steps (ap (λ (x : Acts). runs x c.args.state.now) same) (ap (λ (x : Acts). says x c.args.state.now) same)
+          (fewer-entries _ _ _ _ c.due_next-alarms.ensures.few due.few) (fewer-marks _ _ _ _ c.due_next-alarms.ensures.few due.few)
+          (then (then (unprinted counted) alarms) tables);
+      outbox = omega (arith, before, joined, more, posted);
+    }

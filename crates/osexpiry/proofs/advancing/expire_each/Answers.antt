@@ -1,9 +1,6 @@
-use Rattle.std.proofs.Common.{rules}
-use Rattle.std.proofs.lemmas.List.{take_all}
-use Rattle.osbase.specs.declared.references.AlarmRef.{AlarmRef}
-use Rattle.osbase.specs.Objects.{alarm_object}
-use Rattle.osplan.specs.declared.plans.Core.{Core}
-use Rattle.osplan.specs.Objects.{is_own_object}
+use Rattle.std.proofs.{Common.rules, lemmas.List.take_all}
+use Rattle.osbase.specs.{declared.references.AlarmRef.AlarmRef, Objects.alarm_object}
+use Rattle.osplan.specs.{declared.plans.Core.Core, Objects.is_own_object}
 use Rattle.osservice.proofs.InTurn.{next-at, none-acted, one-acted, places-left, room-left, still-passes}
 use Rattle.osexpiry.proofs.advancing.expire_each.Goals as goal
 

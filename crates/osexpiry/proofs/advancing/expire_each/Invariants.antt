@@ -1,6 +1,5 @@
 use Rattle.std.proofs.Common.{take}
-use Rattle.osexpiry.specs.Advancing.{posted_for}
-use Rattle.osexpiry.specs.Expiring.{expires}
+use Rattle.osexpiry.specs.{Advancing.posted_for, Expiring.expires}
 use Rattle.osservice.proofs.InTurn.{InTurn}
 use Rattle.osexpiry.proofs.advancing.expire_each.Given as goal
 

@@ -1,7 +1,5 @@
-use Rattle.std.proofs.Common.{None, false, rules}
-use Rattle.std.proofs.lemmas.List.{take_all}
-use Rattle.ostable.specs.declared.tables.DueTable.{DueTable}
-use Rattle.ostable.specs.Waiting.{are_own}
+use Rattle.std.proofs.{Common.None, Common.false, Common.rules, lemmas.List.take_all}
+use Rattle.ostable.specs.{declared.tables.DueTable.DueTable, Waiting.are_own}
 use Rattle.osservice.proofs.InTurn.{next-at, none-acted, one-acted, places-left, room-left, still-passes}
 use Rattle.osexpiry.proofs.advancing.process_tables.Goals as goal
 

@@ -1,16 +1,11 @@
 use Rattle.std.proofs.Common.{◌≡◌, ◌≤◌, ◌+◌, ℕ, Bool, true, false, cond, IfSome, IsTrue, Option, Some, None, length, rules, ap, sym, arith, lit≤}
 use Rattle.std.specs.Option.{option_map_or}
 use Rattle.std.proofs.lemmas.Bool.{and_parts}
-use Rattle.osbase.specs.declared.references.TableRef.{TableRef}
-use Rattle.osbase.specs.Objects.{table_object}
-use Rattle.osbase.specs.Phases.{is_before_live}
-use Rattle.osplan.specs.declared.plans.Core.{Core}
-use Rattle.osplan.specs.declared.plans.ExpiryPoint.{ExpiryPoint}
-use Rattle.osplan.specs.Objects.{is_own_object}
-use Rattle.osacts.specs.Acts.{Acts, both, nothing, when}
-use Rattle.osacts.specs.Runs.{runs, says}
-use Rattle.osacts.proofs.Each.{as_steps, then, unmoved}
-use Rattle.osexpiry.specs.ExpiryPoints.{due_point, ends, posted_by_end, posted_by_point, processes_point}
+use Rattle.osbase.specs.{declared.references.TableRef.TableRef, Objects.table_object, Phases.is_before_live}
+use Rattle.osplan.specs.{declared.plans.Core.Core, declared.plans.ExpiryPoint.ExpiryPoint, Objects.is_own_object}
+use Rattle.osacts.proofs.Each.{then, unmoved, in-words, where-fails, where-holds, wider, looked}
+use Rattle.osexpiry.specs.ExpiryPoints.{posted_by_end, posted_by_point, processes_point, processes_table}
+use Rattle.osacts.specs.Steps.{Steps}
 use Rattle.osexpiry.proofs.expiry_points.process_table.Goals as goal
 
 -- the table that waits is the core's own, if there is one
@@ -32,16 +27,17 @@ end-requires g c =
     let live : is_before_live c.process_point.new.state.progress.phase ≡ false = rw (c.process_point.ensures.steps.phase) c.requires.posts.live in
     search (rules, own, next, outbox, live)
 
-pub returns-then-due-clause-steps : goal.returns-then-due-clause-steps
-returns-then-due-clause-steps g c =
+pub returns-then-due : goal.returns-then-due
+returns-then-due g c =
     let due = c.args.due in
-    let same : both (processes_point due.table (due_point c.args.state.now.view.own due)) (when due.due.ends (ends due.table due.next) nothing) ≡ both (processes_point due.table _) (when true (ends due.table due.next) nothing) =
-    λ i. both (processes_point due.table (sym c.due_point-point.ensures.value i)) (when (c.if-due.true i) (ends due.table due.next) nothing) in
-    as_steps (ap (λ (x : Acts). runs x c.args.state.now) same) (ap (λ (x : Acts). says x c.args.state.now) same) (lit≤ tt) (lit≤ tt) (then c.process_point.ensures.steps c.end.ensures.steps)
+    let same = ap (processes_point due.table) (sym c.due_point-point.ensures.value) in
+    let steps : Steps 38 36 (processes_table due) c.args.state.now c.end.new.state c.args.marks.now c.end.new.marks = then (looked (in-words same c.process_point.ensures.steps)) (where-holds c.if-due.true c.end.ensures.steps) in
+    search (rules, steps)
 
-pub returns-else-due-clause-steps : goal.returns-else-due-clause-steps
-returns-else-due-clause-steps g c =
+pub returns-else-due : goal.returns-else-due
+returns-else-due g c =
     let due = c.args.due in
-    let same : both (processes_point due.table (due_point c.args.state.now.view.own due)) (when due.due.ends (ends due.table due.next) nothing) ≡ both (processes_point due.table _) (when false (ends due.table due.next) nothing) =
-    λ i. both (processes_point due.table (sym c.due_point-point.ensures.value i)) (when (c.if-due.false i) (ends due.table due.next) nothing) in
-    as_steps (ap (λ (x : Acts). runs x c.args.state.now) same) (ap (λ (x : Acts). says x c.args.state.now) same) (lit≤ tt) (lit≤ tt) (then c.process_point.ensures.steps unmoved)
+    let same = ap (processes_point due.table) (sym c.due_point-point.ensures.value) in
+    let steps : Steps 38 36 (processes_table due) c.args.state.now c.process_point.new.state c.args.marks.now c.process_point.new.marks =
+    wider (lit≤ tt) (lit≤ tt) (then (looked (in-words same c.process_point.ensures.steps)) (where-fails c.if-due.false unmoved)) in
+    search (rules, steps)

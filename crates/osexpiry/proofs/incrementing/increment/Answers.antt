@@ -5,11 +5,9 @@ use Rattle.osclock.specs.Clocks.{attached_to}
 use Rattle.ostable.specs.Tables.{timed_by}
 use Rattle.osstate.specs.Readings.{is_this_core}
 use Rattle.osacts.proofs.Each.{as_steps, then}
-use Rattle.osexpiry.specs.Incrementing.{counts_and_returns, is_hardware}
-use Rattle.osexpiry.specs.Advancing.{posted_by}
+use Rattle.osexpiry.specs.{Incrementing.counts_and_returns, Incrementing.is_hardware, Advancing.posted_by}
 use Rattle.osservice.specs.Returning.{returns as returning}
-use Rattle.osexpiry.proofs.Owned.{attached-few}
-use Rattle.osexpiry.proofs.Postings.{posted-fewer, timed-few}
+use Rattle.osexpiry.proofs.{Owned.attached-few, Postings.posted-fewer, Postings.timed-few}
 use Rattle.osexpiry.proofs.incrementing.increment.Goals as goal
 
 pub advance-requires : goal.advance-requires

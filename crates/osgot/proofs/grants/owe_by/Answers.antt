@@ -1,6 +1,5 @@
 use Rattle.std.proofs.Common.{◌≡◌, ap, cond, sym, ◌∙◌}
-use Rattle.osbase.specs.declared.histories.GotSpinlock.{GotSpinlock}
-use Rattle.osbase.specs.Spins.{is_got_by, owed}
+use Rattle.osbase.specs.{declared.histories.GotSpinlock.GotSpinlock, Spins.is_got_by, Spins.owed}
 use Rattle.osgot.proofs.Apart.{mapped-on}
 use Rattle.osgot.proofs.grants.owe_by.Goals as goal
 

@@ -1,6 +1,5 @@
 use Rattle.std.proofs.Common.{◌≡◌, ◌∙◌, String, Global, Option, ap, rules}
-use Rattle.std.proofs.lemmas.Result.{err_from_is_err_and}
-use Rattle.std.proofs.lemmas.Map.Iter.{rest_more, rest_all}
+use Rattle.std.proofs.{lemmas.Result.err_from_is_err_and, lemmas.Map.Iter.rest_more, lemmas.Map.Iter.rest_all}
 use Rattle.std.specs.Map.Iter.{deref_pair}
 use Rattle.serde_json.specs.declared.value.Value.{Value}
 use Rattle.osbase.specs.declared.turns.CoreStimuli.{CoreStimuli}

@@ -1,7 +1,6 @@
 use Rattle.std.proofs.Common.{◌≡◌}
 use Rattle.osjson.specs.Reading.{each}
-use Rattle.osjson.proofs.Each.{with_front}
-use Rattle.osjson.proofs.Contents.{entry_view}
+use Rattle.osjson.proofs.{Each.with_front, Contents.entry_view}
 use Rattle.osinput.specs.Given.{core_stimuli_of}
 use Rattle.osinput.proofs.given.stimuli_of_members.Given as goal
 

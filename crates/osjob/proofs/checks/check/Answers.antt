@@ -1,8 +1,5 @@
-use Rattle.std.proofs.Common.{Ok, refl}
-use Rattle.std.proofs.lemmas.Result.{err_from_is_err_and}
-use Rattle.osjob.specs.declared.outcomes.Outcome.TheVariants.{Done}
-use Rattle.osjob.specs.Checks.{check_text}
-use Rattle.osjob.specs.Performs.{fails, prints}
+use Rattle.std.proofs.{Common.Ok, Common.refl, lemmas.Result.err_from_is_err_and}
+use Rattle.osjob.specs.{declared.outcomes.Outcome.TheVariants.Done, Checks.check_text, Performs.fails, Performs.prints}
 use Rattle.osjob.proofs.Printing.{Prints-failed, Prints-ok}
 use Rattle.osjob.proofs.checks.check.Goals as goal
 

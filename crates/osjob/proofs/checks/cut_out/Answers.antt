@@ -1,7 +1,5 @@
-use Rattle.std.proofs.Common.{Ok, refl}
-use Rattle.std.proofs.lemmas.Result.{err_from_is_err_and}
-use Rattle.osjob.specs.declared.outcomes.Outcome.TheVariants.{Done}
-use Rattle.osjob.specs.Checks.{cut_text}
+use Rattle.std.proofs.{Common.Ok, Common.refl, lemmas.Result.err_from_is_err_and}
+use Rattle.osjob.specs.{declared.outcomes.Outcome.TheVariants.Done, Checks.cut_text}
 use Rattle.osjob.specs.Performs.{fails, in_config, in_core, prints}
 use Rattle.osjob.proofs.Printing.{Prints-failed, Prints-ok}
 use Rattle.osjob.proofs.checks.cut_out.Goals as goal

@@ -1,5 +1,4 @@
-use Rattle.std.proofs.Common.{Err, ap, ◌∙◌}
-use Rattle.std.proofs.lemmas.Result.{err_from_is_err_and}
+use Rattle.std.proofs.{Common.Err, Common.ap, Common.◌∙◌, lemmas.Result.err_from_is_err_and}
 use Rattle.osjob.proofs.endings.send_off.Goals as goal
 
 pub returns-in_err-flush : goal.returns-in_err-flush

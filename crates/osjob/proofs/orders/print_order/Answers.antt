@@ -1,10 +1,8 @@
 use Rattle.std.proofs.Common.{◌≡◌, ◌∙◌, Ok, refl}
 use Rattle.std.proofs.lemmas.Result.{err_from_is_err_and}
 use Rattle.osrun.specs.Ends.{have_all_ended}
-use Rattle.osjob.specs.Performs.{fails, outcome_of, prints}
-use Rattle.osjob.specs.Runs.{order_line}
-use Rattle.osjob.proofs.Ordering.{is_ordered}
-use Rattle.osjob.proofs.Printing.{Prints-failed, Prints-ok}
+use Rattle.osjob.specs.{Performs.fails, Performs.outcome_of, Performs.prints, Runs.order_line}
+use Rattle.osjob.proofs.{Ordering.is_ordered, Printing.Prints-failed, Printing.Prints-ok}
 use Rattle.osjob.proofs.orders.print_order.Goals as goal
 
 pub returns-in_default : goal.returns-in_default

@@ -1,5 +1,4 @@
-use Rattle.std.proofs.Common.{Ok}
-use Rattle.std.proofs.lemmas.Result.{err_from_is_err_and}
+use Rattle.std.proofs.{Common.Ok, lemmas.Result.err_from_is_err_and}
 use Rattle.osjob.specs.declared.outcomes.Outcome.TheVariants.{Done}
 use Rattle.osjob.proofs.Printing.{Prints-failed, Prints-ok}
 use Rattle.osjob.proofs.program.show.Goals as goal

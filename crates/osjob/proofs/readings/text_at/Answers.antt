@@ -1,6 +1,4 @@
-use Rattle.std.proofs.Common.{refl}
-use Rattle.std.proofs.lemmas.Bool.{false_from_ne_true}
-use Rattle.std.proofs.lemmas.Str.{IsUtf8-from_is_utf8, is_utf8-from_IsUtf8}
+use Rattle.std.proofs.{Common.refl, lemmas.Bool.false_from_ne_true, lemmas.Str.IsUtf8-from_is_utf8, lemmas.Str.is_utf8-from_IsUtf8}
 use Rattle.osjob.proofs.Reading.{absent-asked}
 use Rattle.osjob.proofs.readings.text_at.Goals as goal
 

@@ -1,8 +1,6 @@
 use Rattle.std.proofs.Common.{Err, Ok, refl}
 use Rattle.ostrace_text.specs.Trace.{block_of}
-use Rattle.osjob.specs.Performs.{fails, prints}
-use Rattle.osjob.specs.declared.faults.Fault.TheVariants.{ItemRefused, NoMemoryToRun}
-use Rattle.osjob.specs.declared.outcomes.Outcome.TheVariants.{Done}
+use Rattle.osjob.specs.{Performs.fails, Performs.prints, declared.faults.Fault.TheVariants.ItemRefused, declared.faults.Fault.TheVariants.NoMemoryToRun, declared.outcomes.Outcome.TheVariants.Done}
 use Rattle.osjob.proofs.replays.play.Goals as goal
 
 pub returns-in-Ok : goal.returns-in-Ok

@@ -1,11 +1,7 @@
-use Rattle.std.proofs.Common.{arith, refl}
-use Rattle.std.proofs.lemmas.Result.{err_from_is_err_and}
+use Rattle.std.proofs.{Common.arith, Common.refl, lemmas.Result.err_from_is_err_and}
 use Rattle.osload.specs.Meaning.{config_of}
-use Rattle.osjob.specs.Performs.{fails}
-use Rattle.osjob.specs.Replays.{in_config, in_core, in_log}
-use Rattle.osjob.specs.Runs.{at_config, at_stimuli}
-use Rattle.osjob.proofs.Replaying.{replay-asked, replay-comes}
-use Rattle.osjob.proofs.Reading.{Means-there, config-kept}
+use Rattle.osjob.specs.{Performs.fails, Replays.in_config, Replays.in_core, Replays.in_log, Runs.at_config, Runs.at_stimuli}
+use Rattle.osjob.proofs.{Replaying.replay-asked, Replaying.replay-comes, Reading.Means-there, Reading.config-kept}
 use Rattle.osjob.proofs.replays.replay_out.Goals as goal
 
 pub returns-in_err-config-clause-comes : goal.returns-in_err-config-clause-comes

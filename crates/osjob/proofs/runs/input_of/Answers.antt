@@ -1,6 +1,5 @@
-use Rattle.std.proofs.Common.{◌∙◌, arith, refl}
+use Rattle.std.proofs.{Common.◌∙◌, Common.arith, Common.refl, lemmas.Result.err_from_is_err_and}
 use Rattle.std.specs.Prelude.{IsSome}
-use Rattle.std.proofs.lemmas.Result.{err_from_is_err_and}
 use Rattle.oscommand.specs.Jobs.{path_in}
 use Rattle.osjob.specs.Performs.{in_config, in_items, in_schedule, in_stimuli}
 use Rattle.osinput.specs.Given.{stimuli_of_text}

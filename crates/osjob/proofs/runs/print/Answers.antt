@@ -1,8 +1,6 @@
-use Rattle.std.proofs.Common.{Ok}
-use Rattle.std.proofs.lemmas.Result.{err_from_is_err_and}
+use Rattle.std.proofs.{Common.Ok, lemmas.Result.err_from_is_err_and}
 use Rattle.osrun.specs.Ends.{have_all_ended}
-use Rattle.osjob.specs.Performs.{outcome_of}
-use Rattle.osjob.specs.Runs.{run_text}
+use Rattle.osjob.specs.{Performs.outcome_of, Runs.run_text}
 use Rattle.osjob.proofs.Printing.{Prints-failed, Prints-ok}
 use Rattle.osjob.proofs.runs.print.Goals as goal
 

@@ -2,9 +2,7 @@ use Rattle.std.proofs.Common.{◌≡◌, ◌∙◌, Ok, ap, refl}
 use Rattle.std.proofs.lemmas.Result.{err_from_is_err_and}
 use Rattle.oslog.specs.Logs.{log_text}
 use Rattle.osrun.specs.Ends.{have_all_ended}
-use Rattle.osjob.specs.Faults.{of_log}
-use Rattle.osjob.specs.Performs.{fails, outcome_of, prints}
-use Rattle.osjob.specs.Runs.{items_in}
+use Rattle.osjob.specs.{Faults.of_log, Performs.fails, Performs.outcome_of, Performs.prints, Runs.items_in}
 use Rattle.osjob.proofs.Printing.{Prints-failed, Prints-ok}
 use Rattle.osjob.proofs.runs.print_log.Goals as goal
 

@@ -1,7 +1,6 @@
 use Rattle.std.proofs.Common.{Ok, refl}
 use Rattle.osrun.specs.Ends.{have_all_ended}
-use Rattle.osjob.specs.Performs.{outcome_of, prints}
-use Rattle.osjob.specs.Runs.{run_text}
+use Rattle.osjob.specs.{Performs.outcome_of, Performs.prints, Runs.run_text}
 use Rattle.osjob.proofs.runs.print_reports.Goals as goal
 
 pub returns-in-None : goal.returns-in-None

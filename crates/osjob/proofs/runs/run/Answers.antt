@@ -1,5 +1,4 @@
-use Rattle.std.proofs.Common.{refl}
-use Rattle.std.proofs.lemmas.Result.{err_from_is_err_and}
+use Rattle.std.proofs.{Common.refl, lemmas.Result.err_from_is_err_and}
 use Rattle.osjob.specs.Performs.{BreaksTurns, broken_off, fails, in_files}
 use Rattle.osjob.proofs.Logging.{reports-come}
 use Rattle.osjob.proofs.runs.run.Goals as goal

@@ -1,9 +1,7 @@
-use Rattle.std.proofs.Common.{◌≡◌, refl}
-use Rattle.std.proofs.lemmas.Result.{err_from_is_err_and}
+use Rattle.std.proofs.{Common.◌≡◌, Common.refl, lemmas.Result.err_from_is_err_and}
 use Rattle.osthreads.specs.declared.runs.ThreadReason.{ThreadReason}
 use Rattle.osthreads.specs.declared.runs.ThreadReason.TheVariants as reason
-use Rattle.osjob.specs.declared.faults.Fault.TheVariants.{Unreadable}
-use Rattle.osjob.specs.Faults.{of_threads}
+use Rattle.osjob.specs.{declared.faults.Fault.TheVariants.Unreadable, Faults.of_threads}
 use Rattle.osjob.specs.Performs.{BreaksThreads, broken_off, fails, in_files}
 use Rattle.osjob.proofs.Logging.{order-comes, reports-come}
 use Rattle.osjob.proofs.threads.run_by_threads.Goals as goal

@@ -1,8 +1,6 @@
 use Rattle.std.proofs.Common.{rules, ◌≡◌, Some}
 use Rattle.osbase.specs.History.{oldest, without_oldest}
-use Rattle.osjobs.proofs.Counting.{counted-fewer, counted-some, counted-without}
-use Rattle.osjobs.proofs.Removal.{oldest-at}
-use Rattle.osjobs.proofs.live.take_oldest.Goals.{then-place-lt-RUNNERS, else-place-lt-RUNNERS}
+use Rattle.osjobs.proofs.{Counting.counted-fewer, Counting.counted-some, Counting.counted-without, Removal.oldest-at, live.take_oldest.Goals.then-place-lt-RUNNERS, live.take_oldest.Goals.else-place-lt-RUNNERS}
 use Rattle.osjobs.proofs.live.take_oldest.Goals as goal
 
 pub overflow_sub-counts : goal.overflow_sub-counts

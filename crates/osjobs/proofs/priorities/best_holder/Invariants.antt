@@ -1,6 +1,5 @@
 use Rattle.std.proofs.Common.{◌≡◌}
-use Rattle.osjobs.specs.Queue.{IsBestSoFar}
-use Rattle.osjobs.specs.Ranking.{rank_by}
+use Rattle.osjobs.specs.{Queue.IsBestSoFar, Ranking.rank_by}
 use Rattle.osjobs.proofs.priorities.best_holder.Given as goal
 
 abbrev pub invariant-loop-left : goal.invariant-loop-left

@@ -1,9 +1,6 @@
 use Rattle.std.proofs.Common.{◌≡◌, IfNone, IfSome, Option, [], ◌∙◌, subst}
-use Rattle.osqueue.specs.declared.ready.Ready.{Ready}
-use Rattle.osqueue.specs.Ordered.{IsBest}
-use Rattle.osjobs.specs.OwnTasks.{own_tasks}
-use Rattle.osjobs.specs.Queue.{queued}
-use Rattle.osjobs.specs.Ranking.{is_awake_in}
+use Rattle.osqueue.specs.{declared.ready.Ready.Ready, Ordered.IsBest}
+use Rattle.osjobs.specs.{OwnTasks.own_tasks, Queue.queued, Ranking.is_awake_in}
 use Rattle.osjobs.proofs.Covering.{begins, ends, front-able, front-low, front-older, front-one, none-best, own-one, owned}
 use Rattle.osjobs.proofs.Configured.{own-runner}
 use Rattle.osjobs.proofs.priorities.best_of.Goals as goal

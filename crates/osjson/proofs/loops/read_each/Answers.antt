@@ -1,6 +1,5 @@
 use Rattle.std.proofs.Common.{◌+◌, drop, refl, arith}
-use Rattle.std.proofs.lemmas.List.{drop_all}
-use Rattle.std.proofs.lemmas.Result.{err_from_is_err_and}
+use Rattle.std.proofs.{lemmas.List.drop_all, lemmas.Result.err_from_is_err_and}
 use Rattle.osjson.specs.Reading.{each}
 use Rattle.osjson.proofs.Each.{with_front-nil, drop-here, each-more, each-stop, each-end, all-more}
 use Rattle.osjson.proofs.loops.read_each.Goals as goal

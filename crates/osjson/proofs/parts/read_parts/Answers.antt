@@ -1,7 +1,6 @@
 use Rattle.std.proofs.Common.{◌≡◌, ◌≢◌, ◌==◌, [], ◌∷◌, length, rules, refl, sym, subst, arith, length-append}
 use Rattle.std.specs.List.{slice_split}
-use Rattle.osjson.specs.declared.refusals.Refusal.TheVariants.{Unfit}
-use Rattle.osjson.specs.Reading.{each, later_parts}
+use Rattle.osjson.specs.{declared.refusals.Refusal.TheVariants.Unfit, Reading.each, Reading.later_parts}
 use Rattle.osjson.proofs.Each.{each-end, each-more, each-stop, with_front-nil}
 use Rattle.osjson.proofs.Splitting.{StillReads, few-read, none-read, reads-over}
 use Rattle.osjson.proofs.parts.read_parts.Goals as goal

@@ -1,5 +1,4 @@
-use Rattle.std.proofs.Common.{◌==◌, sym}
-use Rattle.std.proofs.lemmas.List.Splits.{length-slice_split}
+use Rattle.std.proofs.{Common.◌==◌, Common.sym, lemmas.List.Splits.length-slice_split}
 use Rattle.osjson.proofs.words.part_count.Goals as goal
 
 pub returns : goal.returns

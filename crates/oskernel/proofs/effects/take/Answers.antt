@@ -1,8 +1,7 @@
 use Rattle.std.proofs.Common.{◌≡◌, ◌<◌, ◌≤◌, [], IsTrue, false, length, rules, ap, subst, sym, arith}
 use Rattle.osbase.specs.Phases.{is_before_live, is_past_first_gate}
 use Rattle.osplan.specs.Objects.{outbox_needed}
-use Rattle.osstate.specs.Does.{HasRoom, item_entries, item_marks}
-use Rattle.osstate.specs.State.{KernelState}
+use Rattle.osstate.specs.{Does.HasRoom, Does.item_entries, Does.item_marks, State.KernelState}
 use Rattle.oskernel.specs.Taking.{is_acting, is_filling, is_going_on, is_known, is_second_gate}
 use Rattle.oskernel.proofs.Phases.{forward, onward}
 use Rattle.oskernel.proofs.Taken.{acting, filling, fresh, front, going_on, known, lock, past, sender}

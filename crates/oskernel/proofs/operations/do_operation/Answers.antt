@@ -1,10 +1,7 @@
 use Rattle.std.proofs.Common.{◌≡◌, ◌≤◌, ◌+◌, length, arith, Option, Some, None, IfSome, IsTrue, true, rules, sym}
-use Rattle.osbase.specs.declared.messages.RemoteCall.{RemoteCall}
-use Rattle.osbase.specs.declared.statuses.ServiceId.{ServiceId}
-use Rattle.oscript.specs.declared.Op.{Op}
-use Rattle.oscript.specs.Calls.{call_of_op}
-use Rattle.osplan.specs.declared.plans.Core.{Core}
-use Rattle.osplan.specs.Objects.{may_name}
+use Rattle.osbase.specs.{declared.messages.RemoteCall.RemoteCall, declared.statuses.ServiceId.ServiceId}
+use Rattle.oscript.specs.{declared.Op.Op, Calls.call_of_op}
+use Rattle.osplan.specs.{declared.plans.Core.Core, Objects.may_name}
 use Rattle.osstate.specs.Sound.{has_objects_of}
 use Rattle.osservice.proofs.Called.{called-passes}
 use Rattle.oscall.specs.Border.{is_known_call}

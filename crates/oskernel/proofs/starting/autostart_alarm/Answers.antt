@@ -1,12 +1,9 @@
 use Rattle.std.proofs.Common.{◌≡◌, Some, IsTrue, rules, ap, ◌∙◌}
 use Rattle.std.proofs.lemmas.Option.{slice_get_within}
-use Rattle.osbase.specs.declared.references.AlarmRef.{AlarmRef}
-use Rattle.osbase.specs.Objects.{alarm_object}
-use Rattle.osplan.specs.Objects.{is_own_object}
-use Rattle.osplan.specs.View.{own_alarm}
+use Rattle.osbase.specs.{declared.references.AlarmRef.AlarmRef, Objects.alarm_object}
+use Rattle.osplan.specs.{Objects.is_own_object, View.own_alarm}
 use Rattle.osclock.specs.Clocks.{alarm_ref}
-use Rattle.osclock.proofs.Places.{alarm-is, alarm-own}
-use Rattle.osclock.proofs.Starts.{starts-within}
+use Rattle.osclock.proofs.{Places.alarm-is, Places.alarm-own, Starts.starts-within}
 use Rattle.oskernel.proofs.starting.autostart_alarm.Goals as goal
 
 pub set_alarm-requires : goal.set_alarm-requires

@@ -1,9 +1,7 @@
 use Rattle.std.proofs.Common.{◌≡◌, Some, IsTrue, rules, ap, ◌∙◌}
 use Rattle.std.proofs.lemmas.Option.{slice_get_within}
-use Rattle.osbase.specs.declared.references.TableRef.{TableRef}
-use Rattle.osbase.specs.Objects.{table_object}
-use Rattle.osplan.specs.Objects.{is_own_object}
-use Rattle.osplan.specs.View.{own_table}
+use Rattle.osbase.specs.{declared.references.TableRef.TableRef, Objects.table_object}
+use Rattle.osplan.specs.{Objects.is_own_object, View.own_table}
 use Rattle.ostable.specs.Tables.{table_ref}
 use Rattle.ostable.proofs.Places.{table-is, table-own}
 use Rattle.oskernel.proofs.Autostart.{offset-within}

@@ -1,11 +1,8 @@
 use Rattle.std.proofs.Common.{◌≡◌, ◌<◌, ◌++◌, ◌∷◌, [], rules, ap, sym, subst, ◌∙◌, arith}
 use Rattle.std.proofs.lemmas.Option.{slice_get_within}
-use Rattle.osbase.specs.declared.references.TaskRef.{TaskRef}
+use Rattle.osbase.specs.{declared.references.TaskRef.TaskRef, History.job_count}
 use Rattle.osbase.specs.declared.references.Runner.TheVariants as Runner
-use Rattle.osbase.specs.History.{job_count}
-use Rattle.osstate.specs.Readings.{task_ref}
-use Rattle.osstate.specs.Sound.{activation_limit}
-use Rattle.osstate.specs.State.{KernelState}
+use Rattle.osstate.specs.{Readings.task_ref, Sound.activation_limit, State.KernelState}
 use Rattle.oskernel.proofs.Autostart.{later-places}
 use Rattle.oskernel.proofs.starting.autostart_task.Goals as goal
 

@@ -1,11 +1,8 @@
 use Rattle.std.proofs.Common.{◌≡◌, ◌<◌, ◌^◌, ℕ, Some, IsTrue, rules, sym, subst, arith}
 use Rattle.std.specs.List.{slice_get}
-use Rattle.osplan.specs.declared.plans.Core.{Core}
-use Rattle.osplan.specs.Clocked.{are_clocks_within}
-use Rattle.osplan.specs.View.{View}
+use Rattle.osplan.specs.{declared.plans.Core.Core, Clocked.are_clocks_within, View.View}
 use Rattle.osacts.specs.Steps.{QuietSteps}
-use Rattle.oskernel.specs.Step.{autostarts_alarm}
-use Rattle.oskernel.specs.Taking.{agreement_on}
+use Rattle.oskernel.specs.{Step.autostarts_alarm, Taking.agreement_on}
 use Rattle.osservice.proofs.Numbered.{all-noted, object-at, one-noted}
 use Rattle.oskernel.proofs.starting.start_alarms.Goals as goal
 

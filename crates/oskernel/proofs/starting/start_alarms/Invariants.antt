@@ -1,8 +1,7 @@
 use Rattle.std.proofs.Common.{◌≡◌, Some}
 use Rattle.osplan.specs.declared.plans.Core.{Core}
 use Rattle.osacts.specs.Steps.{QuietSteps}
-use Rattle.oskernel.specs.Step.{autostarts_alarm}
-use Rattle.oskernel.specs.Taking.{agreement_on}
+use Rattle.oskernel.specs.{Step.autostarts_alarm, Taking.agreement_on}
 use Rattle.osservice.proofs.Numbered.{acted}
 use Rattle.oskernel.proofs.starting.start_alarms.Given as goal
 

@@ -3,8 +3,7 @@ use Rattle.std.specs.List.{slice_get}
 use Rattle.osplan.specs.declared.plans.Core.{Core}
 use Rattle.osacts.specs.Steps.{Steps}
 use Rattle.osacts.proofs.Each.{unmoved}
-use Rattle.oskernel.specs.Step.{autostarts_task}
-use Rattle.oskernel.specs.Taking.{agreement_on, have_places}
+use Rattle.oskernel.specs.{Step.autostarts_task, Taking.agreement_on, Taking.have_places}
 use Rattle.oskernel.proofs.Autostart.{first-places}
 use Rattle.osservice.proofs.Numbered.{all-acted, object-at, one-more}
 use Rattle.oskernel.proofs.starting.start_tasks.Goals as goal

@@ -1,8 +1,7 @@
 use Rattle.std.proofs.Common.{◌≡◌, Some}
 use Rattle.osplan.specs.declared.plans.Core.{Core}
 use Rattle.osacts.specs.Steps.{Steps}
-use Rattle.oskernel.specs.Step.{autostarts_task}
-use Rattle.oskernel.specs.Taking.{agreement_on, have_places}
+use Rattle.oskernel.specs.{Step.autostarts_task, Taking.agreement_on, Taking.have_places}
 use Rattle.osservice.proofs.Numbered.{acted}
 use Rattle.oskernel.proofs.starting.start_tasks.Given as goal
 

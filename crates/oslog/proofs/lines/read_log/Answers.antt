@@ -1,7 +1,5 @@
 use Rattle.std.proofs.Common.{◌≡◌, IfOk, IsTrue, Some, subst, sym, ap, ◌∙◌}
-use Rattle.osplan.specs.Representable.{is_representable}
-use Rattle.osplan.specs.Limits.{is_within_limits}
-use Rattle.osplan.specs.declared.plans.Plan.{Plan}
+use Rattle.osplan.specs.{Representable.is_representable, Limits.is_within_limits, declared.plans.Plan.Plan}
 use Rattle.oslog.specs.Logs.{log_of_text}
 use Rattle.oslog.proofs.Texts.{if-log, no-log, only-log}
 use Rattle.oslog.proofs.lines.read_log.Goals as goal

@@ -1,8 +1,7 @@
 use Rattle.std.proofs.Common.{rules, ◌≡◌, ℕ, List, Option, None, option_map, drop, sym, ap, ◌∙◌, arith}
 use Rattle.std.specs.Borrow.{Bor}
 use Rattle.ossyntax.specs.ParsedOp.{rest_words}
-use Rattle.oslog.specs.Words.{read_words}
-use Rattle.oslog.specs.declared.forms.Parts.{Parts}
+use Rattle.oslog.specs.{Words.read_words, declared.forms.Parts.Parts}
 use Rattle.oslog.proofs.Steps.{no-word}
 use Rattle.oslog.proofs.reading.read_words.Goals as goal
 

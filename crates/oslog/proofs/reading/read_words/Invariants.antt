@@ -1,7 +1,6 @@
 use Rattle.std.proofs.Common.{◌≡◌, drop}
 use Rattle.ossyntax.specs.ParsedOp.{rest_words}
-use Rattle.oslog.specs.Forms.{no_parts}
-use Rattle.oslog.specs.Words.{read_words}
+use Rattle.oslog.specs.{Forms.no_parts, Words.read_words}
 use Rattle.oslog.proofs.reading.read_words.Given as goal
 
 abbrev pub invariant-loop-kind : goal.invariant-loop-kind

@@ -1,8 +1,7 @@
 use Rattle.std.proofs.Common.{◌≡◌, ◌++◌, string_bytes, ap, sym, ◌∙◌, arith}
 use Rattle.oslog.specs.Items.{led}
-use Rattle.oslog.proofs.Cores.{core-more, no-core-more, words_from}
+use Rattle.oslog.proofs.{Cores.core-more, Cores.no-core-more, Cores.words_from, writing.push_cores.Goals.then-contains+in_ok-push_number, writing.push_cores.Goals.else-contains}
 use Rattle.oslog.proofs.writing.push_cores.Goals as goal
-use Rattle.oslog.proofs.writing.push_cores.Goals.{then-contains+in_ok-push_number, else-contains}
 
 pub loop-number-preserved : goal.loop-number-preserved
 loop-number-preserved c =

@@ -1,6 +1,5 @@
 use Rattle.std.proofs.Common.{◌++◌, string_bytes, ap, ◌∙◌}
-use Rattle.oslog.specs.Rows.{row_view}
-use Rattle.oslog.specs.Words.{core_words, tail_words}
+use Rattle.oslog.specs.{Rows.row_view, Words.core_words, Words.tail_words}
 use Rattle.oslog.proofs.ItemText.{line-pushed}
 use Rattle.oslog.proofs.writing.push_line.Goals as goal
 

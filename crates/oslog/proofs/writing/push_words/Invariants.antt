@@ -1,6 +1,5 @@
 use Rattle.std.proofs.Common.{◌≡◌, ◌++◌, map, string_bytes, take}
-use Rattle.oslog.specs.Items.{led}
-use Rattle.oslog.specs.Words.{word_text}
+use Rattle.oslog.specs.{Items.led, Words.word_text}
 use Rattle.oslog.proofs.writing.push_words.Given as goal
 
 abbrev pub invariant-loop-kind : goal.invariant-loop-kind

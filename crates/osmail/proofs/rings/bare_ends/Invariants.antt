@@ -1,7 +1,6 @@
 use Rattle.std.proofs.Common.{◌≡◌, map, take}
 use Rattle.std.specs.List.{AllByRecursion}
-use Rattle.osmail.specs.Rings.{core_of_end}
-use Rattle.osmail.proofs.Making.{IsBare}
+use Rattle.osmail.specs.Rings.{IsBare, core_of_end}
 use Rattle.osmail.proofs.rings.bare_ends.Given as goal
 
 abbrev pub invariant-loop-core : goal.invariant-loop-core

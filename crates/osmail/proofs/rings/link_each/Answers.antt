@@ -2,8 +2,7 @@ use Rattle.std.proofs.Common.{◌≡◌, List, length, map, take, get_or, subst,
 use Rattle.std.proofs.lemmas.List.{length-map}
 use Rattle.osbase.specs.declared.references.CoreId.{CoreId}
 use Rattle.osmail.specs.Rings.{core_of_end, free_at}
-use Rattle.osmail.proofs.Making.{room_more}
-use Rattle.osmail.proofs.Through.{all-map}
+use Rattle.osmail.proofs.{Making.room_more, Through.all-map}
 use Rattle.osmail.proofs.rings.link_each.Goals as goal
 
 pub loop-to-preserved : goal.loop-to-preserved

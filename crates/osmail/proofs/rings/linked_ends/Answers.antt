@@ -3,8 +3,7 @@ use Rattle.std.proofs.lemmas.List.{length-map}
 use Rattle.std.specs.List.{AllByRecursion}
 use Rattle.osbase.specs.declared.references.CoreId.{CoreId}
 use Rattle.osmail.specs.Rings.{core_of_end, free_at}
-use Rattle.osmail.proofs.Making.{next_below, room_all}
-use Rattle.osmail.proofs.Through.{all-map}
+use Rattle.osmail.proofs.{Making.next_below, Making.room_all, Through.all-map}
 use Rattle.osmail.proofs.rings.linked_ends.Goals as goal
 
 pub loop-from-preserved : goal.loop-from-preserved

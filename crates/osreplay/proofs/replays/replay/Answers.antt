@@ -1,6 +1,5 @@
 use Rattle.std.proofs.Common.{◌+◌, ℕ, List, [], ap, refl, subst}
-use Rattle.std.proofs.lemmas.List.{take_all}
-use Rattle.std.proofs.lemmas.Option.{slice_get-get_or}
+use Rattle.std.proofs.{lemmas.List.take_all, lemmas.Option.slice_get-get_or}
 use Rattle.osbase.specs.declared.items.Item.{Item}
 use Rattle.osplan.proofs.Numbered.{configured-low}
 use Rattle.osrun.proofs.CoreRunning.{seated-first}

@@ -1,9 +1,8 @@
 use Rattle.std.proofs.Common.{◌≡◌, is_some, ap, sym, ◌∙◌}
 use Rattle.osplan.specs.View.{core_of}
 use Rattle.osplan.proofs.Tests.{is_some-copied}
-use Rattle.osrun.proofs.Configured.{id_at, ids_below-push, ids_below-skip}
+use Rattle.osrun.proofs.{Configured.id_at, Configured.ids_below-push, Configured.ids_below-skip, cores.ids_of.Goals.then-is_some+in_ok-push, cores.ids_of.Goals.else-is_some}
 use Rattle.osrun.proofs.cores.ids_of.Goals as goal
-use Rattle.osrun.proofs.cores.ids_of.Goals.{then-is_some+in_ok-push, else-is_some}
 
 pub loop-number-preserved : goal.loop-number-preserved
 loop-number-preserved c =

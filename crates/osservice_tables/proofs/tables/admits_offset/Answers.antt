@@ -1,5 +1,4 @@
-use Rattle.std.proofs.Common.{arith}
-use Rattle.std.proofs.lemmas.Bool.{leb-true}
+use Rattle.std.proofs.{Common.arith, lemmas.Bool.leb-true}
 use Rattle.osservice_tables.proofs.Schedules.{counter-most}
 use Rattle.osservice_tables.proofs.tables.admits_offset.Goals as goal
 

@@ -1,6 +1,5 @@
 use Rattle.std.proofs.Common.{is_some, not, ◌||◌, sym, ap, ◌∙◌}
-use Rattle.std.proofs.Math.Bool.{not-not}
-use Rattle.std.proofs.lemmas.Bool.{or_left}
+use Rattle.std.proofs.{Math.Bool.not-not, lemmas.Bool.or_left}
 use Rattle.ossyntax.specs.Operation.{references_of_text, place_of_any}
 use Rattle.ossyntax.proofs.Known.{known_named}
 use Rattle.ossyntax.proofs.parsing.is_known.Goals as goal

@@ -1,9 +1,7 @@
 use Rattle.std.proofs.Common.{option_and_then, option_map, sym, ap, ◌∙◌}
 use Rattle.oscript.specs.declared.rows.TheConstants.{VERBS}
-use Rattle.ossyntax.specs.ParsedOp.{rest_words, verb_and_words, words_of}
-use Rattle.ossyntax.specs.Operation.{op_with_verb}
-use Rattle.ossyntax.proofs.FirstWord.{read-found, read-none}
-use Rattle.ossyntax.proofs.Meant.{first_of_text, no_first}
+use Rattle.ossyntax.specs.{ParsedOp.rest_words, ParsedOp.verb_and_words, ParsedOp.words_of, Operation.op_with_verb}
+use Rattle.ossyntax.proofs.{FirstWord.read-found, FirstWord.read-none, Meant.first_of_text, Meant.no_first}
 use Rattle.ossyntax.proofs.parsing.op_of_text.Goals as goal
 
 pub returns-in-Some : goal.returns-in-Some

@@ -1,10 +1,8 @@
 use Rattle.std.proofs.Common.{None, option_map, sym, ap, ◌∙◌}
 use Rattle.std.specs.Option.{option_map_or}
 use Rattle.oscript.specs.declared.rows.TheConstants.{VERBS}
-use Rattle.ossyntax.specs.ParsedOp.{rest_words, verb_and_words, words_of}
-use Rattle.ossyntax.specs.Operation.{references_with_verb}
-use Rattle.ossyntax.proofs.FirstWord.{read-found, read-none}
-use Rattle.ossyntax.proofs.Known.{asked-first, asked-none}
+use Rattle.ossyntax.specs.{ParsedOp.rest_words, ParsedOp.verb_and_words, ParsedOp.words_of, Operation.references_with_verb}
+use Rattle.ossyntax.proofs.{FirstWord.read-found, FirstWord.read-none, Known.asked-first, Known.asked-none}
 use Rattle.ossyntax.proofs.parsing.references_of_text.Goals as goal
 
 pub returns-in-Some : goal.returns-in-Some

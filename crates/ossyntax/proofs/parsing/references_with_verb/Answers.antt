@@ -1,7 +1,6 @@
 use Rattle.std.proofs.Common.{rules, map}
 use Rattle.oscript.specs.Rows.{kinds_of}
-use Rattle.ossyntax.specs.ParsedOp.{rest_words}
-use Rattle.ossyntax.specs.Operation.{unranged}
+use Rattle.ossyntax.specs.{ParsedOp.rest_words, Operation.unranged}
 use Rattle.ossyntax.proofs.Meant.{meant-args}
 use Rattle.ossyntax.proofs.parsing.references_with_verb.Goals as goal
 

@@ -1,6 +1,5 @@
 use Rattle.std.proofs.Common.{rules, ◌≡◌, ◌==◌, ◌++◌, ◌∷◌, [], false, length, Some, None, lit<, sym, ap, ◌∙◌}
-use Rattle.std.proofs.lemmas.List.{append-nil, nil_from_length}
-use Rattle.std.proofs.lemmas.Str.Pattern.{strip_prefix_char}
+use Rattle.std.proofs.{lemmas.List.append-nil, lemmas.List.nil_from_length, lemmas.Str.Pattern.strip_prefix_char}
 use Rattle.oscript.specs.Rows.{word_of}
 use Rattle.ossyntax.specs.ParsedOp.{words_behind, words_of}
 use Rattle.ossyntax.proofs.FirstWord.{goes_astray, goes_no_further, goes_on, lacks}

@@ -1,7 +1,4 @@
-use Rattle.std.proofs.Common.{Some, None, lit<}
-use Rattle.std.proofs.lemmas.Str.Pattern.{split_once_first, split_parts}
-use Rattle.std.proofs.lemmas.List.Splits.{slice_split_first, slice_split_none}
-use Rattle.std.proofs.Common.{◌==◌}
+use Rattle.std.proofs.{Common.Some, Common.None, Common.lit<, lemmas.Str.Pattern.split_once_first, lemmas.Str.Pattern.split_parts, lemmas.List.Splits.slice_split_first, lemmas.List.Splits.slice_split_none, Common.◌==◌}
 use Rattle.ossyntax.proofs.Wording.{no-byte}
 use Rattle.ossyntax.proofs.words.cut.Goals as goal
 

@@ -1,8 +1,6 @@
 use Rattle.std.proofs.Common.{◌≡◌, ℕ, ap, sym, ◌∙◌, arith}
-use Rattle.ostable.specs.declared.table.Ahead.{Ahead}
-use Rattle.ostable.specs.Ahead.{count_of_next, points_until}
-use Rattle.ostable.proofs.Runs.{begin-later, begin-zero}
-use Rattle.ostable.proofs.table.beginning.Goals.{then-count_of_next-eq0, else-count_of_next-eq0}
+use Rattle.ostable.specs.{declared.table.Ahead.Ahead, Ahead.count_of_next, Ahead.points_until}
+use Rattle.ostable.proofs.{Runs.begin-later, Runs.begin-zero, table.beginning.Goals.then-count_of_next-eq0, table.beginning.Goals.else-count_of_next-eq0}
 use Rattle.ostable.proofs.table.beginning.Goals as goal
 
 pub returns : goal.returns

@@ -1,10 +1,7 @@
 use Rattle.std.proofs.Common.{◌≡◌, ◌++◌, List, length, sym, ap, ◌∙◌, arith}
-use Rattle.std.proofs.lemmas.Iterator.Adapters.{YieldsList-from_vec}
-use Rattle.std.proofs.lemmas.Iterator.Consumers.{YieldsList-end}
-use Rattle.std.proofs.lemmas.List.{map-id}
+use Rattle.std.proofs.{lemmas.Iterator.Adapters.YieldsList-from_vec, lemmas.Iterator.Consumers.YieldsList-end, lemmas.List.map-id}
 use Rattle.osshared.specs.Seats.{Held}
-use Rattle.osspin.specs.declared.calls.SpinCall.{SpinCall}
-use Rattle.osspin.specs.declared.calls.SpinReply.{SpinReply}
+use Rattle.osspin.specs.{declared.calls.SpinCall.SpinCall, declared.calls.SpinReply.SpinReply}
 use Rattle.osthreads.specs.Seats.{paired}
 use Rattle.osthreads.proofs.Gathering.{no-seats, paired-none, paired_whole}
 use Rattle.osthreads.proofs.runs.pair.Goals as goal

@@ -1,5 +1,4 @@
-use Rattle.std.proofs.Common.{arith}
-use Rattle.std.proofs.lemmas.Grind.{common_steps}
+use Rattle.std.proofs.{Common.arith, lemmas.Grind.common_steps}
 use Rattle.osthreads.proofs.Outfits.{kept_more}
 use Rattle.osthreads.proofs.runs.part.Goals as goal
 

@@ -1,6 +1,5 @@
 use Rattle.std.proofs.Common.{◌≡◌, ◌≤◌, length, map, vec_len, vec_capacity}
-use Rattle.osthreads.specs.declared.ending.Ending.{Ending}
-use Rattle.osthreads.specs.Threads.{ends_kept}
+use Rattle.osthreads.specs.{declared.ending.Ending.Ending, Threads.ends_kept}
 use Rattle.osthreads.proofs.runs.part.Given as goal
 
 abbrev pub invariant-loop-ending : goal.invariant-loop-ending

@@ -1,23 +1,15 @@
 use Rattle.std.proofs.Common.{List, IsTrue, arith, is_some, map, sym, ap, subst, ◌∙◌}
 use Rattle.osbase.specs.declared.references.CoreId.{CoreId}
-use Rattle.osplan.specs.declared.plans.Plan.{Plan}
-use Rattle.osplan.specs.Limits.{is_within_limits, sizes_of}
-use Rattle.osplan.specs.View.{core_of}
+use Rattle.osplan.specs.{declared.plans.Plan.Plan, Limits.is_within_limits, Limits.sizes_of, View.core_of}
 use Rattle.osmail.specs.Rings.{AreCores}
 use Rattle.osshared.specs.Seats.{AllApart, fresh}
-use Rattle.osboard.specs.declared.calls.BoardCall.{BoardCall}
-use Rattle.osboard.specs.declared.calls.BoardReply.{BoardReply}
-use Rattle.osspin.specs.declared.calls.SpinCall.{SpinCall}
-use Rattle.osspin.specs.declared.calls.SpinReply.{SpinReply}
+use Rattle.osboard.specs.{declared.calls.BoardCall.BoardCall, declared.calls.BoardReply.BoardReply}
+use Rattle.osspin.specs.{declared.calls.SpinCall.SpinCall, declared.calls.SpinReply.SpinReply}
 use Rattle.osrun.specs.Fits.{ids_of}
-use Rattle.osthreads.specs.declared.seats.Seats.{Seats}
-use Rattle.osthreads.specs.Seats.{paired, shared}
-use Rattle.osthreads.specs.Threads.{AreEndsFor, equipped}
-use Rattle.osplan.proofs.Numbered.{master-low}
-use Rattle.osplan.proofs.Within.{between, cap-within, limit-parts}
+use Rattle.osthreads.specs.{declared.seats.Seats.Seats, Seats.paired, Seats.shared, Threads.AreEndsFor, Threads.equipped}
+use Rattle.osplan.proofs.{Numbered.master-low, Within.between, Within.cap-within, Within.limit-parts}
 use Rattle.osmail.proofs.Chosen.{chosen_cores}
-use Rattle.osthreads.proofs.Gathering.{new-paired}
-use Rattle.osthreads.proofs.Senders.{ids-apart}
+use Rattle.osthreads.proofs.{Gathering.new-paired, Senders.ids-apart}
 use Rattle.osthreads.proofs.runs.prepare.Goals as goal
 
 pub new-requires-clause-cores : goal.new-requires-clause-cores

@@ -1,17 +1,11 @@
 use Rattle.std.proofs.Common.{List, map, refl, sym, ap, subst, ◌∙◌, arith}
-use Rattle.osbase.specs.declared.references.CoreId.{CoreId}
-use Rattle.osbase.specs.declared.turns.CoreStimuli.{CoreStimuli}
-use Rattle.osshared.specs.declared.histories.Plan.{Plan as SeatPlan}
-use Rattle.osshared.specs.Seats.{AllAt, IsOneHistory, cores_of}
-use Rattle.osmail.specs.declared.rings.RingEnd.{RingEnd}
-use Rattle.osmail.specs.Rings.{AreDelivered, end_id, past_of}
+use Rattle.osbase.specs.{declared.references.CoreId.CoreId, declared.turns.CoreStimuli.CoreStimuli}
+use Rattle.osshared.specs.{declared.histories.Plan.Plan as SeatPlan, Seats.AllAt, Seats.IsOneHistory, Seats.cores_of}
+use Rattle.osmail.specs.{declared.rings.RingEnd.RingEnd, Rings.AreDelivered, Rings.end_id, Rings.past_of}
 use Rattle.osboard.specs.Boards.{one_board}
 use Rattle.osspin.specs.Spins.{spinlocks}
 use Rattle.osrun.specs.Fits.{ids_of}
-use Rattle.osthreads.specs.declared.ending.Ending.{Ending}
-use Rattle.osthreads.specs.Runs.{AreFinished}
-use Rattle.osthreads.specs.Seats.{shared}
-use Rattle.osthreads.specs.Threads.{outfit_cores}
+use Rattle.osthreads.specs.{declared.ending.Ending.Ending, Runs.AreFinished, Seats.shared, Threads.outfit_cores}
 use Rattle.osthreads.proofs.Gathering.{boards-cores, boards-placed, seats-finished, spins-cores, spins-placed}
 use Rattle.osthreads.proofs.Outfits.{all-back, all-cores, all-ready, each-alone, fault-sound, whole-sound}
 use Rattle.osthreads.proofs.runs.run_threads.Goals as goal

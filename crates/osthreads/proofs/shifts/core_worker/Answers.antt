@@ -1,10 +1,8 @@
 use Rattle.std.proofs.Common.{Bor, length, refl, ap, sym, ◌∙◌, arith}
-use Rattle.osthreads.specs.declared.run.Run.{Run}
+use Rattle.osthreads.specs.{declared.run.Run.Run, Seats.made_from}
 use Rattle.osstate.specs.State.{KernelState}
 use Rattle.osrun.specs.CoreRuns.{is_ended_phase}
-use Rattle.osthreads.specs.Seats.{made_from}
-use Rattle.osthreads.proofs.Requests.{known-low}
-use Rattle.osthreads.proofs.Senders.{someone}
+use Rattle.osthreads.proofs.{Requests.known-low, Senders.someone}
 use Rattle.osthreads.proofs.Shifting.{begun, first-running, handed-back, own-before}
 use Rattle.osthreads.proofs.shifts.core_worker.Goals as goal
 

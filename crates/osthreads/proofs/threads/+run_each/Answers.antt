@@ -1,12 +1,8 @@
 use Rattle.std.proofs.Common.{◌≡◌, ◌++◌, ◌∷◌, [], List, map, ap, ◌∙◌, sym, subst}
 use Rattle.osbase.specs.declared.references.CoreId.{CoreId}
-use Rattle.osthreads.specs.declared.ending.Ending.{Ending}
-use Rattle.osthreads.specs.declared.run.Run.{Run}
-use Rattle.osthreads.specs.declared.ending.Outfit.{Outfit}
-use Rattle.osthreads.specs.Seats.{shared}
+use Rattle.osthreads.specs.{declared.ending.Ending.Ending, declared.run.Run.Run, declared.ending.Outfit.Outfit, Seats.shared}
 use Rattle.osthreads.specs.Threads.{AreEnded, IsEnded, end_kept, end_of, outfit_cores, which_end}
-use Rattle.osthreads.proofs.Gathering.{ended-push}
-use Rattle.osthreads.proofs.Outfits.{given-push, kept-push, outfit_cores-push}
+use Rattle.osthreads.proofs.{Gathering.ended-push, Outfits.given-push, Outfits.kept-push, Outfits.outfit_cores-push}
 use Rattle.osthreads.proofs.threads.+run_each.Goals as goal
 
 abbrev EndedIn : Run → CoreId → Ending → Type 0

@@ -1,6 +1,5 @@
 use Rattle.std.proofs.Common.{subst}
-use Rattle.osthreads.specs.Seats.{shared}
-use Rattle.osthreads.specs.Threads.{AreReady, IsReady}
+use Rattle.osthreads.specs.{Seats.shared, Threads.AreReady, Threads.IsReady}
 use Rattle.osthreads.proofs.Gathering.{all-front}
 use Rattle.osthreads.proofs.threads.last_outfit.Goals as goal
 

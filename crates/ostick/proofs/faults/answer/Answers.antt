@@ -1,10 +1,7 @@
 use Rattle.std.proofs.Common.{◌≡◌, refl, sym, ap, ◌∙◌, lit≤}
-use Rattle.osbase.specs.declared.references.Runner.{Runner}
-use Rattle.osbase.specs.declared.statuses.Status.{Status}
+use Rattle.osbase.specs.{declared.references.Runner.Runner, declared.statuses.Status.Status}
 use Rattle.osplan.specs.declared.protection.Protection.{Protection}
-use Rattle.osacts.specs.Acts.{Acts}
-use Rattle.osacts.specs.Runs.{runs, says}
-use Rattle.osacts.proofs.Each.{as_steps}
+use Rattle.osacts.proofs.Each.{in-words, looked, wider}
 use Rattle.oscall.specs.Shutdown.{goes_down}
 use Rattle.ostick.specs.Faults.{answers_fault}
 use Rattle.ostick.proofs.faults.answer.Goals as goal
@@ -18,11 +15,11 @@ pub returns-in_default : goal.returns-in_default
 returns-in_default g c =
     let same = ap (λ (p : Protection). answers_fault p c.args.runner c.args.status) (sym c.protection.ensures) ∙ other c.protection.result c.args.runner c.args.status c.in_default.not-TerminateTaskIsr in
     record {
-      steps = as_steps (ap (λ (x : Acts). runs x c.args.state.now) same) (ap (λ (x : Acts). says x c.args.state.now) same) (lit≤ tt) (lit≤ tt) c.go_down.ensures.steps;
+      steps = looked (in-words same c.go_down.ensures.steps);
       outbox = c.go_down.ensures.outbox;
     }
 
-pub returns-in-TerminateTaskIsr-clause-steps : goal.returns-in-TerminateTaskIsr-clause-steps
-returns-in-TerminateTaskIsr-clause-steps g c =
+pub returns-in-TerminateTaskIsr : goal.returns-in-TerminateTaskIsr
+returns-in-TerminateTaskIsr g c =
     let same = ap (λ (p : Protection). answers_fault p c.args.runner c.args.status) (sym c.protection.ensures ∙ c.in-TerminateTaskIsr.is) in
-    as_steps (ap (λ (x : Acts). runs x c.args.state.now) same) (ap (λ (x : Acts). says x c.args.state.now) same) (lit≤ tt) (lit≤ tt) c.end_by_force.ensures.steps
+    record { steps = looked (wider (lit≤ tt) (lit≤ tt) (in-words same c.end_by_force.ensures.steps)); outbox = c.end_by_force.ensures.outbox }

@@ -1,21 +1,16 @@
 use Rattle.std.proofs.Common.{◌≡◌, ◌<◌, ◌≤◌, ◌+◌, ◌*◌, ◌^◌, false, IsTrue, length, suc, vec_len, vec_capacity, rules, refl, sym, subst, ap, ◌∙◌, arith}
-use Rattle.osbase.specs.declared.references.CounterRef.{CounterRef}
-use Rattle.osbase.specs.Objects.{counter_object}
-use Rattle.osbase.specs.Phases.{is_before_live}
+use Rattle.osbase.specs.{declared.references.CounterRef.CounterRef, Objects.counter_object, Phases.is_before_live}
 use Rattle.osclock.specs.Clocks.{attached_to, counter_ref}
 use Rattle.osclock.proofs.Places.{counter-own}
-use Rattle.osplan.specs.declared.plans.Core.{Core}
-use Rattle.osplan.specs.Objects.{is_own_object}
+use Rattle.osplan.specs.{declared.plans.Core.Core, Objects.is_own_object}
 use Rattle.ostable.specs.Tables.{timed_by}
-use Rattle.osacts.specs.Acts.{nothing, when}
-use Rattle.osacts.specs.Steps.{Steps}
-use Rattle.osacts.proofs.Each.{as_steps, unmoved}
+use Rattle.osacts.specs.{Acts.nothing, Acts.when, Steps.Steps}
+use Rattle.osacts.proofs.Each.{as_steps, looked, unmoved}
 use Rattle.osexpiry.specs.Advancing.{count_entries, count_marks, counts, posted_by}
-use Rattle.osexpiry.proofs.Owned.{alarms-few}
-use Rattle.osexpiry.proofs.Postings.{tables-few}
+use Rattle.osexpiry.proofs.{Owned.alarms-few, Postings.tables-few}
 use Rattle.ostick.specs.Ticks.{counted_entries, counted_marks, counts_if_hardware}
 use Rattle.osservice.proofs.Numbered.{act_all, all-acted, one-more}
-use Rattle.ostick.proofs.Ticking.{alarms-within, alarms_at, amounts, looked, posted-within, posted_at, tables-within, tables_at, total-more}
+use Rattle.ostick.proofs.Ticking.{alarms-within, alarms_at, amounts, posted-within, posted_at, tables-within, tables_at, total-more}
 use Rattle.ostick.proofs.ticks.count_each.Goals as goal
 
 pub loop-counter-init : goal.loop-counter-init

@@ -1,9 +1,8 @@
-use Rattle.std.proofs.Common.{◌≡◌, ◌+◌, Bool, true, false, ap, sym, ◌∙◌, lit≤}
+use Rattle.std.proofs.Common.{◌≡◌, ◌+◌, true, false, ap, sym, ◌∙◌, lit≤}
 use Rattle.osbase.specs.Phases.{is_going}
 use Rattle.osacts.specs.Steps.{Steps}
-use Rattle.osacts.proofs.Each.{printed, then, unmoved}
+use Rattle.osacts.proofs.Each.{looked, printed, then, unmoved, where-fails, where-holds, wider}
 use Rattle.ostick.specs.Ticks.{counted_entries, counted_marks, counts_unless_down}
-use Rattle.ostick.proofs.Ticking.{looked, where-fails, where-holds, wider}
 use Rattle.ostick.proofs.ticks.tick.Goals as goal
 
 pub returns-then-is_going : goal.returns-then-is_going

@@ -1,6 +1,5 @@
 use Rattle.std.proofs.Common.{◌≡◌, List, ap, subst, sym, ◌∙◌}
-use Rattle.osbase.specs.declared.references.CoreId.{CoreId}
-use Rattle.osbase.specs.declared.turns.Choice.{Choice}
+use Rattle.osbase.specs.{declared.references.CoreId.CoreId, declared.turns.Choice.Choice}
 use Rattle.osrun.specs.Sound.{lists_in}
 use Rattle.osworld.specs.Runs.{AreReports}
 use Rattle.osworld.proofs.Ordered.{no_others, ordered}

@@ -1,7 +1,6 @@
 use Rattle.std.proofs.Common.{◌≡◌, List, vec_len}
 use Rattle.osbase.specs.declared.turns.CoreStimuli.{CoreStimuli}
-use Rattle.osworld.specs.World.{first_world}
-use Rattle.osworld.specs.Playing.{Plays}
+use Rattle.osworld.specs.{World.first_world, Playing.Plays}
 use Rattle.osworld.proofs.Default.{IsUnderway}
 use Rattle.osworld.proofs.runs.play_rounds.Given as goal
 

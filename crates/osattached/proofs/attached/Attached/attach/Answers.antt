@@ -1,9 +1,7 @@
 use Rattle.std.proofs.Common.{◌<◌, length, arith, ap}
-use Rattle.std.proofs.lemmas.Bool.{false≢true}
-use Rattle.std.proofs.lemmas.List.{length-map}
-use Rattle.osattached.proofs.Ranges.{added}
+use Rattle.std.proofs.{lemmas.Bool.false≢true, lemmas.List.length-map}
+use Rattle.osattached.proofs.{Ranges.added, attached.Attached.attach.Goals.in-Some, attached.Attached.attach.Goals.in_default}
 use Rattle.osattached.proofs.attached.Attached.attach.Goals as goal
-use Rattle.osattached.proofs.attached.Attached.attach.Goals.{in-Some, in_default}
 
 pub returns : goal.returns
 returns g c =

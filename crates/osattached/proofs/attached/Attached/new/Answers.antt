@@ -14,7 +14,7 @@ loop-index-init g c = rw c.none-attached.ensures (record {
 pub attach-requires : goal.attach-requires
 attach-requires g c =
     let inside = c.requires.own c.loop-index.index c.object-reference.result (omega arith) c.object-reference.ensures in
-    (search rules, (omega (arith, c.loop-index.invariant.many, inside), omega (arith, c.loop-index.invariant.few c.object-reference.result.0.index)))
+    (search rules, record { known = omega (arith, c.loop-index.invariant.many, inside); room = omega (arith, c.loop-index.invariant.few c.object-reference.result.0.index) })
 
 pub loop-index-preserved : goal.loop-index-preserved
 loop-index-preserved g c =

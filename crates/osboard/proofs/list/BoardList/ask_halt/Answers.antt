@@ -1,6 +1,5 @@
 use Rattle.std.proofs.Common.{rules, ◌≡◌, Some}
-use Rattle.osboard.specs.declared.calls.BoardCall.TheVariants.{AskHalt}
-use Rattle.osboard.specs.Boards.{board_after, first_asked}
+use Rattle.osboard.specs.{declared.calls.BoardCall.TheVariants.AskHalt, Boards.board_after, Boards.first_asked}
 use Rattle.osboard.proofs.Boards.{asks_on}
 use Rattle.osboard.proofs.list.BoardList.ask_halt.Goals as goal
 

@@ -2,32 +2,24 @@ use Rattle.std.proofs.Common.{◌≡◌, ◌<◌, length, get_or, ap, rules, sub
 use Rattle.std.specs.List.{slice_set}
 use Rattle.osbase.specs.declared.limits.TheConstants.{COUNTERS}
 use Rattle.osclock.specs.Clocks.{ClockState}
-use Rattle.osclock.proofs.Beyond.{counted-is}
-use Rattle.osclock.proofs.Bounds.{attached-bounded, attached-inside, counter-inside, counter-within, next-within}
-use Rattle.osclock.proofs.Quiet.{quiet-anew, quiet-counted, quiet-on}
+use Rattle.osclock.proofs.{Beyond.counted-is, Quiet.quiet-anew, Quiet.quiet-counted, Quiet.quiet-on}
+use Rattle.osclock.proofs.Bounds.{attached-bounded, attached-inside, counter-inside, counter-within}
 use Rattle.osclock.proofs.clocks.Clocks.count.Goals as goal
 
 pub counter-before-requires : goal.counter-before-requires
 counter-before-requires c = counter-inside c.args.core.now _ c.args.counter c.requires.clocks c.requires.own
 
-pub pass_alarms-requires-clause-max : goal.pass_alarms-requires-clause-max
-pass_alarms-requires-clause-max c = rw c.counter-before.ensures (counter-within c.args.core.now _ c.args.counter c.requires.clocks c.requires.own).few
+pub pass_alarms-requires-clause-counter : goal.pass_alarms-requires-clause-counter
+pass_alarms-requires-clause-counter c = rw c.counter-before.ensures (counter-within c.args.core.now _ c.args.counter c.requires.clocks c.requires.own).within
 
-pub pass_alarms-requires-clause-value : goal.pass_alarms-requires-clause-value
-pass_alarms-requires-clause-value c = rw c.counter-before.ensures (counter-within c.args.core.now _ c.args.counter c.requires.clocks c.requires.own).value
+pub pass_alarms-requires-clause-alarms : goal.pass_alarms-requires-clause-alarms
+pass_alarms-requires-clause-alarms c = record {
+  places = attached-inside c.args.core.now c.args.counter _ _ c.of-attached.result.now c.self.view_is c.requires.clocks c.requires.own c.of-attached.ensures.value;
+  bounded = attached-bounded c.args.core.now c.args.counter _ _ c.counter-before.result c.of-attached.result.now c.self.view_is c.requires.clocks c.requires.own c.counter-before.ensures c.of-attached.ensures.value;
+}
 
-pub pass_alarms-requires-clause-places : goal.pass_alarms-requires-clause-places
-pass_alarms-requires-clause-places c = attached-inside c.args.core.now c.args.counter _ _ c.of-attached.result.now c.self.view_is c.requires.clocks c.requires.own c.of-attached.ensures.value
-
-pub pass_alarms-requires-clause-bounded : goal.pass_alarms-requires-clause-bounded
-pass_alarms-requires-clause-bounded c =
-    attached-bounded c.args.core.now c.args.counter _ _ c.counter-before.result c.of-attached.result.now c.self.view_is c.requires.clocks c.requires.own c.counter-before.ensures c.of-attached.ensures.value
-
-pub advance-requires-clause-max : goal.advance-requires-clause-max
-advance-requires-clause-max c = rw c.counter-before.ensures (counter-within c.args.core.now _ c.args.counter c.requires.clocks c.requires.own).few
-
-pub advance-requires-clause-value : goal.advance-requires-clause-value
-advance-requires-clause-value c = rw c.counter-before.ensures (counter-within c.args.core.now _ c.args.counter c.requires.clocks c.requires.own).value
+pub advance-requires : goal.advance-requires
+advance-requires c = rw c.counter-before.ensures (counter-within c.args.core.now _ c.args.counter c.requires.clocks c.requires.own).within
 
 pub set_counter-requires : goal.set_counter-requires
 set_counter-requires c = subst (λ (s : ClockState). c.args.counter.index < length s.counters) (sym c.self.view_is) (counter-inside c.args.core.now _ c.args.counter c.requires.clocks c.requires.own)
@@ -46,16 +38,6 @@ returns-then-quiet-gt0 c =
     quiet-counted c.args.core.now c.args.counter _ _ c.self.view_is c.requires.clocks c.requires.own _ all c.self.invariant c.counter-before.result _ c.counter-before.ensures
     (c.set_counter.ensures ∙ ap (slice_set c.self.inside.counters.items c.args.counter.index) c.advance.ensures.state) some
 
-pub quiet_counts-requires-clause-max : goal.quiet_counts-requires-clause-max
-quiet_counts-requires-clause-max c = rw (c.advance.ensures.state, c.counter-before.ensures) (counter-within c.args.core.now _ c.args.counter c.requires.clocks c.requires.own).few
-
-pub quiet_counts-requires-clause-value : goal.quiet_counts-requires-clause-value
-quiet_counts-requires-clause-value c = rw (c.advance.ensures.state, c.counter-before.ensures) (next-within _ (counter-within c.args.core.now _ c.args.counter c.requires.clocks c.requires.own).value)
-
-pub quiet_counts-requires-clause-places : goal.quiet_counts-requires-clause-places
-quiet_counts-requires-clause-places c =
-    rw (c.as_slice.ensures.value, c.pass_alarms.ensures.places) (attached-inside c.args.core.now c.args.counter _ _ c.of-attached.result.now c.self.view_is c.requires.clocks c.requires.own c.of-attached.ensures.value)
-
 pub returns-else-quiet-gt0 : goal.returns-else-quiet-gt0
 returns-else-quiet-gt0 c =
     counted-is c.args.core.now c.args.counter _ _ c.counter-before.result c.of-attached.result.now _ _ c.self.view_is c.requires.clocks c.requires.own c.counter-before.ensures c.of-attached.ensures.value
@@ -65,5 +47,5 @@ pub invariant_of-self-else-quiet-gt0 : goal.invariant_of-self-else-quiet-gt0
 invariant_of-self-else-quiet-gt0 c =
     let all : length c.self.inside.quiet ≡ COUNTERS = search rules in
     rw c.from-place.ensures
-    (quiet-anew c.args.core.now c.args.counter _ _ c.self.view_is c.requires.clocks c.requires.own _ all c.self.invariant c.quiet_counts.result c.advance.new.self _ _ c.set_counter.ensures (returns-else-quiet-gt0 c)
-    (rw (c.as_slice.ensures.value, c.of-attached.ensures.value) at c.quiet_counts.ensures))
+    (quiet-anew c.args.core.now c.args.counter _ _ c.self.view_is c.requires.clocks c.requires.own _ all c.self.invariant c.pass_alarms.result c.advance.new.self _ _ c.set_counter.ensures (returns-else-quiet-gt0 c)
+    (rw c.of-attached.ensures.value at c.pass_alarms.ensures.quiet))

@@ -1,11 +1,8 @@
 use Rattle.std.proofs.Common.{◌≡◌, Some, None, Option, is_some, ap, sym, ◌∙◌, rules}
 use Rattle.std.proofs.lemmas.Bool.{false≢true}
-use Rattle.osplan.specs.declared.plans.Alarm.{Alarm as AlarmValue}
-use Rattle.osplan.specs.View.{own_alarm}
+use Rattle.osplan.specs.{declared.plans.Alarm.Alarm as AlarmValue, View.own_alarm}
 use Rattle.osclock.specs.Clocks.{counter_for}
-use Rattle.osclock.proofs.Bounds.{counter-inside, counter-of}
-use Rattle.osclock.proofs.Law.{attached}
-use Rattle.osclock.proofs.Places.{alarm-some}
+use Rattle.osclock.proofs.{Bounds.counter-inside, Bounds.counter-of, Law.attached, Places.alarm-some}
 use Rattle.osclock.proofs.clocks.Clocks.counter_for.Goals as goal
 
 pub counter-requires : goal.counter-requires
@@ -18,17 +15,7 @@ unreachable-requires c =
     let none : own_alarm c.args.core.now c.args.alarm ≡ None = search rules in
     false≢true (ap (λ (o : Option AlarmValue). is_some o) (sym none) ∙ alarm-some c.args.core.now c.args.alarm c.requires.own)
 
-pub returns-clause-max : goal.returns-clause-max
-returns-clause-max c =
+pub returns-clause-counter : goal.returns-clause-counter
+returns-clause-counter c =
     let is : c.counter.result ≡ counter_for c.args.core.now c.args.alarm c.args.self.now = search rules in
-    rw is (counter-of c.args.core.now c.args.self.now c.args.alarm c.requires.clocks c.requires.own).is
-
-pub returns-clause-few : goal.returns-clause-few
-returns-clause-few c =
-    let is : c.counter.result ≡ counter_for c.args.core.now c.args.alarm c.args.self.now = search rules in
-    rw is (counter-of c.args.core.now c.args.self.now c.args.alarm c.requires.clocks c.requires.own).few
-
-pub returns-clause-value : goal.returns-clause-value
-returns-clause-value c =
-    let is : c.counter.result ≡ counter_for c.args.core.now c.args.alarm c.args.self.now = search rules in
-    rw is (counter-of c.args.core.now c.args.self.now c.args.alarm c.requires.clocks c.requires.own).value
+    rw is (counter-of c.args.core.now c.args.self.now c.args.alarm c.requires.clocks c.requires.own)

@@ -1,8 +1,6 @@
 use Rattle.std.proofs.Common.{◌<◌, [], get_or, ap, refl, rules, ◌∙◌}
 use Rattle.osclock.specs.Clocks.{counter_in}
-use Rattle.osclock.proofs.Asked.{dues-in}
-use Rattle.osclock.proofs.Bounds.{attached-inside, counter-inside, counter-within}
-use Rattle.osclock.proofs.Quiet.{none-due}
+use Rattle.osclock.proofs.{Asked.dues-in, Bounds.attached-inside, Bounds.counter-inside, Bounds.counter-within, Quiet.none-due}
 use Rattle.osclock.proofs.clocks.Clocks.due_next.Goals as goal
 
 pub returns-then-self-from-gt0 : goal.returns-then-self-from-gt0
@@ -16,11 +14,8 @@ returns-then-self-from-gt0 c =
 pub counter-requires : goal.counter-requires
 counter-requires c = counter-inside c.args.core.now _ c.args.counter c.requires.clocks c.requires.own
 
-pub due_alarms-requires-clause-max : goal.due_alarms-requires-clause-max
-due_alarms-requires-clause-max c = rw c.counter.ensures (counter-within c.args.core.now _ c.args.counter c.requires.clocks c.requires.own).few
-
-pub due_alarms-requires-clause-value : goal.due_alarms-requires-clause-value
-due_alarms-requires-clause-value c = rw c.counter.ensures (counter-within c.args.core.now _ c.args.counter c.requires.clocks c.requires.own).value
+pub due_alarms-requires-clause-counter : goal.due_alarms-requires-clause-counter
+due_alarms-requires-clause-counter c = rw c.counter.ensures (counter-within c.args.core.now _ c.args.counter c.requires.clocks c.requires.own).within
 
 pub due_alarms-requires-clause-places : goal.due_alarms-requires-clause-places
 due_alarms-requires-clause-places c = rw c.as_slice.ensures.value (attached-inside c.args.core.now c.args.counter _ _ c.of.result.now c.self.view_is c.requires.clocks c.requires.own c.of.ensures.value)

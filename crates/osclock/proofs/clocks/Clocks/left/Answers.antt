@@ -6,4 +6,4 @@ alarm-requires c = alarm-inside c.args.core.now _ c.args.alarm c.requires.clocks
 
 pub left-requires-clause-expiry : goal.left-requires-clause-expiry
 left-requires-clause-expiry c =
-    rw (c.alarm.ensures, c.counter_for.ensures.max) (value-within _ _ (alarm-within c.args.core.now c.args.self.now c.args.alarm c.requires.clocks c.requires.own))
+    rw (c.alarm.ensures, c.counter_for.ensures.counter.max) (value-within _ _ (alarm-within c.args.core.now c.args.self.now c.args.alarm c.requires.clocks c.requires.own))

@@ -3,4 +3,4 @@ use Rattle.oscount.proofs.alarms.Alarm.set_rel.Goals as goal
 
 pub returns-clause-counts : goal.returns-clause-counts
 returns-clause-counts c count counter =
-    relative-by c.args.counter count c.args.increment c.args.cycle c.wrapped.result counter c.requires.later c.requires.turn c.requires.cycle c.wrapped.ensures
+    relative-by c.args.counter count c.args.increment c.args.cycle c.wrapped.result counter c.requires.granted c.wrapped.ensures

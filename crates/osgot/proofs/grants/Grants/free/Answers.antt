@@ -1,7 +1,6 @@
 use Rattle.std.proofs.Common.{◌≡◌, List, true, sym, subst, ◌∙◌}
 use Rattle.std.specs.List.{remove}
-use Rattle.osbase.specs.declared.histories.GotSpinlock.{GotSpinlock}
-use Rattle.osbase.specs.Spins.{without_spinlock}
+use Rattle.osbase.specs.{declared.histories.GotSpinlock.GotSpinlock, Spins.without_spinlock}
 use Rattle.osgot.specs.Grants.{are_apart}
 use Rattle.osgot.proofs.Apart.{freed}
 use Rattle.osgot.proofs.grants.Grants.free.Goals as goal

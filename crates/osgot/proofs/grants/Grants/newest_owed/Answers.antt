@@ -1,7 +1,5 @@
 use Rattle.std.proofs.Common.{◌<◌, IfSome, Option, ap, sym, subst, ◌∙◌}
-use Rattle.osbase.specs.declared.references.SpinlockId.{SpinlockId}
-use Rattle.osbase.specs.declared.limits.TheConstants.{SPINLOCKS}
-use Rattle.osbase.specs.Spins.{newest_owed}
+use Rattle.osbase.specs.{declared.references.SpinlockId.SpinlockId, declared.limits.TheConstants.SPINLOCKS, Spins.newest_owed}
 use Rattle.osgot.proofs.Apart.{known-owed}
 use Rattle.osgot.proofs.grants.Grants.newest_owed.Goals as goal
 

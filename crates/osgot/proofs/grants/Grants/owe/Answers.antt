@@ -1,7 +1,6 @@
 use Rattle.std.proofs.Common.{◌≡◌, List, true, cond, ap, length, sym, subst, ◌∙◌}
 use Rattle.std.specs.List.{refill}
-use Rattle.osbase.specs.declared.histories.GotSpinlock.{GotSpinlock}
-use Rattle.osbase.specs.Spins.{is_got_by, owed, owed_by}
+use Rattle.osbase.specs.{declared.histories.GotSpinlock.GotSpinlock, Spins.is_got_by, Spins.owed, Spins.owed_by}
 use Rattle.osgot.specs.Grants.{are_apart}
 use Rattle.osgot.proofs.Apart.{owed-of, written-back}
 use Rattle.osgot.proofs.grants.Grants.owe.Goals as goal

@@ -1,7 +1,6 @@
 use Rattle.std.proofs.Common.{◌≡◌, List, true, ap, length, sym, subst, ◌∙◌}
 use Rattle.std.specs.List.{refill}
-use Rattle.osbase.specs.declared.histories.GotSpinlock.{GotSpinlock}
-use Rattle.osbase.specs.Spins.{all_owed, owed}
+use Rattle.osbase.specs.{declared.histories.GotSpinlock.GotSpinlock, Spins.all_owed, Spins.owed}
 use Rattle.osgot.specs.Grants.{are_apart}
 use Rattle.osgot.proofs.Apart.{owed-each, written-back}
 use Rattle.osgot.proofs.grants.Grants.owe_all.Goals as goal

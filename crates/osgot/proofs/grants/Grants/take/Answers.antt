@@ -1,6 +1,5 @@
 use Rattle.std.proofs.Common.{◌≡◌, Some, List, true, false, rules, sym, subst, ◌∙◌, ap}
-use Rattle.osbase.specs.declared.histories.GotSpinlock.{GotSpinlock}
-use Rattle.osbase.specs.Spins.{has_spinlock}
+use Rattle.osbase.specs.{declared.histories.GotSpinlock.GotSpinlock, Spins.has_spinlock}
 use Rattle.osgot.specs.Grants.{are_apart}
 use Rattle.osgot.proofs.Apart.{room, together}
 use Rattle.osgot.proofs.grants.Grants.take.Goals as goal

@@ -1,18 +1,12 @@
 use Rattle.std.proofs.Common.{◌≡◌, ◌<◌, ◌∙◌, ap, true, length, arith, rules, sym, subst, cond, Option, Some, None}
-use Rattle.std.specs.List.{All}
+use Rattle.std.specs.{List.All, Option.option_or}
 use Rattle.osbase.specs.declared.references.Runner.TheVariants as Runner
-use Rattle.osbase.specs.declared.histories.Job.{Job}
-use Rattle.osbase.specs.History.{is_waiting}
+use Rattle.osbase.specs.{declared.histories.Job.Job, History.is_waiting}
 use Rattle.osqueue.specs.Ordered.{ComesBefore}
 use Rattle.oscript.specs.Runners.{Row}
-use Rattle.osjobs.specs.Jobs.{Each, JobState, is_current}
-use Rattle.osjobs.specs.OwnTasks.{is_own_task}
-use Rattle.osjobs.specs.Queue.{entry_of}
-use Rattle.osjobs.specs.Ranking.{is_awake_in}
+use Rattle.osjobs.specs.{Jobs.Each, Jobs.JobState, Jobs.is_current, OwnTasks.is_own_task, Queue.entry_of, Ranking.is_awake_in}
 use Rattle.osjobs.proofs.Keeping.{activates, behind-all, fewer-holders, if-any, length-ready}
-use Rattle.osjobs.proofs.Stamps.{ascending-push}
-use Rattle.std.specs.Option.{option_or}
-use Rattle.osjobs.proofs.CurrentJob.{job-joined}
+use Rattle.osjobs.proofs.{Stamps.ascending-push, CurrentJob.job-joined}
 use Rattle.osjobs.proofs.jobs.Jobs.activate.Goals as goal
 
 pub enqueue-requires : goal.enqueue-requires

@@ -1,18 +1,9 @@
 use Rattle.std.proofs.Common.{◌≡◌, ◌≤◌, true, IfNone, IfSome, Option, List, [], filter, length, arith, rules, ap, sym, subst, ◌∙◌}
-use Rattle.osbase.specs.declared.histories.Job.{Job}
-use Rattle.osbase.specs.History.{first_greatest, oldest_of}
-use Rattle.osbase.specs.declared.limits.TheConstants.{TASKS}
-use Rattle.osqueue.specs.declared.ready.Ready.{Ready}
-use Rattle.osqueue.specs.declared.ready.TheConstants.{PRIORITIES}
-use Rattle.osqueue.specs.Ordered.{IsBest}
+use Rattle.osbase.specs.{declared.histories.Job.Job, History.first_greatest, History.oldest_of, declared.limits.TheConstants.TASKS}
+use Rattle.osqueue.specs.{declared.ready.Ready.Ready, declared.ready.TheConstants.PRIORITIES, Ordered.IsBest}
 use Rattle.osjobs.specs.Jobs.{Ascending, Each, JobState, current_among, raised_among}
-use Rattle.osjobs.specs.OwnTasks.{OwnTasks, is_own_task, own_tasks}
-use Rattle.osjobs.specs.Priorities.{raised_of}
-use Rattle.osjobs.specs.Queue.{OneOf, queued}
-use Rattle.osjobs.specs.Ranking.{is_awake_in, rank_by}
-use Rattle.osjobs.proofs.Covering.{raised-one, ready-low}
-use Rattle.osjobs.proofs.Elders.{same-best}
-use Rattle.osjobs.proofs.Keeping.{length-ready}
+use Rattle.osjobs.specs.{OwnTasks.OwnTasks, OwnTasks.is_own_task, OwnTasks.own_tasks, Priorities.raised_of, Queue.OneOf, Queue.queued, Ranking.is_awake_in, Ranking.rank_by}
+use Rattle.osjobs.proofs.{Covering.raised-one, Covering.ready-low, Elders.same-best, Keeping.length-ready}
 use Rattle.osjobs.proofs.jobs.Jobs.best_task.Goals as goal
 
 pub look_first-first-requires : goal.look_first-first-requires

@@ -1,6 +1,5 @@
 use Rattle.std.proofs.Common.{refl}
-use Rattle.oscript.specs.Frames.{completed}
-use Rattle.oscript.specs.Runners.{Row}
+use Rattle.oscript.specs.{Frames.completed, Runners.Row}
 use Rattle.osjobs.proofs.Keeping.{kept}
 use Rattle.osjobs.proofs.jobs.Jobs.complete.Goals as goal
 

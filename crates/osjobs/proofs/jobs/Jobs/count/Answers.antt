@@ -1,9 +1,6 @@
 use Rattle.std.proofs.Common.{◌≡◌, ◌<◌, true, ap, sym, ◌∙◌}
-use Rattle.osbase.specs.declared.limits.TheConstants.{RUNNERS}
-use Rattle.osbase.specs.History.{job_count}
-use Rattle.osbase.specs.Sets.{slot_of}
-use Rattle.osjobs.specs.Jobs.{JobState}
-use Rattle.osjobs.specs.OwnTasks.{is_own_task}
+use Rattle.osbase.specs.{declared.limits.TheConstants.RUNNERS, History.job_count, Sets.slot_of}
+use Rattle.osjobs.specs.{Jobs.JobState, OwnTasks.is_own_task}
 use Rattle.osjobs.proofs.Owned.{foreign-count, own-count, own-place}
 use Rattle.osjobs.proofs.jobs.Jobs.count.Goals as goal
 

@@ -2,15 +2,11 @@ use Rattle.std.proofs.Common.{◌≡◌, true, refl, rules, cond, Option, None, 
 use Rattle.std.specs.List.{Contains}
 use Rattle.std.proofs.lemmas.Bool.{false≢true}
 use Rattle.osbase.specs.declared.references.Runner.TheVariants as Runner
-use Rattle.osbase.specs.declared.histories.Job.{Job}
-use Rattle.osbase.specs.History.{oldest}
+use Rattle.osbase.specs.{declared.histories.Job.Job, History.oldest}
 use Rattle.oscript.specs.Runners.{ended}
-use Rattle.osjobs.specs.Queue.{entry_of}
-use Rattle.osjobs.specs.Ranking.{is_awake_in}
+use Rattle.osjobs.specs.{Queue.entry_of, Ranking.is_awake_in, Jobs.is_current}
 use Rattle.osjobs.proofs.Keeping.{ends, fewer-holders, if-found, there}
-use Rattle.osjobs.proofs.Stamps.{ascending-less}
-use Rattle.osjobs.specs.Jobs.{is_current}
-use Rattle.osjobs.proofs.CurrentJob.{job-ended}
+use Rattle.osjobs.proofs.{Stamps.ascending-less, CurrentJob.job-ended}
 use Rattle.osjobs.proofs.jobs.Jobs.end.Goals as goal
 
 pub dequeue-requires : goal.dequeue-requires

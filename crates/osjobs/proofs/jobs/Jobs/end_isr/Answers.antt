@@ -1,5 +1,4 @@
-use Rattle.std.proofs.Common.{refl}
-use Rattle.std.proofs.lemmas.Bool.{false≢true}
+use Rattle.std.proofs.{Common.refl, lemmas.Bool.false≢true}
 use Rattle.osbase.specs.declared.references.Runner.TheVariants as Runner
 use Rattle.oscript.specs.Runners.{ended}
 use Rattle.osjobs.proofs.Keeping.{fewer-holders, keeps}

@@ -1,8 +1,6 @@
 use Rattle.std.proofs.Common.{refl, arith}
 use Rattle.osqueue.specs.declared.ready.TheConstants.{PRIORITIES}
-use Rattle.osjobs.proofs.Configured.{all-below, few-priorities}
-use Rattle.osjobs.proofs.Counting.{none-counted}
-use Rattle.osjobs.proofs.Keeping.{none-held, places-new}
+use Rattle.osjobs.proofs.{Configured.all-below, Configured.few-priorities, Counting.none-counted, Keeping.none-held, Keeping.places-new}
 use Rattle.osjobs.proofs.jobs.Jobs.new.Goals as goal
 
 pub invariant_of-result : goal.invariant_of-result

@@ -1,16 +1,11 @@
 use Rattle.std.proofs.Common.{◌≡◌, ◌≤◌, ◌<◌, true, rules, ap, sym, subst, ◌∙◌}
 use Rattle.std.specs.List.{Contains}
 use Rattle.osbase.specs.declared.references.Runner.TheVariants as Runner
-use Rattle.osbase.specs.declared.histories.Job.{Job}
-use Rattle.osbase.specs.History.{is_waiting, job_count, oldest}
+use Rattle.osbase.specs.{declared.histories.Job.Job, History.is_waiting, History.job_count, History.oldest}
 use Rattle.oscript.specs.Runners.{Row}
-use Rattle.osjobs.specs.Jobs.{Each, JobState}
-use Rattle.osjobs.specs.OwnTasks.{is_own_task}
-use Rattle.osjobs.specs.Queue.{entry_of}
-use Rattle.osjobs.specs.Ranking.{is_awake_in}
+use Rattle.osjobs.specs.{Jobs.Each, Jobs.JobState, OwnTasks.is_own_task, Queue.entry_of, Ranking.is_awake_in}
 use Rattle.osjobs.proofs.Keeping.{behind-others, fewer-holders, if-found, own-restamped, releases, room-left, there}
-use Rattle.osjobs.proofs.Stamps.{ascending-anew}
-use Rattle.osjobs.proofs.CurrentJob.{job-anew}
+use Rattle.osjobs.proofs.{Stamps.ascending-anew, CurrentJob.job-anew}
 use Rattle.osjobs.proofs.jobs.Jobs.release.Goals as goal
 
 pub dequeue-requires : goal.dequeue-requires

@@ -1,13 +1,9 @@
 use Rattle.std.proofs.Common.{◌≡◌, ◌≤◌, true, refl, rules, ap, sym, subst, ◌∙◌}
 use Rattle.std.specs.List.{Contains}
 use Rattle.osbase.specs.declared.references.Runner.TheVariants as Runner
-use Rattle.osbase.specs.declared.histories.Job.{Job}
-use Rattle.osbase.specs.History.{job_count, oldest}
+use Rattle.osbase.specs.{declared.histories.Job.Job, History.job_count, History.oldest}
 use Rattle.oscript.specs.Runners.{waiting_for}
-use Rattle.osjobs.specs.Jobs.{JobState}
-use Rattle.osjobs.specs.OwnTasks.{is_own_task}
-use Rattle.osjobs.specs.Queue.{entry_of}
-use Rattle.osjobs.specs.Ranking.{is_awake_in}
+use Rattle.osjobs.specs.{Jobs.JobState, OwnTasks.is_own_task, Queue.entry_of, Ranking.is_awake_in}
 use Rattle.osjobs.proofs.Keeping.{fewer-holders, if-found, there, waits}
 use Rattle.osjobs.proofs.jobs.Jobs.wait.Goals as goal
 

@@ -1,5 +1,4 @@
-use Rattle.std.proofs.Common.{◌∙◌, refl, arith}
-use Rattle.std.proofs.lemmas.{Bool.and_from, Grind.common_steps}
+use Rattle.std.proofs.{Common.◌∙◌, Common.refl, Common.arith, lemmas.Bool.and_from, lemmas.Grind.common_steps}
 use Rattle.osvalidate.proofs.Counting.{core_shorts}
 use Rattle.osload.proofs.plans.TextPlannerPlannerCoreTextCore.plan.Goals as goal
 

@@ -1,9 +1,7 @@
 use Rattle.std.proofs.Common.{◌≡◌, ◌+◌, ◌∷◌, ◌++◌, ◌∙◌, List, [], length, length-append, subst, sym, ap, arith}
 use Rattle.std.proofs.lemmas.List.{length-map, map-append}
-use Rattle.osbase.specs.declared.messages.Envelope.{Envelope}
-use Rattle.osbase.specs.declared.messages.Letter.{Letter}
-use Rattle.osmail.specs.Ends.{letters_of}
-use Rattle.osmail.specs.Mailboxes.{AreNumbered, IsNext, MailboxState}
+use Rattle.osbase.specs.{declared.messages.Envelope.Envelope, declared.messages.Letter.Letter}
+use Rattle.osmail.specs.{Ends.letters_of, Mailboxes.AreNumbered, Mailboxes.IsNext, Mailboxes.MailboxState}
 use Rattle.osmail.proofs.Steps.{numbered-push}
 use Rattle.osmail.proofs.mailbox.Mailbox.push.Goals as goal
 

@@ -1,5 +1,4 @@
-use Rattle.std.proofs.Common.{arith}
-use Rattle.std.proofs.lemmas.Grind.{common_steps}
+use Rattle.std.proofs.{Common.arith, lemmas.Grind.common_steps}
 use Rattle.osmail.specs.Ends.{sent_to, taken_from}
 use Rattle.osmail.proofs.Left.{left_differs, left_whole}
 use Rattle.osmail.proofs.mailbox.Mailbox.settles.Goals as goal

@@ -1,6 +1,5 @@
 use Rattle.std.proofs.Common.{◌≡◌, true, Option, is_some, List, subst, sym}
-use Rattle.osqueue.specs.declared.ready.Ready.{Ready}
-use Rattle.osqueue.specs.Links.{at}
+use Rattle.osqueue.specs.{declared.ready.Ready.Ready, Links.at}
 use Rattle.osqueue.proofs.Pooling.{has-free, pool-cleared}
 use Rattle.osqueue.proofs.pool.Pool.clear.Goals as goal
 

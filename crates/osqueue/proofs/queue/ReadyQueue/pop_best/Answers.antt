@@ -1,9 +1,8 @@
 use Rattle.std.proofs.Common.{◌≡◌, ◌<◌, ℕ, List, drop, ap, sym, subst, ◌∙◌}
-use Rattle.std.specs.Int.{bit_at}
-use Rattle.std.specs.List.{All, slice_get, slice_index}
+use Rattle.std.specs.{Int.bit_at, List.All, List.slice_get, List.slice_index}
 use Rattle.std.proofs.lemmas.Nat.Bits.{bit_at-zero}
-use Rattle.osqueue.specs.declared.ready.Ready.{Ready}
-use Rattle.osqueue.specs.Ordered.{ComesAfter, IsBest, ordered}
+use Rattle.osqueue.specs.{declared.ready.Ready.Ready, Ordered.ComesAfter, Ordered.IsBest, Ordered.ordered}
+use Rattle.osqueue.proofs.Bits.{changed-here, changed-others}
 use Rattle.osqueue.proofs.Queueing.{empty, pop-ahead, pop-best, pop-first, pop-list, pop-only}
 use Rattle.osqueue.proofs.queue.ReadyQueue.pop_best.Goals as goal
 
@@ -21,8 +20,8 @@ returns-then-word-eq0-clause-rest g c = returns-then-word-eq0-clause-none g c �
 pub invariant_of-self : goal.invariant_of-self
 invariant_of-self g c =
     let mark : bit_at c.self.inside.fronts.word c.greatest-priority.result ≡ 1 = rw c.word-word.ensures.word at c.greatest-priority.ensures.marked in
-    let others : (q : ℕ) → (q ≡ c.greatest-priority.result → ⊥) → bit_at c.unmarked.result q ≡ bit_at c.self.inside.fronts.word q = (λ q other. c.unmarked.ensures.others q other ∙ ap (λ (w : ℕ). bit_at w q) c.word-word.ensures.word) in
-    rw (c.put_word.ensures, c.clear.ensures) (pop-only g.row.P g.row.J _ _ _ _ _ c.self.invariant c.self.told c.self.told2 c.greatest-priority.result c.place-place.result c.get-ready.result mark c.place-place.ensures.place c.get-ready.ensures c.unmarked.result (c.if-place-end.true ∙ ap (slice_index c.self.inside.ends) c.from.ensures) c.unmarked.ensures.here others)
+    let others : (q : ℕ) → (q ≡ c.greatest-priority.result → ⊥) → bit_at c.unmarked.result q ≡ bit_at c.self.inside.fronts.word q = (λ q other. changed-others c.word-word.result c.unmarked.result c.greatest-priority.result 0 c.unmarked.ensures.bits q other ∙ ap (λ (w : ℕ). bit_at w q) c.word-word.ensures.word) in
+    rw (c.put_word.ensures, c.clear.ensures) (pop-only g.row.P g.row.J _ _ _ _ _ c.self.invariant c.self.told c.self.told2 c.greatest-priority.result c.place-place.result c.get-ready.result mark c.place-place.ensures.place c.get-ready.ensures c.unmarked.result (c.if-place-end.true ∙ ap (slice_index c.self.inside.ends) c.from.ensures) (changed-here c.word-word.result c.unmarked.result c.greatest-priority.result 0 c.unmarked.ensures.bits) others)
 
 pub invariant_of-self-else-place-end : goal.invariant_of-self-else-place-end
 invariant_of-self-else-place-end g c =

@@ -1,43 +1,43 @@
-use Rattle.std.proofs.Common.{◌≡◌, ◌<◌, ℕ, arith, rules, ap, sym, subst, ◌∙◌}
-use Rattle.std.specs.Int.{bit_at}
-use Rattle.std.specs.List.{All, slice_index}
+use Rattle.std.proofs.Common.{◌≡◌, ◌<◌, ℕ, Bool, cond, arith, rules, ap, sym, subst, ◌∙◌}
+use Rattle.std.specs.{Int.bit_at, List.All, List.slice_index}
 use Rattle.osqueue.specs.Ordered.{ComesBefore, ordered, placed}
+use Rattle.osqueue.proofs.Bits.{changed-here, changed-others}
 use Rattle.osqueue.proofs.Queueing.{alone, behind, end-within, listed, older-all}
 use Rattle.osqueue.proofs.queue.ReadyQueue.push_back.Goals as goal
 
 pub offset_bounds-self-inside-end : goal.offset_bounds-self-inside-end
 offset_bounds-self-inside-end g c =
-    let mark : bit_at c.self.inside.fronts.word c.args.ready.priority ≡ 1 = rw c.word-word.ensures.word at (c.is_marked.ensures.marked c.if-is_marked.true) in
+    let mark : bit_at c.self.inside.fronts.word c.args.ready.priority ≡ 1 = rw c.word-word.ensures.word at (c.is_marked.ensures ∙ ap (λ (b : Bool). cond b 1 0) c.if-is_marked.true) in
     let within : slice_index c.self.inside.ends c.from.result < g.row.J = rw c.from.ensures (end-within g.row.P g.row.J _ _ _ _ _ c.self.invariant c.self.told c.self.told2 c.args.ready.priority mark) in
     search rules
 
 pub bounds-self-inside-end : goal.bounds-self-inside-end
 bounds-self-inside-end g c =
-    let mark : bit_at c.self.inside.fronts.word c.args.ready.priority ≡ 1 = rw c.word-word.ensures.word at (c.is_marked.ensures.marked c.if-is_marked.true) in
+    let mark : bit_at c.self.inside.fronts.word c.args.ready.priority ≡ 1 = rw c.word-word.ensures.word at (c.is_marked.ensures ∙ ap (λ (b : Bool). cond b 1 0) c.if-is_marked.true) in
     rw c.from.ensures (end-within g.row.P g.row.J _ _ _ _ _ c.self.invariant c.self.told c.self.told2 c.args.ready.priority mark)
 
 pub invariant_of-self : goal.invariant_of-self
 invariant_of-self g c =
-    let mark : bit_at c.self.inside.fronts.word c.args.ready.priority ≡ 1 = rw c.word-word.ensures.word at (c.is_marked.ensures.marked c.if-is_marked.true) in
+    let mark : bit_at c.self.inside.fronts.word c.args.ready.priority ≡ 1 = rw c.word-word.ensures.word at (c.is_marked.ensures ∙ ap (λ (b : Bool). cond b 1 0) c.if-is_marked.true) in
     let newest : All (ComesBefore c.args.ready) (ordered c.self.inside.pool) = subst (All (ComesBefore c.args.ready)) (sym c.self.view_is) c.requires.newest in
-    rw (c.from-then-is_marked.ensures, c.from.ensures, c.put-place.ensures.pool) (behind g.row.P g.row.J _ _ _ _ _ c.self.invariant c.self.told c.self.told2 c.put-place.result c.args.ready c.put-place.ensures.within c.put-place.ensures.blank c.requires.priority c.requires.marked mark newest)
+    rw (c.from-then-is_marked.ensures, c.from.ensures, c.put-place.ensures.pool) (behind g.row.P g.row.J _ _ _ _ _ c.self.invariant c.self.told c.self.told2 c.put-place.result c.args.ready c.put-place.ensures.within c.put-place.ensures.blank c.requires.place.priority c.requires.place.marked mark newest)
 
 pub invariant_of-self-else-is_marked : goal.invariant_of-self-else-is_marked
 invariant_of-self-else-is_marked g c =
-    let none : bit_at c.self.inside.fronts.word c.args.ready.priority ≡ 0 = rw c.word-word.ensures.word at (c.is_marked.ensures.unmarked c.if-is_marked.false) in
-    let others : (q : ℕ) → (q ≡ c.args.ready.priority → ⊥) → bit_at c.marked.result q ≡ bit_at c.self.inside.fronts.word q = (λ q other. c.marked.ensures.others q other ∙ ap (λ (w : ℕ). bit_at w q) c.word-word.ensures.word) in
-    rw (c.put_word.ensures, c.put_place.ensures, c.from-else-is_marked.ensures, c.put-place.ensures.pool) (alone g.row.P g.row.J _ _ _ _ _ c.self.invariant c.self.told c.self.told2 c.put-place.result c.args.ready c.put-place.ensures.within c.put-place.ensures.blank c.requires.priority c.requires.marked c.marked.result none c.marked.ensures.here others)
+    let none : bit_at c.self.inside.fronts.word c.args.ready.priority ≡ 0 = rw c.word-word.ensures.word at (c.is_marked.ensures ∙ ap (λ (b : Bool). cond b 1 0) c.if-is_marked.false) in
+    let others : (q : ℕ) → (q ≡ c.args.ready.priority → ⊥) → bit_at c.marked.result q ≡ bit_at c.self.inside.fronts.word q = (λ q other. changed-others c.word-word.result c.marked.result c.args.ready.priority 1 c.marked.ensures q other ∙ ap (λ (w : ℕ). bit_at w q) c.word-word.ensures.word) in
+    rw (c.put_word.ensures, c.put_place.ensures, c.from-else-is_marked.ensures, c.put-place.ensures.pool) (alone g.row.P g.row.J _ _ _ _ _ c.self.invariant c.self.told c.self.told2 c.put-place.result c.args.ready c.put-place.ensures.within c.put-place.ensures.blank c.requires.place.priority c.requires.place.marked c.marked.result none (changed-here c.word-word.result c.marked.result c.args.ready.priority 1 c.marked.ensures) others)
 
 pub returns-then-is_marked-clause-list : goal.returns-then-is_marked-clause-list
 returns-then-is_marked-clause-list g c =
     let newest : All (ComesBefore c.args.ready) (ordered c.self.inside.pool) = subst (All (ComesBefore c.args.ready)) (sym c.self.view_is) c.requires.newest in
     ap ordered c.put-place.ensures.pool
-    ∙ listed g.row.P g.row.J _ _ _ _ _ c.self.invariant c.self.told c.self.told2 c.put-place.result c.args.ready c.put-place.ensures.within c.put-place.ensures.blank c.requires.priority c.requires.marked (λ i used p s. omega (arith, s, older-all g.row.P g.row.J _ _ _ _ _ c.self.invariant c.self.told c.self.told2 c.put-place.result c.args.ready c.put-place.ensures.within c.put-place.ensures.blank c.requires.priority c.requires.marked newest i used p))
+    ∙ listed g.row.P g.row.J _ _ _ _ _ c.self.invariant c.self.told c.self.told2 c.put-place.result c.args.ready c.put-place.ensures.within c.put-place.ensures.blank c.requires.place.priority c.requires.place.marked (λ i used p s. omega (arith, s, older-all g.row.P g.row.J _ _ _ _ _ c.self.invariant c.self.told c.self.told2 c.put-place.result c.args.ready c.put-place.ensures.within c.put-place.ensures.blank c.requires.place.priority c.requires.place.marked newest i used p))
     ∙ ap (placed c.args.ready) c.self.view_is
 
 pub returns-else-is_marked-clause-list : goal.returns-else-is_marked-clause-list
 returns-else-is_marked-clause-list g c =
     let newest : All (ComesBefore c.args.ready) (ordered c.self.inside.pool) = subst (All (ComesBefore c.args.ready)) (sym c.self.view_is) c.requires.newest in
     ap ordered c.put-place.ensures.pool
-    ∙ listed g.row.P g.row.J _ _ _ _ _ c.self.invariant c.self.told c.self.told2 c.put-place.result c.args.ready c.put-place.ensures.within c.put-place.ensures.blank c.requires.priority c.requires.marked (λ i used p s. omega (arith, s, older-all g.row.P g.row.J _ _ _ _ _ c.self.invariant c.self.told c.self.told2 c.put-place.result c.args.ready c.put-place.ensures.within c.put-place.ensures.blank c.requires.priority c.requires.marked newest i used p))
+    ∙ listed g.row.P g.row.J _ _ _ _ _ c.self.invariant c.self.told c.self.told2 c.put-place.result c.args.ready c.put-place.ensures.within c.put-place.ensures.blank c.requires.place.priority c.requires.place.marked (λ i used p s. omega (arith, s, older-all g.row.P g.row.J _ _ _ _ _ c.self.invariant c.self.told c.self.told2 c.put-place.result c.args.ready c.put-place.ensures.within c.put-place.ensures.blank c.requires.place.priority c.requires.place.marked newest i used p))
     ∙ ap (placed c.args.ready) c.self.view_is

@@ -1,9 +1,7 @@
-use Rattle.std.proofs.Common.{◌≡◌, ◌<◌, ℕ, Some, true, is_some, List, length, refl, rules, ap, sym, subst, ◌∙◌}
-use Rattle.std.specs.Int.{bit_at}
-use Rattle.std.specs.List.{Contains, slice_index}
-use Rattle.osqueue.specs.declared.ready.Ready.{Ready}
-use Rattle.osqueue.specs.Ordered.{ordered, without}
-use Rattle.osqueue.specs.Links.{IsOnTheWay, IsWay, at}
+use Rattle.std.proofs.Common.{◌≡◌, ◌<◌, ℕ, Some, true, is_some, List, refl, rules, ap, sym, subst, ◌∙◌}
+use Rattle.std.specs.{Int.bit_at, List.Contains, List.slice_index}
+use Rattle.osqueue.specs.{declared.ready.Ready.Ready, Ordered.ordered, Ordered.without, Links.IsOnTheWay, Links.IsReachable, Links.at}
+use Rattle.osqueue.proofs.Bits.{changed-here, changed-others}
 use Rattle.osqueue.proofs.Queueing.{asked-behind, asked-front, asked-low, asked-mark, asked-narrow, asked-start, asked-way, front-used, out, without-first, without-last, without-middle, without-only}
 use Rattle.osqueue.proofs.queue.ReadyQueue.remove.Goals as goal
 
@@ -29,9 +27,8 @@ pub place_before-before-requires : goal.place_before-before-requires
 place_before-before-requires g c =
     let there : Contains (ordered c.self.inside.pool) c.args.ready = subst (λ (l : List Ready). Contains l c.args.ready) (sym c.self.view_is) c.requires.there in
     let first-is : at c.self.inside.pool (slice_index c.self.inside.fronts.places c.args.ready.priority) ≡ Some c.get-oldest.result = ap (at c.self.inside.pool) (sym c.place-first.ensures.place) ∙ c.get-oldest.ensures in
-    let start : IsOnTheWay c.self.inside.pool c.args.ready c.place-first.result = rw c.place-first.ensures.place (asked-start g.row.P g.row.J _ _ _ _ _ c.self.invariant c.self.told c.self.told2 c.args.ready there c.get-oldest.result first-is c.if-oldest-ready.true) in
-    let way : IsWay c.self.inside.pool c.self.inside.next c.args.ready = asked-way g.row.P g.row.J _ _ _ _ _ c.self.invariant c.self.told c.self.told2 c.args.ready there in
-    let size : length c.self.inside.pool ≡ g.row.J = c.self.invariant.size in
+    let first : IsOnTheWay c.self.inside.pool c.args.ready c.place-first.result = rw c.place-first.ensures.place (asked-start g.row.P g.row.J _ _ _ _ _ c.self.invariant c.self.told c.self.told2 c.args.ready there c.get-oldest.result first-is c.if-oldest-ready.true) in
+    let reachable : IsReachable g.row.J c.self.inside.pool c.self.inside.next c.args.ready c.place-first.result = record { size = c.self.invariant.size; first = first; way = asked-way g.row.P g.row.J _ _ _ _ _ c.self.invariant c.self.told c.self.told2 c.args.ready there } in
     search rules
 
 pub invariant_of-self : goal.invariant_of-self
@@ -56,8 +53,8 @@ invariant_of-self-then-first-end g c =
     let there : Contains (ordered c.self.inside.pool) c.args.ready = subst (λ (l : List Ready). Contains l c.args.ready) (sym c.self.view_is) c.requires.there in
     let first-is : at c.self.inside.pool (slice_index c.self.inside.fronts.places c.args.ready.priority) ≡ Some c.get-oldest.result = ap (at c.self.inside.pool) (sym c.place-first.ensures.place) ∙ c.get-oldest.ensures in
     let place-is : at c.self.inside.pool c.place-first.result ≡ Some c.args.ready = ap (at c.self.inside.pool) c.place-first.ensures.place ∙ asked-front g.row.P g.row.J _ _ _ _ _ c.self.invariant c.self.told c.self.told2 c.args.ready there c.get-oldest.result first-is c.if-oldest-ready.false in
-    let others : (q : ℕ) → (q ≡ c.args.ready.priority → ⊥) → bit_at c.unmarked-rest.result q ≡ bit_at c.self.inside.fronts.word q = (λ q other. c.unmarked-rest.ensures.others q other ∙ ap (λ (w : ℕ). bit_at w q) c.word-word.ensures.word) in
-    rw (c.put_word.ensures, c.clear-then-first-end.ensures) (without-only g.row.P g.row.J _ _ _ _ _ c.self.invariant c.self.told c.self.told2 c.place-first.result c.args.ready place-is c.unmarked-rest.result c.place-first.ensures.place (c.if-first-end.true ∙ ap (slice_index c.self.inside.ends) c.from.ensures) c.unmarked-rest.ensures.here others)
+    let others : (q : ℕ) → (q ≡ c.args.ready.priority → ⊥) → bit_at c.unmarked-rest.result q ≡ bit_at c.self.inside.fronts.word q = (λ q other. changed-others c.word-word.result c.unmarked-rest.result c.args.ready.priority 0 c.unmarked-rest.ensures.bits q other ∙ ap (λ (w : ℕ). bit_at w q) c.word-word.ensures.word) in
+    rw (c.put_word.ensures, c.clear-then-first-end.ensures) (without-only g.row.P g.row.J _ _ _ _ _ c.self.invariant c.self.told c.self.told2 c.place-first.result c.args.ready place-is c.unmarked-rest.result c.place-first.ensures.place (c.if-first-end.true ∙ ap (slice_index c.self.inside.ends) c.from.ensures) (changed-here c.word-word.result c.unmarked-rest.result c.args.ready.priority 0 c.unmarked-rest.ensures.bits) others)
 
 pub invariant_of-self-else-first-end : goal.invariant_of-self-else-first-end
 invariant_of-self-else-first-end g c =

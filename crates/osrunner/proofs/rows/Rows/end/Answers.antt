@@ -1,11 +1,9 @@
-use Rattle.std.proofs.Common.{◌≡◌, ◌==◌, ℕ, true, false, length, List, refl, rules, ap, ◌∙◌, drop}
+use Rattle.std.proofs.Common.{◌≡◌, ◌==◌, ℕ, true, false, length, refl, rules, ap, ◌∙◌, drop}
 use Rattle.std.proofs.lemmas.Bool.{eqb-true}
-use Rattle.oscript.specs.Runners.{Row, ended}
-use Rattle.oscript.specs.Frames.{rewound}
+use Rattle.oscript.specs.{Runners.Row, Runners.ended, Frames.rewound}
 use Rattle.osrunner.specs.Rows.{held_in, with_row, with_row_at}
 use Rattle.osbase.specs.Sets.{slot_of}
-use Rattle.osrunner.proofs.Counts.{kept}
-use Rattle.osrunner.proofs.Places.{change-again, free-end, lowered-smaller}
+use Rattle.osrunner.proofs.{Counts.kept, Places.change-again, Places.free-end, Places.lowered-smaller}
 use Rattle.osrunner.proofs.rows.Rows.end.Goals as goal
 
 pub loop-self-smaller : goal.loop-self-smaller

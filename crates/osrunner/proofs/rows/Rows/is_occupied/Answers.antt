@@ -1,4 +1,4 @@
-use Rattle.std.proofs.Common.{◌≡◌, ℕ, false, List, ap, sym, ◌∙◌}
+use Rattle.std.proofs.Common.{ℕ, false, List, ap, sym, ◌∙◌}
 use Rattle.std.specs.List.{slice_index_or}
 use Rattle.oscript.specs.Runners.{Row}
 use Rattle.osrunner.specs.Rows.{is_occupied}

@@ -1,4 +1,4 @@
-use Rattle.std.proofs.Common.{◌≡◌, Some, rules, arith}
+use Rattle.std.proofs.Common.{◌≡◌, Some, rules}
 use Rattle.std.specs.List.{slice_get}
 use Rattle.osrunner.specs.Rows.{row_at}
 use Rattle.osrunner.proofs.Counts.{given, place-of}

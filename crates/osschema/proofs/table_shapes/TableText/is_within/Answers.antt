@@ -2,8 +2,7 @@ use Rattle.std.proofs.Common.{◌≡◌, ◌∙◌, nat_le, true, rules, length,
 use Rattle.std.specs.List.{list_all}
 use Rattle.std.proofs.{lemmas.List.length-map, lemmas.List.Folds.list_all-map}
 use Rattle.osplan.specs.Limits.{is_between, is_point_within}
-use Rattle.osschema.specs.Shape.{point_sizes}
-use Rattle.osschema.specs.declared.table_shapes.PointText.{PointText}
+use Rattle.osschema.specs.{Shape.point_sizes, declared.table_shapes.PointText.PointText}
 use Rattle.osschema.proofs.table_shapes.TableText.is_within.Goals as goal
 
 pub returns-then-is_each_point_within : goal.returns-then-is_each_point_within

@@ -1,8 +1,7 @@
 use Rattle.std.proofs.Common.{ℕ, sym, ap, subst, ◌<◌, ◌==◌}
 use prog.Atomic.{either}
 use Rattle.osshared.specs.Seats.{Held, Place}
-use Rattle.osshared.proofs.Steps.{allows_here}
-use Rattle.osshared.proofs.Gathers.{answers, still_seated, same_table}
+use Rattle.osshared.proofs.{Steps.allows_here, Gathers.answers, Gathers.still_seated, Gathers.same_table}
 use Rattle.osshared.proofs.words.SharedWords.compare_exchange.Goals as goal
 
 pub compare_exchange-requires : goal.compare_exchange-requires

@@ -1,7 +1,6 @@
 use Rattle.std.proofs.Common.{ℕ, sym, ap, subst, ◌<◌, bit_or}
 use Rattle.osshared.specs.Seats.{Held, Place}
-use Rattle.osshared.proofs.Steps.{allows_here}
-use Rattle.osshared.proofs.Gathers.{answers, still_seated, same_table}
+use Rattle.osshared.proofs.{Steps.allows_here, Gathers.answers, Gathers.still_seated, Gathers.same_table}
 use Rattle.osshared.proofs.words.SharedWords.fetch_or.Goals as goal
 
 pub fetch_or-requires : goal.fetch_or-requires

@@ -2,9 +2,7 @@ use Rattle.std.proofs.Math.Numerals.{add-one}
 use Rattle.std.proofs.Common.{ℕ, ◌+◌, get_or, map, take, ◌≡◌, ◌<◌, length, drop, List, ap, sym, subst, ◌∙◌, arith}
 use Rattle.atomic_table.specs.Seated.{TableId}
 use Rattle.osbase.specs.declared.references.CoreId.{CoreId}
-use Rattle.osshared.specs.declared.histories.Plan.{Plan}
-use Rattle.osshared.specs.Seats.{AllApart, Place, fresh}
-use Rattle.osshared.specs.Views.{dealer, held_at}
+use Rattle.osshared.specs.{declared.histories.Plan.Plan, Seats.AllApart, Seats.Place, Seats.fresh, Views.dealer, Views.held_at}
 use Rattle.osshared.proofs.Moves.{opens, deals, dealt_next, dealt_fresh, one_more}
 use Rattle.osshared.proofs.words.SharedWords.new.Goals as goal
 

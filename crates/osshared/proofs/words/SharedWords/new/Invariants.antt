@@ -1,6 +1,5 @@
 use Rattle.std.proofs.Common.{◌≡◌, map, take, drop}
-use Rattle.osshared.specs.Seats.{fresh}
-use Rattle.osshared.specs.Views.{dealer}
+use Rattle.osshared.specs.{Seats.fresh, Views.dealer}
 use Rattle.osshared.proofs.words.SharedWords.new.Given as goal
 
 abbrev pub invariant-loop-core : goal.invariant-loop-core

@@ -1,10 +1,8 @@
 use Rattle.std.proofs.Common.{◌<◌, rules, sym, subst}
 use Rattle.osbase.specs.declared.references.Runner.TheVariants as Runner
 use Rattle.osbase.specs.History.{job_count}
-use Rattle.osstate.specs.Sound.{interrupt_limit}
-use Rattle.osstate.specs.State.{KernelState}
-use Rattle.osstate.proofs.Room.{interrupt_place}
-use Rattle.osstate.proofs.Sounds.{accepted}
+use Rattle.osstate.specs.{Sound.interrupt_limit, State.KernelState}
+use Rattle.osstate.proofs.{Room.interrupt_place, Sounds.accepted}
 use Rattle.osstate.proofs.state.CoreState.accept.Goals as goal
 
 pub accept-requires : goal.accept-requires

@@ -1,14 +1,10 @@
 use Rattle.std.proofs.Common.{◌≡◌, ◌<◌, false, rules, arith, sym, subst}
 use Rattle.osbase.specs.declared.references.Runner.TheVariants as Runner
-use Rattle.osbase.specs.History.{Printed, job_count}
-use Rattle.osbase.specs.Phases.{is_before_live}
+use Rattle.osbase.specs.{History.Printed, History.job_count, Phases.is_before_live}
 use Rattle.osjobs.proofs.Configured.{own-listed}
 use Rattle.osbase.specs.declared.marks.Mark.TheVariants as Mark
-use Rattle.osstate.specs.Sound.{IsSound, activation_limit}
-use Rattle.osstate.specs.State.{KernelState}
-use Rattle.osstate.proofs.Sounds.{activated, place}
-use Rattle.osstate.proofs.Histories.{own-step}
-use Rattle.osstate.proofs.Room.{own_from_place}
+use Rattle.osstate.specs.{Sound.IsSound, Sound.activation_limit, State.KernelState}
+use Rattle.osstate.proofs.{Sounds.activated, Sounds.place, Histories.own-step, Room.own_from_place}
 use Rattle.osstate.proofs.state.CoreState.activate.Goals as goal
 
 pub activate-requires : goal.activate-requires

@@ -1,10 +1,7 @@
 use Rattle.std.proofs.Common.{◌≡◌, true, None, Option, is_some, rules, ap, sym, subst, ◌∙◌}
-use Rattle.osplan.specs.declared.plans.Alarm.{Alarm}
-use Rattle.osplan.specs.View.{own_alarm}
+use Rattle.osplan.specs.{declared.plans.Alarm.Alarm, View.own_alarm, Objects.core_actions, Objects.may_act}
 use Rattle.osclock.proofs.Places.{alarm-some}
 use Rattle.std.specs.List.{list_all}
-use Rattle.osplan.specs.Objects.{core_actions}
-use Rattle.osplan.specs.Objects.{may_act}
 use Rattle.osstate.specs.State.{KernelState}
 use Rattle.osstate.proofs.ReadLemmas.{known_timed}
 use Rattle.osstate.proofs.state.CoreState.alarm_action.Goals as goal

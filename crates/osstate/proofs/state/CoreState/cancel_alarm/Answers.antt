@@ -1,4 +1,4 @@
-use Rattle.std.proofs.Common.{refl, sym, subst}
+use Rattle.std.proofs.Common.{sym, subst}
 use Rattle.osbase.specs.History.{Noted, AlarmCancelled}
 use Rattle.osclock.specs.Clocks.{AreClocks}
 use Rattle.osclock.proofs.Asked.{kept}

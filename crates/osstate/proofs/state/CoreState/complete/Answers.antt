@@ -1,8 +1,7 @@
 use Rattle.std.proofs.Common.{rules, refl, subst}
 use Rattle.osbase.specs.History.{Noted, Done}
 use Rattle.osstate.specs.Sound.{IsSound}
-use Rattle.osstate.proofs.Histories.{own-step}
-use Rattle.osstate.proofs.Sounds.{border-closed, goes-on, jobs-kept}
+use Rattle.osstate.proofs.{Histories.own-step, Sounds.border-closed, Sounds.goes-on, Sounds.jobs-kept}
 use Rattle.osstate.proofs.state.CoreState.complete.Goals as goal
 
 pub invariant_of-self : goal.invariant_of-self

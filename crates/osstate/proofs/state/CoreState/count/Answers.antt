@@ -2,10 +2,8 @@ use Rattle.std.proofs.Common.{refl, ap, sym, subst, ◌∙◌}
 use Rattle.osbase.specs.History.{Noted, CounterIncremented}
 use Rattle.osclock.specs.Clocks.{AreClocks}
 use Rattle.osclock.proofs.Asked.{kept}
-use Rattle.ostable.specs.Tables.{AreTables}
-use Rattle.ostable.specs.Waiting.{all_wait_by_counter}
-use Rattle.ostable.proofs.Asked.{kept as tables-kept}
-use Rattle.ostable.proofs.Waiting.{waits-kept}
+use Rattle.ostable.specs.{Tables.AreTables, Waiting.all_wait_by_counter}
+use Rattle.ostable.proofs.{Asked.kept as tables-kept, Waiting.waits-kept}
 use Rattle.osstate.proofs.Sounds.{clocked}
 use Rattle.osstate.proofs.state.CoreState.count.Goals as goal
 

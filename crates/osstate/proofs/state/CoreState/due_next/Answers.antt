@@ -1,7 +1,6 @@
 use Rattle.std.proofs.Common.{◌≡◌, List, true, ap, subst, sym, ◌∙◌, ◌≤◌, length}
 use Rattle.std.specs.List.{list_all}
-use Rattle.osbase.specs.declared.references.AlarmRef.{AlarmRef}
-use Rattle.osbase.specs.Objects.{alarm_object}
+use Rattle.osbase.specs.{declared.references.AlarmRef.AlarmRef, Objects.alarm_object}
 use Rattle.osplan.specs.Objects.{is_own_object}
 use Rattle.osplan.proofs.Tests.{length-filter-le}
 use Rattle.osclock.specs.Clocks.{attached_to, due_in, is_due_in}

@@ -1,11 +1,7 @@
 use Rattle.std.proofs.Common.{◌≡◌, List, true, ap, subst, sym, ◌∙◌, ◌≤◌, length, sum_by}
 use Rattle.std.specs.List.{list_all}
-use Rattle.ostable.specs.declared.tables.DueTable.{DueTable}
-use Rattle.ostable.specs.Tables.{due_tables_in, timed_by}
-use Rattle.ostable.specs.Waiting.{are_own, ends_alone, with_next}
-use Rattle.ostable.proofs.Asked.{dues-few, dues-own, dues-read}
-use Rattle.ostable.proofs.Finals.{ends-alone-in}
-use Rattle.ostable.proofs.Posted.{posted-in}
+use Rattle.ostable.specs.{declared.tables.DueTable.DueTable, Tables.due_tables_in, Tables.timed_by, Waiting.are_own, Waiting.ends_alone, Waiting.with_next}
+use Rattle.ostable.proofs.{Asked.dues-few, Asked.dues-own, Asked.dues-read, Finals.ends-alone-in, Posted.posted-in}
 use Rattle.osstate.specs.State.{KernelState}
 use Rattle.osstate.proofs.state.CoreState.due_tables.Goals as goal
 

@@ -2,8 +2,7 @@ use Rattle.std.proofs.Common.{◌≡◌, true, rules, sym, subst}
 use Rattle.osbase.specs.declared.references.Runner.TheVariants as Runner
 use Rattle.osjobs.specs.Priorities.{is_own_runner}
 use Rattle.osstate.specs.State.{KernelState}
-use Rattle.osstate.proofs.Room.{entered_place}
-use Rattle.osstate.proofs.Sounds.{isr_entered}
+use Rattle.osstate.proofs.{Room.entered_place, Sounds.isr_entered}
 use Rattle.osstate.proofs.state.CoreState.enter_isr.Goals as goal
 
 pub enter_isr-requires : goal.enter_isr-requires

@@ -1,8 +1,7 @@
 use Rattle.std.proofs.Common.{rules, refl, subst, []}
 use Rattle.osbase.specs.History.{Noted, ResourceReleased}
 use Rattle.osstate.specs.Sound.{IsSound}
-use Rattle.osstate.proofs.Histories.{own-step}
-use Rattle.osstate.proofs.Sounds.{same-jobs}
+use Rattle.osstate.proofs.{Histories.own-step, Sounds.same-jobs}
 use Rattle.osstate.proofs.state.CoreState.give_resource.Goals as goal
 
 pub invariant_of-self : goal.invariant_of-self

@@ -1,4 +1,3 @@
-use Rattle.std.proofs.Common.{refl}
 use Rattle.osstate.proofs.Sounds.{went-down}
 use Rattle.osstate.proofs.state.CoreState.go_down.Goals as goal
 

@@ -1,7 +1,5 @@
 use Rattle.std.proofs.Common.{◌≡◌, Option, Some, None, Bor, refl, ap, ◌∙◌, is_some, option_copied}
-use Rattle.osplan.specs.declared.plans.Plan.{Plan}
-use Rattle.osplan.specs.declared.plans.Core.{Core}
-use Rattle.osplan.specs.View.{core_of, is_configured}
+use Rattle.osplan.specs.{declared.plans.Plan.Plan, declared.plans.Core.Core, View.core_of, View.is_configured}
 use Rattle.osstate.specs.State.{KernelState}
 use Rattle.osstate.proofs.Begun.{is_some-core_of}
 use Rattle.osstate.proofs.state.CoreState.is_configured.Goals as goal

@@ -2,8 +2,7 @@ use Rattle.std.proofs.Common.{◌≡◌, ◌<◌, false, IsTrue, sym, subst, ◌
 use Rattle.osbase.specs.declared.references.Runner.TheVariants as Runner
 use Rattle.osbase.specs.History.{job_count}
 use Rattle.osjobs.specs.Priorities.{is_own_runner}
-use Rattle.osstate.specs.Sound.{interrupt_limit}
-use Rattle.osstate.specs.State.{KernelState}
+use Rattle.osstate.specs.{Sound.interrupt_limit, State.KernelState}
 use Rattle.osstate.proofs.Room.{not_pending}
 use Rattle.osstate.proofs.state.CoreState.is_pending.Goals as goal
 

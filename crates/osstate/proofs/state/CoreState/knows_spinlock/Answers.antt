@@ -1,7 +1,5 @@
-use Rattle.std.proofs.Common.{length, ap, arith}
-use Rattle.std.proofs.lemmas.Bool.{lt-ltb, ltb-true}
-use Rattle.osplan.specs.declared.plans.Plan.{Plan}
-use Rattle.osplan.specs.Limits.{sizes_of}
+use Rattle.std.proofs.{Common.length, Common.ap, Common.arith, lemmas.Bool.lt-ltb, lemmas.Bool.ltb-true}
+use Rattle.osplan.specs.{declared.plans.Plan.Plan, Limits.sizes_of}
 use Rattle.osplan.proofs.Within.{few-spinlocks, limit-parts}
 use Rattle.osstate.proofs.state.CoreState.knows_spinlock.Goals as goal
 

@@ -2,8 +2,7 @@ use Rattle.std.proofs.Common.{rules, subst}
 use Rattle.osbase.specs.declared.marks.Mark.TheVariants as Mark
 use Rattle.osbase.specs.History.{Printed}
 use Rattle.osstate.specs.Sound.{IsSound}
-use Rattle.osstate.proofs.Histories.{own-step}
-use Rattle.osstate.proofs.Sounds.{isr_left}
+use Rattle.osstate.proofs.{Histories.own-step, Sounds.isr_left}
 use Rattle.osstate.proofs.state.CoreState.leave_isr.Goals as goal
 
 pub invariant_of-self : goal.invariant_of-self

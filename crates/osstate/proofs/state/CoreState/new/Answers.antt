@@ -1,13 +1,10 @@
 use Rattle.std.proofs.Common.{◌≡◌, true, Some, ap, rules, sym, subst, ◌∙◌}
 use Rattle.osbase.specs.History.{same_core}
-use Rattle.osplan.specs.declared.plans.Plan.{Plan}
-use Rattle.osplan.specs.View.{View, core_of}
+use Rattle.osplan.specs.{declared.plans.Plan.Plan, View.View, View.core_of}
 use Rattle.osjobs.specs.Queue.{have_queues}
-use Rattle.osstate.specs.State.{KernelState}
-use Rattle.osstate.specs.Steps.{first_progress}
-use Rattle.osstate.specs.Sound.{IsSound}
-use Rattle.osplan.proofs.Clocked.{clocks_within}
-use Rattle.osplan.proofs.Within.{core-fits}
+use Rattle.osprogress.specs.Progress.{first_progress}
+use Rattle.osstate.specs.{State.KernelState, Sound.IsSound}
+use Rattle.osplan.proofs.{Clocked.clocks_within, Within.core-fits}
 use Rattle.osstate.proofs.Begun.{state-begun, sound-begun, parts-begun, view-own}
 use Rattle.osstate.proofs.state.CoreState.new.Goals as goal
 

@@ -1,9 +1,7 @@
 use Rattle.std.proofs.Common.{rules, ◌≡◌, true, subst}
 use Rattle.std.specs.List.{list_all}
 use Rattle.osrunner.specs.Rows.{frame_in}
-use Rattle.osstate.specs.Readings.{script_of}
-use Rattle.osstate.specs.Sound.{has_objects_of}
-use Rattle.osstate.specs.State.{KernelState}
+use Rattle.osstate.specs.{Readings.script_of, Sound.has_objects_of, State.KernelState}
 use Rattle.osstate.proofs.ReadLemmas.{known_action}
 use Rattle.osstate.proofs.state.CoreState.next_action.Goals as goal
 

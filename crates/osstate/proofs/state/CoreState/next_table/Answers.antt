@@ -1,12 +1,9 @@
 use Rattle.std.proofs.Common.{◌≡◌, true, Option, Some, None, IfSome, IsTrue, ap, subst, ◌∙◌}
 use Rattle.std.specs.Option.{option_map_or}
-use Rattle.osbase.specs.declared.references.TableRef.{TableRef}
-use Rattle.osbase.specs.Objects.{table_object}
-use Rattle.osplan.specs.declared.plans.Core.{Core}
-use Rattle.osplan.specs.Objects.{is_own_object}
+use Rattle.osbase.specs.{declared.references.TableRef.TableRef, Objects.table_object}
+use Rattle.osplan.specs.{declared.plans.Core.Core, Objects.is_own_object}
 use Rattle.ostable.specs.Tables.{TableStates, next_in}
-use Rattle.ostable.proofs.Asked.{next-own, next-read}
-use Rattle.ostable.proofs.Bounds.{tables-length}
+use Rattle.ostable.proofs.{Asked.next-own, Asked.next-read, Bounds.tables-length}
 use Rattle.osstate.specs.State.{KernelState}
 use Rattle.osstate.proofs.state.CoreState.next_table.Goals as goal
 

@@ -4,11 +4,8 @@ use Rattle.osjobs.specs.Priorities.{is_extended, is_own_runner}
 use Rattle.osjobs.proofs.Configured.{own-listed}
 use Rattle.osbase.specs.declared.marks.Mark.TheVariants as Mark
 use Rattle.osbase.specs.History.{Printed}
-use Rattle.osstate.specs.Sound.{IsSound}
-use Rattle.osstate.specs.State.{KernelState}
-use Rattle.osstate.proofs.Room.{one-job}
-use Rattle.osstate.proofs.Histories.{own-step}
-use Rattle.osstate.proofs.Sounds.{released}
+use Rattle.osstate.specs.{Sound.IsSound, State.KernelState}
+use Rattle.osstate.proofs.{Room.one-job, Histories.own-step, Sounds.released}
 use Rattle.osstate.proofs.state.CoreState.release.Goals as goal
 
 pub release-requires : goal.release-requires

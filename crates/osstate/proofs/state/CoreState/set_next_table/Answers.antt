@@ -1,9 +1,7 @@
-use Rattle.std.proofs.Common.{refl, ◌≡◌, true, ap, sym, subst, ◌∙◌}
+use Rattle.std.proofs.Common.{◌≡◌, true, ap, sym, subst, ◌∙◌}
 use Rattle.osbase.specs.History.{Noted, TableNext}
-use Rattle.ostable.specs.Tables.{AreTables}
-use Rattle.ostable.specs.Waiting.{all_wait_by_counter, are_of_one_counter}
-use Rattle.ostable.proofs.Asked.{kept}
-use Rattle.ostable.proofs.Waiting.{waits-kept}
+use Rattle.ostable.specs.{Tables.AreTables, Waiting.all_wait_by_counter, Waiting.are_of_one_counter}
+use Rattle.ostable.proofs.{Asked.kept, Waiting.waits-kept}
 use Rattle.osstate.specs.State.{KernelState}
 use Rattle.osstate.proofs.Sounds.{clocked}
 use Rattle.osstate.proofs.state.CoreState.set_next_table.Goals as goal

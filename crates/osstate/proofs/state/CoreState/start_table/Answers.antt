@@ -1,9 +1,7 @@
 use Rattle.std.proofs.Common.{refl, ap, sym, subst, ◌∙◌}
 use Rattle.osbase.specs.History.{Noted, TableStarted}
-use Rattle.ostable.specs.Tables.{AreTables}
-use Rattle.ostable.specs.Waiting.{all_wait_by_counter}
-use Rattle.ostable.proofs.Asked.{kept}
-use Rattle.ostable.proofs.Waiting.{waits-kept}
+use Rattle.ostable.specs.{Tables.AreTables, Waiting.all_wait_by_counter}
+use Rattle.ostable.proofs.{Asked.kept, Waiting.waits-kept}
 use Rattle.osstate.proofs.Sounds.{clocked}
 use Rattle.osstate.proofs.state.CoreState.start_table.Goals as goal
 

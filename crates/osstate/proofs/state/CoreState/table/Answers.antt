@@ -1,8 +1,6 @@
 use Rattle.std.proofs.Common.{IfSome, IsTrue, subst}
-use Rattle.std.specs.List.{list_all}
-use Rattle.std.specs.Option.{option_copied}
-use Rattle.osplan.specs.Objects.{table_actions}
-use Rattle.osplan.specs.Objects.{may_act}
+use Rattle.std.specs.{List.list_all, Option.option_copied}
+use Rattle.osplan.specs.{Objects.table_actions, Objects.may_act}
 use Rattle.osstate.specs.State.{KernelState}
 use Rattle.osstate.proofs.ReadLemmas.{known_if_table}
 use Rattle.osstate.proofs.state.CoreState.table.Goals as goal

@@ -1,10 +1,6 @@
-use Rattle.std.proofs.Common.{IfSome, ap, refl, ◌≡◌, ◌||◌, true, sym, subst}
-use Rattle.osbase.specs.declared.histories.OpenCall.{OpenCall}
-use Rattle.osbase.specs.History.{Took, phase_on}
-use Rattle.osbase.specs.Phases.{is_before_live, is_past_first_gate}
-use Rattle.osstate.specs.Sound.{is_awaited_known, is_first_gate}
-use Rattle.osstate.specs.State.{KernelState}
-use Rattle.osstate.specs.Steps.{state_after}
+use Rattle.std.proofs.Common.{IfSome, ap, ◌≡◌, ◌||◌, true, sym, subst}
+use Rattle.osbase.specs.{declared.histories.OpenCall.OpenCall, History.Took, History.phase_on, Phases.is_before_live, Phases.is_past_first_gate}
+use Rattle.osstate.specs.{Sound.is_awaited_known, Sound.is_first_gate, State.KernelState, Steps.state_after}
 use Rattle.osstate.proofs.Sounds.{taken}
 use Rattle.osstate.proofs.state.CoreState.take_item.Goals as goal
 

@@ -3,10 +3,8 @@ use Rattle.osbase.specs.declared.references.Runner.TheVariants as Runner
 use Rattle.osjobs.specs.Priorities.{is_own_runner}
 use Rattle.osbase.specs.declared.marks.Mark.TheVariants as Mark
 use Rattle.osbase.specs.History.{Printed}
-use Rattle.osstate.specs.Sound.{IsSound}
-use Rattle.osstate.specs.State.{KernelState}
-use Rattle.osstate.proofs.Histories.{own-step}
-use Rattle.osstate.proofs.Sounds.{below, terminated}
+use Rattle.osstate.specs.{Sound.IsSound, State.KernelState}
+use Rattle.osstate.proofs.{Histories.own-step, Sounds.below, Sounds.terminated}
 use Rattle.osstate.proofs.state.CoreState.terminate.Goals as goal
 
 pub invariant_of-self : goal.invariant_of-self

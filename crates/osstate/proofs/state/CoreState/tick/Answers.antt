@@ -1,12 +1,8 @@
 use Rattle.std.proofs.Common.{refl, rules, ap, subst, arith, []}
-use Rattle.osbase.specs.Sets.{slot_of}
-use Rattle.osbase.specs.History.{Printed}
+use Rattle.osbase.specs.{Sets.slot_of, History.Printed}
 use Rattle.osbase.specs.declared.marks.Mark.TheVariants as Mark
-use Rattle.osstate.specs.Sound.{IsSound}
-use Rattle.osstate.specs.State.{KernelState}
-use Rattle.osstate.proofs.Histories.{own-step}
-use Rattle.osstate.proofs.Room.{own_charged}
-use Rattle.osstate.proofs.Sounds.{same-jobs}
+use Rattle.osstate.specs.{Sound.IsSound, State.KernelState}
+use Rattle.osstate.proofs.{Histories.own-step, Room.own_charged, Sounds.same-jobs}
 use Rattle.osstate.proofs.state.CoreState.tick.Goals as goal
 
 pub tick-requires : goal.tick-requires

@@ -4,11 +4,8 @@ use Rattle.osbase.specs.History.{Printed}
 use Rattle.osbase.specs.declared.references.Runner.TheVariants as Runner
 use Rattle.osjobs.specs.Priorities.{is_extended, is_own_runner}
 use Rattle.osjobs.proofs.Configured.{own-listed}
-use Rattle.osstate.specs.Sound.{IsSound}
-use Rattle.osstate.specs.State.{KernelState}
-use Rattle.osstate.proofs.Room.{one-job}
-use Rattle.osstate.proofs.Histories.{own-step}
-use Rattle.osstate.proofs.Sounds.{same-jobs}
+use Rattle.osstate.specs.{Sound.IsSound, State.KernelState}
+use Rattle.osstate.proofs.{Room.one-job, Histories.own-step, Sounds.same-jobs}
 use Rattle.osstate.proofs.state.CoreState.wait.Goals as goal
 
 pub wait-requires : goal.wait-requires

@@ -1,6 +1,5 @@
 use Rattle.std.proofs.Common.{ap, sym, ◌∙◌}
-use Rattle.ostable.specs.declared.table.Table.{Table}
-use Rattle.ostable.specs.Ahead.{table_beyond}
+use Rattle.ostable.specs.{declared.table.Table.Table, Ahead.table_beyond}
 use Rattle.ostable.proofs.Runs.{beyond-at}
 use Rattle.ostable.proofs.table.Table.advance.Goals as goal
 

@@ -1,8 +1,7 @@
 use Rattle.std.proofs.Common.{◌<◌, All, List, length, sym, subst, ◌∙◌, ap, get_or, []}
 use Rattle.osbase.specs.declared.references.TableRef.{TableRef}
 use Rattle.ostable.specs.Tables.{TableStates}
-use Rattle.ostable.proofs.Bounds.{list-at, timed-inside}
-use Rattle.ostable.proofs.Moved.{counted-is}
+use Rattle.ostable.proofs.{Bounds.list-at, Bounds.timed-inside, Moved.counted-is}
 use Rattle.ostable.proofs.tables.Tables.count.Goals as goal
 
 pub move_tables-requires-clause-places : goal.move_tables-requires-clause-places

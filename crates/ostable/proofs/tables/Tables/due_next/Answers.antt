@@ -1,13 +1,11 @@
 use Rattle.std.proofs.Common.{◌≡◌, All, IsTrue, List, [], filter_map, get_or, length, option_map, take, ◌++◌, ap, sym, subst, ◌∙◌, arith, rules}
 use Rattle.std.proofs.lemmas.List.{append-nil, take_all}
-use Rattle.osbase.specs.declared.references.TableRef.{TableRef}
-use Rattle.osbase.specs.Objects.{table_object}
+use Rattle.osbase.specs.{declared.references.TableRef.TableRef, Objects.table_object}
 use Rattle.osplan.specs.Objects.{is_own_object}
 use Rattle.osattached.proofs.Members.{kept-all}
 use Rattle.ostable.specs.Tables.{TableStates, due_in, due_table, is_timed_by, next_in, table_refs, timed_by}
-use Rattle.ostable.proofs.Bounds.{list-at}
+use Rattle.ostable.proofs.{Bounds.list-at, tables.Tables.due_next.Goals.in-Some, tables.Tables.due_next.Goals.in_default}
 use Rattle.ostable.proofs.Listed.{filter_map-more, none-kept, one-kept, timed-own}
-use Rattle.ostable.proofs.tables.Tables.due_next.Goals.{in-Some, in_default}
 use Rattle.ostable.proofs.tables.Tables.due_next.Goals as goal
 
 -- what stands for a table that is not there

@@ -1,7 +1,6 @@
 use Rattle.std.proofs.Common.{◌≡◌, Some, rules}
 use Rattle.osplan.specs.View.{own_table}
-use Rattle.ostable.proofs.Bounds.{table-inside, tables-length}
-use Rattle.ostable.proofs.Timed.{timed}
+use Rattle.ostable.proofs.{Bounds.table-inside, Bounds.tables-length, Timed.timed}
 use Rattle.ostable.proofs.tables.Tables.due_table.Goals as goal
 
 pub table-requires : goal.table-requires

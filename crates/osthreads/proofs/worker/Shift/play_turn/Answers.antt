@@ -1,10 +1,7 @@
 use Rattle.std.proofs.Common.{◌≡◌, ◌+◌, Bor, length, refl, ap, sym, ◌∙◌, arith}
 use Rattle.osstate.specs.State.{KernelState}
-use Rattle.osrun.specs.declared.core_runs.CoreRun.{CoreRun}
-use Rattle.osrun.specs.CoreRuns.{is_ended_phase}
-use Rattle.osthreads.specs.declared.run.Run.{Run}
-use Rattle.osthreads.specs.declared.worker.Worker.{Worker}
-use Rattle.osthreads.specs.Rounds.{next_at}
+use Rattle.osrun.specs.{declared.core_runs.CoreRun.CoreRun, CoreRuns.is_ended_phase}
+use Rattle.osthreads.specs.{declared.run.Run.Run, declared.worker.Worker.Worker, Rounds.next_at}
 use Rattle.osthreads.proofs.Shifting.{IsStillAt, stopped-stalled, went-nothing, went-took}
 use Rattle.osthreads.proofs.worker.Shift.play_turn.Goals as goal
 

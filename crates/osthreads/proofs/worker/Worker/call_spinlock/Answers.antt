@@ -1,20 +1,14 @@
 use Rattle.std.proofs.Common.{◌≡◌, ◌<◌, ◌++◌, ◌∷◌, [], false, inl, inr, refl, ap, sym, subst, ◌∙◌}
 use Rattle.osbase.specs.declared.limits.TheConstants.{SPINLOCKS}
-use Rattle.osshared.specs.Histories.{entry}
-use Rattle.osshared.specs.Seats.{Extends}
-use Rattle.osspin.specs.declared.calls.SpinCall.{SpinCall}
-use Rattle.osspin.specs.declared.calls.SpinReply.TheVariants.{Answered}
-use Rattle.osspin.specs.Spins.{SpinEntry, spin_reply, spinlocks}
+use Rattle.osshared.specs.{Histories.entry, Seats.Extends}
+use Rattle.osspin.specs.{declared.calls.SpinCall.SpinCall, declared.calls.SpinReply.TheVariants.Answered, Spins.SpinEntry, Spins.spin_reply, Spins.spinlocks}
 use Rattle.osadmit.specs.Admission.{takes_in}
-use Rattle.oskernel.specs.Wants.{watch_in}
-use Rattle.osrun.specs.declared.requests.Request.TheVariants.{OfSpins}
-use Rattle.osrun.specs.declared.requests.Reply.TheVariants.{Spun}
-use Rattle.osrun.specs.Requests.{spin_call_of, item_of_spinlock}
+use Rattle.oskernel.specs.{Wants.watch_in, Step.outbox_size}
+use Rattle.osrun.specs.{declared.requests.Request.TheVariants.OfSpins, declared.requests.Reply.TheVariants.Spun, Requests.spin_call_of, Requests.item_of_spinlock}
 use Rattle.osthreads.specs.Seats.{made_from}
 use Rattle.osthreads.proofs.Requests.{replied-by, spins-no-mail, spinlock-same, unspun, wish-fruitless}
 use Rattle.osthreads.proofs.Working.{spin-idle, spins-took}
 use Rattle.osthreads.proofs.worker.Worker.call_spinlock.Goals as goal
-use Rattle.oskernel.specs.Step.{outbox_size}
 
 pub call-requires-clause-lock : goal.call-requires-clause-lock
 call-requires-clause-lock g c = subst (λ (x : SpinCall). x.lock.index < SPINLOCKS) (sym c.spin_call_of.ensures) c.requires.lock

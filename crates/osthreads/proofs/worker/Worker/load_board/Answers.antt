@@ -2,11 +2,9 @@ use Rattle.std.proofs.Common.{refl, ap, sym, ◌∙◌, ◌++◌, ◌∷◌, []}
 use Rattle.osbase.specs.declared.references.CoreId.{CoreId}
 use Rattle.oskernel.specs.Wants.{watch_in}
 use Rattle.osshared.specs.Histories.{entry}
-use Rattle.osrun.specs.declared.requests.Request.TheVariants.{OfBoard}
-use Rattle.osrun.specs.declared.requests.Reply.TheVariants.{Replied}
+use Rattle.osrun.specs.{declared.requests.Request.TheVariants.OfBoard, declared.requests.Reply.TheVariants.Replied}
 use Rattle.osthreads.specs.Seats.{made_from}
-use Rattle.osthreads.proofs.Requests.{board-no-mail, refused-item}
-use Rattle.osthreads.proofs.Working.{board-took, look-idle}
+use Rattle.osthreads.proofs.{Requests.board-no-mail, Requests.refused-item, Working.board-took, Working.look-idle}
 use Rattle.osthreads.proofs.worker.Worker.load_board.Goals as goal
 
 pub returns-in_default-clause-turns : goal.returns-in_default-clause-turns

@@ -1,14 +1,11 @@
 use Rattle.std.proofs.Common.{Option, Some, IfSome, IsTrue, inr, ap, sym, subst, ◌∙◌}
 use Rattle.std.proofs.lemmas.Bool.{ltb-true}
 use Rattle.osbase.specs.declared.limits.TheConstants.{SPINLOCKS}
-use Rattle.osrun.specs.Requests.{is_request_known, spin_call_of}
-use Rattle.osplan.specs.declared.plans.Plan.{Plan}
-use Rattle.osplan.specs.Limits.{is_within_limits}
+use Rattle.osrun.specs.{Requests.is_request_known, Requests.spin_call_of, declared.requests.Request.Request, declared.requests.Reply.TheVariants.Unasked}
+use Rattle.osplan.specs.{declared.plans.Plan.Plan, Limits.is_within_limits}
 use Rattle.std.specs.List.{slice_get}
 use Rattle.oskernel.specs.Wants.{want_in}
-use Rattle.osrun.specs.declared.requests.Request.{Request}
 use Rattle.osrun.specs.declared.requests.Request.TheVariants.{OfBoard, OfSpins, StartUnknown, TakeStimulus}
-use Rattle.osrun.specs.declared.requests.Reply.TheVariants.{Unasked}
 use Rattle.osthreads.specs.Working.{IsFruitless}
 use Rattle.osthreads.proofs.Requests.{none-asked, one-asked, own-board, start-fruitless, stimulus-fruitless, unless-weaker}
 use Rattle.osthreads.proofs.worker.Worker.own.Goals as goal

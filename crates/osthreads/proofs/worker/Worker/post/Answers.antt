@@ -1,7 +1,6 @@
 use Rattle.std.proofs.Common.{refl, sym, ◌∙◌, true}
 use Rattle.osbase.specs.declared.items.Item.{Item}
-use Rattle.osrun.specs.declared.requests.Request.TheVariants.{Room}
-use Rattle.osrun.specs.declared.requests.Reply.TheVariants.{HasRoom}
+use Rattle.osrun.specs.{declared.requests.Request.TheVariants.Room, declared.requests.Reply.TheVariants.HasRoom}
 use Rattle.osthreads.specs.Seats.{made_from}
 use Rattle.osthreads.proofs.Working.{post-took}
 use Rattle.osthreads.proofs.worker.Worker.post.Goals as goal

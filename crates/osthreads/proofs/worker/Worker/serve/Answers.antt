@@ -1,8 +1,6 @@
 use Rattle.std.proofs.Common.{refl, sym, ◌∙◌, Some}
-use Rattle.osbase.specs.declared.items.Item.{Item}
-use Rattle.osbase.specs.declared.turns.Choice.{Choice}
-use Rattle.osrun.specs.declared.requests.Request.TheVariants.{Oldest}
-use Rattle.osrun.specs.declared.requests.Reply.TheVariants.{Found}
+use Rattle.osbase.specs.{declared.items.Item.Item, declared.turns.Choice.Choice}
+use Rattle.osrun.specs.{declared.requests.Request.TheVariants.Oldest, declared.requests.Reply.TheVariants.Found}
 use Rattle.osthreads.specs.Seats.{made_from}
 use Rattle.osthreads.proofs.Working.{receipt-took}
 use Rattle.osthreads.proofs.worker.Worker.serve.Goals as goal

@@ -1,9 +1,8 @@
 use Rattle.std.proofs.Common.{refl, sym, ◌∙◌}
 use Rattle.oskernel.specs.Wants.{watch_in}
 use Rattle.osrun.specs.declared.requests.Reply.TheVariants.{Unasked}
-use Rattle.osthreads.proofs.Requests.{refused-item, unasked-no-mail, unasked-silent}
+use Rattle.osthreads.proofs.{Requests.refused-item, Requests.unasked-no-mail, Requests.unasked-silent, Working.alone-took}
 use Rattle.osthreads.specs.Seats.{made_from}
-use Rattle.osthreads.proofs.Working.{alone-took}
 use Rattle.osthreads.proofs.worker.Worker.take_without_call.Goals as goal
 
 pub returns-clause-turns : goal.returns-clause-turns

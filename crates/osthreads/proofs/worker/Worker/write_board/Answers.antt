@@ -1,20 +1,15 @@
 use Rattle.std.proofs.Common.{refl, ap, sym, ◌∙◌, ◌++◌, ◌∷◌, [], ◌≡◌, subst, true}
 use Rattle.std.proofs.lemmas.Option.{same_Some}
-use Rattle.osbase.specs.declared.references.CoreId.{CoreId}
-use Rattle.osbase.specs.declared.items.Item.{Item}
+use Rattle.osbase.specs.{declared.references.CoreId.CoreId, declared.items.Item.Item}
 use Rattle.osshared.specs.Histories.{entry}
-use Rattle.osboard.specs.declared.calls.BoardReply.{BoardReply}
-use Rattle.osboard.specs.Boards.{board_reply, one_board}
+use Rattle.osboard.specs.{declared.calls.BoardReply.BoardReply, Boards.board_reply, Boards.one_board}
 use Rattle.osadmit.specs.Admission.{takes_in}
-use Rattle.oskernel.specs.Wants.{watch_in}
-use Rattle.osrun.specs.declared.requests.Request.TheVariants.{OfBoard}
-use Rattle.osrun.specs.declared.requests.Reply.TheVariants.{Replied}
-use Rattle.osrun.specs.Requests.{item_of_board}
+use Rattle.oskernel.specs.{Wants.watch_in, Step.outbox_size}
+use Rattle.osrun.specs.{declared.requests.Request.TheVariants.OfBoard, declared.requests.Reply.TheVariants.Replied, Requests.item_of_board}
 use Rattle.osthreads.specs.Seats.{made_from}
 use Rattle.osthreads.proofs.Requests.{board-no-mail, call-fruitless, replied-by, result-of}
 use Rattle.osthreads.proofs.Working.{board-took}
 use Rattle.osthreads.proofs.worker.Worker.write_board.Goals as goal
-use Rattle.oskernel.specs.Step.{outbox_size}
 
 pub unreachable-requires : goal.unreachable-requires
 unreachable-requires g c =

@@ -1,15 +1,12 @@
 use Rattle.std.proofs.Common.{◌≡◌, Some, is_some, List, ap, sym, ◌∙◌}
 use Rattle.osmail.specs.Mail.{empty_mail}
-use Rattle.osplan.specs.declared.plans.Plan.{Plan}
-use Rattle.osplan.specs.View.{core_of}
+use Rattle.osplan.specs.{declared.plans.Plan.Plan, View.core_of}
 use Rattle.osplan.proofs.Tests.{is_some-copied}
 use Rattle.osboard.specs.Boards.{first_board}
 use Rattle.osrun.specs.declared.core_runs.CoreRun.{CoreRun}
-use Rattle.osworld.proofs.Places.{place_by}
-use Rattle.osworld.proofs.Started.{started-all, started-push, started-skip}
+use Rattle.osworld.proofs.{Places.place_by, Started.started-all, Started.started-push, Started.started-skip, worlds.World.new.Goals.then-is_some+in_ok-push, worlds.World.new.Goals.else-is_some}
 use Rattle.osrun.proofs.Configured.{id_at}
 use Rattle.osworld.proofs.worlds.World.new.Goals as goal
-use Rattle.osworld.proofs.worlds.World.new.Goals.{then-is_some+in_ok-push, else-is_some}
 
 pub loop-number-preserved : goal.loop-number-preserved
 loop-number-preserved c =

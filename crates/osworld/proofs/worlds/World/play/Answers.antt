@@ -1,7 +1,6 @@
 use Rattle.std.proofs.Common.{ap, ◌∙◌, Bor}
 use Rattle.osplan.specs.declared.plans.Plan.{Plan}
-use Rattle.osworld.proofs.Turned.{on_err}
-use Rattle.osworld.proofs.Played.{cut-before, played-all, played-more}
+use Rattle.osworld.proofs.{Turned.on_err, Played.cut-before, Played.played-all, Played.played-more}
 use Rattle.osworld.proofs.worlds.World.play.Goals as goal
 
 pub returns-in_err-changed-clause-err : goal.returns-in_err-changed-clause-err

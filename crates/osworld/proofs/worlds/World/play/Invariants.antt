@@ -1,7 +1,6 @@
 use Rattle.std.proofs.Common.{◌≡◌, List, take, vec_len}
 use Rattle.osbase.specs.declared.turns.CoreStimuli.{CoreStimuli}
-use Rattle.osworld.specs.World.{World}
-use Rattle.osworld.specs.Playing.{IsPlayed, Plays}
+use Rattle.osworld.specs.{World.World, Playing.IsPlayed, Playing.Plays}
 use Rattle.osworld.proofs.worlds.World.play.Given as goal
 
 abbrev pub invariant-loop-turn : goal.invariant-loop-turn

@@ -1,11 +1,7 @@
 use Rattle.std.proofs.Common.{◌∷◌, [], ◌++◌, ◌||◌, ◌∙◌, List, append_assoc, subst}
-use Rattle.osbase.specs.declared.references.CoreId.{CoreId}
-use Rattle.osbase.specs.declared.turns.Choice.{Choice}
-use Rattle.osbase.specs.declared.turns.Choice.TheVariants.{Look, Own}
-use Rattle.osworld.specs.Playing.{PlaysTurns, StopsShort}
-use Rattle.osworld.specs.Runs.{serves_of}
-use Rattle.osworld.proofs.Played.{plays-on, stops-first, stops-on}
-use Rattle.osworld.proofs.Turned.{on_err}
+use Rattle.osbase.specs.{declared.references.CoreId.CoreId, declared.turns.Choice.Choice, declared.turns.Choice.TheVariants.Look, declared.turns.Choice.TheVariants.Own}
+use Rattle.osworld.specs.{Playing.PlaysTurns, Playing.StopsShort, Runs.serves_of}
+use Rattle.osworld.proofs.{Played.plays-on, Played.stops-first, Played.stops-on, Turned.on_err}
 use Rattle.osworld.proofs.worlds.World.play_core.Goals as goal
 
 pub returns-in_err-served-clause-err : goal.returns-in_err-served-clause-err

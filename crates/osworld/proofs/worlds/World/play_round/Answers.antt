@@ -1,13 +1,9 @@
 use Rattle.std.proofs.Common.{sym, subst, ◌∙◌, List}
 use Rattle.std.specs.List.{flat_map}
-use Rattle.std.proofs.lemmas.Grind.{flat_map-append}
-use Rattle.std.proofs.lemmas.List.{take_all}
-use Rattle.osbase.specs.declared.references.CoreId.{CoreId}
-use Rattle.osbase.specs.declared.turns.Choice.{Choice}
-use Rattle.osworld.specs.Playing.{PlaysTurns, StopsShort}
-use Rattle.osworld.specs.Runs.{turns_in_round}
-use Rattle.osworld.proofs.Played.{flat_map-one, plays-next, stops-next}
-use Rattle.osworld.proofs.Turned.{on_err}
+use Rattle.std.proofs.{lemmas.Grind.flat_map-append, lemmas.List.take_all}
+use Rattle.osbase.specs.{declared.references.CoreId.CoreId, declared.turns.Choice.Choice}
+use Rattle.osworld.specs.{Playing.PlaysTurns, Playing.StopsShort, Runs.turns_in_round}
+use Rattle.osworld.proofs.{Played.flat_map-one, Played.plays-next, Played.stops-next, Turned.on_err}
 use Rattle.osworld.proofs.worlds.World.play_round.Goals as goal
 
 pub returns-in_err-changed-clause-err : goal.returns-in_err-changed-clause-err

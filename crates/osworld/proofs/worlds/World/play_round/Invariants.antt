@@ -1,7 +1,6 @@
 use Rattle.std.proofs.Common.{◌≡◌, take, vec_len}
 use Rattle.std.specs.List.{flat_map}
-use Rattle.osworld.specs.Playing.{PlaysTurns}
-use Rattle.osworld.specs.Runs.{turns_in_round}
+use Rattle.osworld.specs.{Playing.PlaysTurns, Runs.turns_in_round}
 use Rattle.osworld.proofs.worlds.World.play_round.Given as goal
 
 abbrev pub invariant-loop-id : goal.invariant-loop-id

@@ -1,8 +1,6 @@
-use Rattle.std.proofs.Common.{List, sym, subst}
+use Rattle.std.proofs.{Common.List, Common.sym, Common.subst, lemmas.Bool.ne_eqb}
 use Rattle.std.specs.Result.{IfOk, OnErr}
-use Rattle.std.proofs.lemmas.Bool.{ne_eqb}
-use Rattle.osbase.specs.declared.references.CoreId.{CoreId}
-use Rattle.osbase.specs.declared.turns.Choice.{Choice}
+use Rattle.osbase.specs.{declared.references.CoreId.CoreId, declared.turns.Choice.Choice}
 use Rattle.osworld.specs.Playing.{PlaysTurns, StopsShort}
 use Rattle.osworld.proofs.Served.{serves-other}
 use Rattle.osworld.proofs.worlds.World.serve.Goals as goal

@@ -1,13 +1,8 @@
 use Rattle.std.proofs.Common.{sym, subst, ◌∙◌, List, ap, drop, take, not, filter, false}
 use Rattle.std.proofs.lemmas.List.{take-append-drop, take_all}
-use Rattle.osbase.specs.declared.references.CoreId.{CoreId}
-use Rattle.osbase.specs.declared.turns.Choice.{Choice}
-use Rattle.osbase.specs.History.{same_core}
-use Rattle.osworld.specs.Playing.{PlaysTurns}
-use Rattle.osworld.specs.Runs.{serves_of}
-use Rattle.osworld.proofs.Played.{plays-next, plays-on, stops-next}
-use Rattle.osworld.proofs.Served.{serves-append, unserved-played}
-use Rattle.osworld.proofs.Turned.{on_err}
+use Rattle.osbase.specs.{declared.references.CoreId.CoreId, declared.turns.Choice.Choice, History.same_core}
+use Rattle.osworld.specs.{Playing.PlaysTurns, Runs.serves_of}
+use Rattle.osworld.proofs.{Played.plays-next, Played.plays-on, Played.stops-next, Served.serves-append, Served.unserved-played, Turned.on_err}
 use Rattle.osworld.proofs.worlds.World.serve_all.Goals as goal
 
 abbrev serves : CoreId → List CoreId → List (CoreId × Choice)

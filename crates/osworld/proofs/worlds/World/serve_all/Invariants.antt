@@ -1,6 +1,5 @@
 use Rattle.std.proofs.Common.{◌≡◌, take, vec_len}
-use Rattle.osworld.specs.Playing.{PlaysTurns}
-use Rattle.osworld.specs.Runs.{serves_of}
+use Rattle.osworld.specs.{Playing.PlaysTurns, Runs.serves_of}
 use Rattle.osworld.proofs.worlds.World.serve_all.Given as goal
 
 abbrev pub invariant-loop-other : goal.invariant-loop-other

@@ -1,12 +1,9 @@
 use Rattle.std.proofs.Common.{◌≡◌, [], ◌∷◌, subst, sym, ◌∙◌}
 use Rattle.std.proofs.lemmas.Option.{get_or_from_slice_get}
-use Rattle.osbase.specs.declared.references.CoreId.{CoreId}
-use Rattle.osbase.specs.declared.turns.Choice.{Choice}
+use Rattle.osbase.specs.{declared.references.CoreId.CoreId, declared.turns.Choice.Choice}
 use Rattle.oskernel.specs.Wants.{watch_in}
-use Rattle.osworld.specs.Answering.{next_by}
-use Rattle.osrun.specs.Requests.{request_and_item}
-use Rattle.osworld.specs.Playing.{IsAnswered, PlaysTurns, StopsShort}
-use Rattle.osrun.specs.declared.core_runs.CoreRun.{CoreRun}
+use Rattle.osworld.specs.{Answering.next_by, Playing.IsAnswered, Playing.PlaysTurns, Playing.StopsShort}
+use Rattle.osrun.specs.{Requests.request_and_item, declared.core_runs.CoreRun.CoreRun}
 use Rattle.osworld.proofs.Turned.{if_err, if_ok, nobody-played, unanswered-played}
 use Rattle.osworld.proofs.worlds.World.turn.Goals as goal
 

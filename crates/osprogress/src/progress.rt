@@ -2,8 +2,7 @@
 
 ghost use Rattle.std.specs.Prelude.{◌≡◌, ◌<◌, ◌^◌, vec_capacity, vec_len};
 ghost use Rattle.osbase.specs.History.{Took, Printed, Noted, WentDown, agreement_after, began_after, course_after, phase_after, phase_past_first_gate, started_after};
-ghost use Rattle.osstate.specs.Does.{Joins};
-ghost use Rattle.osstate.specs.Steps.{first_progress, moved_by, progress_after};
+ghost use Rattle.osprogress.specs.Progress.{Joins, first_progress, moved_by, progress_after};
 
 use osbase::{Agreement, CORES, CoreSet, Course, Item, Mark, Phase};
 
@@ -77,7 +76,7 @@ impl Progress {
     }
 
     /// The core goes down (AUTOSAR SWS OS 4.x, ShutdownOS).
-    pub(crate) fn go_down(&mut self)
+    pub fn go_down(&mut self)
         requires { self.old.entries < 2 ^ 63 }
         ensures { self.new ≡ progress_after (Noted WentDown) self.old }
     {
@@ -86,7 +85,7 @@ impl Progress {
     }
 
     /// Goes on by a mark that is printed.
-    pub(crate) fn record(&mut self, mark: Mark, marks: &mut Vec<Mark>)
+    pub fn record(&mut self, mark: Mark, marks: &mut Vec<Mark>)
         requires entries { self.old.entries < 2 ^ 63 }
         requires place { vec_len marks.old < vec_capacity marks.old }
         ensures progress { self.new ≡ progress_after (Printed mark) self.old }

@@ -5,8 +5,8 @@ use std::marker::Model;
 
 /// A place of the outbox.
 #[derive(Clone, Copy)]
-pub(crate) struct SentSlot {
-    pub(crate) sent: Sent,
+pub struct SentSlot {
+    pub sent: Sent,
 }
 
 impl Model for SentSlot {

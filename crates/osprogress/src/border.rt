@@ -1,11 +1,9 @@
 //! What crosses a core's border: the open call, the outbox, how many letters went each way, and the spinlocks that the core got.
 
 ghost use Rattle.std.specs.Prelude.{◌≡◌, ◌<◌, ◌^◌, ℕ, length, slice_index, IsTrue};
-ghost use Rattle.osbase.specs.declared.limits.TheConstants.{CORES};
+ghost use Rattle.osbase.specs.{declared.limits.TheConstants.CORES, Spins.spins_after};
 ghost use Rattle.osbase.specs.History.{Took, closed_by as call_closed_by, open_after, outbox_after};
-ghost use Rattle.osbase.specs.Spins.{spins_after};
-ghost use Rattle.osstate.specs.Sound.{is_grant_known, is_posted, is_sender_known};
-ghost use Rattle.osstate.specs.Steps.{one_more, received_after};
+ghost use Rattle.osprogress.specs.Border.{is_grant_known, is_posted, is_sender_known, one_more, received_after};
 
 use crate::slots::SentSlot;
 use arrayvec::ArrayVec;
@@ -14,18 +12,18 @@ use osgot::Grants;
 
 /// What crosses a core's border, with room for `OUT` letters.
 #[derive(Drop)]
-pub(crate) struct Border<const OUT: usize> {
+pub struct Border<const OUT: usize> {
     // The service that awaits another core's reply.
-    pub(crate) open_call: Option<OpenCall>,
+    pub open_call: Option<OpenCall>,
     // How many letters were queued for each core, and received from it.
-    pub(crate) queued: [u64; CORES],
-    pub(crate) received: [u64; CORES],
-    pub(crate) spins: Grants,
-    pub(crate) outbox: ArrayVec<SentSlot, OUT>,
+    pub queued: [u64; CORES],
+    pub received: [u64; CORES],
+    pub spins: Grants,
+    pub outbox: ArrayVec<SentSlot, OUT>,
 }
 
 /// The call that is still open once an operation of this runner is done, or its job has ended.
-pub(crate) fn closed_by(runner: Runner, open_call: Option<OpenCall>) -> Option<OpenCall>
+pub fn closed_by(runner: Runner, open_call: Option<OpenCall>) -> Option<OpenCall>
     ensures { result ≡ call_closed_by runner open_call }
 {
     match open_call {
@@ -37,7 +35,7 @@ pub(crate) fn closed_by(runner: Runner, open_call: Option<OpenCall>) -> Option<O
 /// What an item changes of the spinlocks and of the open call: a spinlock that was taken is got by the job whose call is open; one
 /// that was given back is got no longer; once all cores are halted, the release of each is owed, and no call is open.
 #[inline(always)]
-pub(crate) fn settle_by(spins: &mut Grants, open_call: &mut Option<OpenCall>, item: &Item)
+pub fn settle_by(spins: &mut Grants, open_call: &mut Option<OpenCall>, item: &Item)
     requires { IsTrue (is_grant_known item.now) }
     ensures spins { spins.new ≡ spins_after (Took item.now) open_call.old spins.old }
     ensures call { open_call.new ≡ open_after (Took item.now) open_call.old }
@@ -59,7 +57,7 @@ pub(crate) fn settle_by(spins: &mut Grants, open_call: &mut Option<OpenCall>, it
 }
 
 /// A post takes the front of the outbox.
-pub(crate) fn post_by<const OUT: usize>(outbox: &mut ArrayVec<SentSlot, OUT>, item: &Item)
+pub fn post_by<const OUT: usize>(outbox: &mut ArrayVec<SentSlot, OUT>, item: &Item)
     requires { IsTrue (is_posted item.now) → 0 < length outbox.old.items }
     ensures { outbox.new.items ≡ outbox_after (Took item.now) outbox.old.items }
 {
@@ -69,7 +67,7 @@ pub(crate) fn post_by<const OUT: usize>(outbox: &mut ArrayVec<SentSlot, OUT>, it
 }
 
 /// A letter that was received counts for its sender.
-pub(crate) fn receive_by(received: &mut [u64; CORES], item: &Item)
+pub fn receive_by(received: &mut [u64; CORES], item: &Item)
     requires sender { IsTrue (is_sender_known item.now) }
     requires count { (k : ℕ) → slice_index received.old k < 2 ^ 63 }
     ensures { received.new ≡ received_after (Took item.now) received.old }
@@ -85,7 +83,7 @@ pub(crate) fn receive_by(received: &mut [u64; CORES], item: &Item)
 }
 
 /// One letter more for this core.
-pub(crate) fn count_one(counts: &mut [u64; CORES], core: CoreId)
+pub fn count_one(counts: &mut [u64; CORES], core: CoreId)
     requires core { core.number < CORES }
     requires count { slice_index counts.old core.number < 2 ^ 63 }
     ensures { counts.new ≡ one_more core counts.old }

@@ -1,0 +1,12 @@
+//! Where a core stands, and what crosses its border: the parts of its state that speak of none of its objects.
+//!
+//! No function here takes memory.
+#![tactic(auto)]
+
+pub mod border;
+pub mod progress;
+pub mod slots;
+
+pub use border::Border;
+pub use progress::Progress;
+pub use slots::SentSlot;
