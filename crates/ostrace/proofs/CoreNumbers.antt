@@ -1,13 +1,9 @@
 -- A core's number in decimal is read as that number, and ends where its word has no digit more.
 use Rattle.std.proofs.Common.{◌≡◌, ℕ, ◌+◌, ◌-◌, ◌*◌, ◌/◌, ◌%◌, ◌<◌, nat_lt, true, false, not, Some, List, [], ◌∷◌, ◌++◌, inl, inr, length, length-append, refl, ap, ◌∙◌, arith}
-use Rattle.std.specs.Char.{is_ascii_digit}
-use Rattle.std.specs.Fmt.{decimal}
-use Rattle.std.specs.List.{list_all, prefix_len}
+use Rattle.std.specs.{Char.is_ascii_digit, Fmt.decimal, List.list_all, List.prefix_len}
 use Rattle.std.proofs.lemmas.Bool.{and_parts, cases_lt, lt-ltb, ne_eqb}
-use Rattle.std.proofs.lemmas.Bool.Decides.{nat_tests}
-use Rattle.std.proofs.lemmas.Fmt.{decimal_digit, decimal_step}
-use Rattle.osinput.specs.Word.{core_number, digit_of}
-use Rattle.osinput.specs.Given.{digits_in}
+use Rattle.std.proofs.{lemmas.Bool.Decides.nat_tests, lemmas.Fmt.decimal_digit, lemmas.Fmt.decimal_step}
+use Rattle.osinput.specs.{Word.core_number, Word.digit_of, Given.digits_in}
 
 digit-back : (d : ℕ) → d < 10 → digit_of (48 + d) ≡ Some d
 digit-back d low =

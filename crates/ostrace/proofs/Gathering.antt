@@ -1,10 +1,8 @@
 -- What several calls gathered is one text.
-use Rattle.std.proofs.Common.{◌≡◌, ◌+◌, ℕ, List, [], ◌∷◌, ◌++◌, Option, Result, Ok, Err, take, drop, refl, sym, ap, ◌∙◌, append_assoc, append-nil, subst, take-append-drop, arith, codes}
+use Rattle.std.proofs.Common.{◌≡◌, ◌+◌, ℕ, List, [], ◌∷◌, ◌++◌, Option, Result, Ok, Err, take, drop, refl, sym, ap, ◌∙◌, append_assoc, append-nil, subst, take-append-drop, arith, codes, map}
 use Rattle.std.proofs.lemmas.Grind.{flat_map-append}
-use Rattle.std.specs.List.{flat_map}
-use Rattle.std.specs.Result.{IsErr}
-use Rattle.ostrace.specs.Gathers.{Gathers, Sends}
-use Rattle.ostrace.specs.Taken.{Writes}
+use Rattle.std.specs.{List.flat_map, Result.IsErr}
+use Rattle.ostrace.specs.{Gathers.Gathers, Gathers.Sends, Pieces.led_text, Pieces.word_text, Taken.Writes, declared.words.Word.Word}
 use Rattle.ostrace_text.specs.Trace.{led, spaced}
 use Rattle.ostrace.proofs.Writing.{Appends-nothing, Appends-then, Writes-then, Wrote}
 
@@ -137,6 +135,11 @@ led-append us vs = sym (flat_map-append (λ w. codes " " ++ w) us vs)
 
 pub spaced-append : (word : List ℕ) (us vs : List (List ℕ)) → spaced (word ∷ us) ++ led vs ≡ spaced (word ∷ (us ++ vs))
 spaced-append word us vs = append_assoc word (led us) (led vs) ∙ ap (λ l. word ++ l) (led-append us vs)
+
+-- words of a line as texts
+pub led-text : (words : List Word) → led_text words ≡ led (map word_text words)
+led-text [] = refl
+led-text (w ∷ words) = ap (λ l. (codes " " ++ word_text w) ++ l) (led-text words)
 
 module _ {S : Type 0} (taken : S → Option (List ℕ)) (failed : S → ℕ) (us vs : List (List ℕ)) where
   pub Gathers-led : {E : Type 0} (old mid new : S) (before during after : List ℕ) (done : Unit {0}) (result : Result Unit E) → Gathers {E = E} taken failed old mid before during (led us) (Ok done) → Gathers taken failed mid new during after (led vs) result → Gathers taken failed old new before after (led (us ++ vs)) result

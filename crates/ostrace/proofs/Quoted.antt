@@ -3,15 +3,9 @@ use Rattle.std.proofs.Common.{◌≡◌, ℕ, ◌==◌, ◌||◌, nat_lt, true, 
 use Rattle.std.specs.List.{list_all}
 use Rattle.std.proofs.lemmas.Bool.{and_parts, eqb-false, ltb-false, not-true, or_parts}
 use Rattle.json.specs.Json as json
-use Rattle.json.specs.Lex.{tokens}
-use Rattle.json.specs.Print.{escape}
-use Rattle.json.specs.Run.{is_plain, is_stop}
-use Rattle.json.specs.Token.{Token}
-use Rattle.json.proofs.Printed.Strings.{escape_byte_plain}
-use Rattle.json.proofs.Printed.Tokens.{tokens-print}
-use Rattle.json.proofs.Printed.Trees.{ArePrintable-json_tokens, value-json_tokens}
-use Rattle.serde_json.specs.Data.{string}
-use Rattle.serde_json.specs.Read.{max_depth, of_json, read}
+use Rattle.json.specs.{Lex.tokens, Print.escape, Run.is_plain, Run.is_stop, Token.Token}
+use Rattle.json.proofs.{Printed.Strings.escape_byte_plain, Printed.Tokens.tokens-print, Printed.Trees.ArePrintable-json_tokens, Printed.Trees.value-json_tokens}
+use Rattle.serde_json.specs.{Data.string, Read.max_depth, Read.of_json, Read.read}
 use Rattle.serde_json.proofs.Texts.{print-outline}
 
 escape-plain : (text : List ℕ) → list_all is_plain text ≡ true → escape text ≡ text

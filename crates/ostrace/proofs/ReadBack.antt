@@ -1,37 +1,19 @@
 -- The text of a schedule is read as its turns.
 use Rattle.std.proofs.Common.{◌≡◌, ℕ, ◌<◌, ◌≤◌, ◌==◌, nat_le, Bool, true, false, not, Option, Some, None, is_some, option_and_then, List, [], ◌∷◌, ◌++◌, length, length-append, map, IsTrue, refl, ap, ◌∙◌, arith}
-use Rattle.std.specs.Char.{is_ascii_digit}
-use Rattle.std.specs.Fmt.{decimal}
-use Rattle.std.specs.List.{list_all}
-use Rattle.std.proofs.Math.Seq.{drop-append_seam, take-append_seam}
+use Rattle.std.specs.{Char.is_ascii_digit, Fmt.decimal, List.list_all}
+use Rattle.std.proofs.{Math.Seq.drop-append_seam, Math.Seq.take-append_seam, lemmas.Bool.Decides.nat_tests, lemmas.Fmt.digits_decimal, lemmas.List.length-map, lemmas.List.Folds.list_all-append, lemmas.List.Folds.list_all-map}
 use Rattle.std.proofs.lemmas.Bool.{and_from, and_parts, le-leb, ne_eqb, not-true, not_from_false}
-use Rattle.std.proofs.lemmas.Bool.Decides.{nat_tests}
-use Rattle.std.proofs.lemmas.Fmt.{digits_decimal}
-use Rattle.std.proofs.lemmas.List.{length-map}
-use Rattle.std.proofs.lemmas.List.Folds.{list_all-append, list_all-map}
 use Rattle.json.specs.Run.{is_plain}
-use Rattle.osbase.specs.declared.references.CoreId.{CoreId}
-use Rattle.osbase.specs.declared.turns.Choice.{Choice}
-use Rattle.osbase.specs.declared.turns.Choice.TheVariants.{Own, Serve, Look}
-use Rattle.osbase.specs.History.{same_core}
+use Rattle.osbase.specs.{declared.references.CoreId.CoreId, declared.turns.Choice.Choice, declared.turns.Choice.TheVariants.Own, declared.turns.Choice.TheVariants.Serve, declared.turns.Choice.TheVariants.Look, History.same_core}
 use Rattle.osbase.proofs.Same.{same_core-true}
-use Rattle.ossyntax.proofs.Joining.{not-byte}
-use Rattle.ossyntax.proofs.Numerals.{own}
-use Rattle.osplan.specs.declared.faults.ConfFault.TheVariants.{Limit, BadSchedule}
-use Rattle.osplan.specs.declared.plans.Core.{Core}
-use Rattle.osplan.specs.declared.plans.Plan.{Plan}
-use Rattle.osplan.specs.Fault.{failing, if_faultless}
-use Rattle.osplan.specs.Limits.{is_within_limits}
-use Rattle.osplan.specs.View.{core_of}
-use Rattle.osplan.proofs.Numbered.{configured-low}
-use Rattle.osplan.proofs.Tests.{all-weaker, find-holds}
+use Rattle.ossyntax.proofs.{Joining.not-byte, Numerals.own}
+use Rattle.osplan.specs.{declared.faults.ConfFault.TheVariants.Limit, declared.faults.ConfFault.TheVariants.BadSchedule, declared.plans.Core.Core, declared.plans.Plan.Plan, Fault.failing, Fault.if_faultless, Limits.is_within_limits, View.core_of}
+use Rattle.osplan.proofs.{Numbered.configured-low, Tests.all-weaker, Tests.find-holds}
 use Rattle.osjson.specs.Reading.{each, parts_of}
 use Rattle.osinput.specs.Given.{choice_of, core_named, digits_in, meaning_by, schedule_of_text, schedule_of_data, schedule_tests, turn_of, turns_of_text}
 use Rattle.ostrace_text.specs.Trace.{led, spaced}
 use Rattle.ostrace.specs.Schedules.{are_turns_of, choice_word, is_choice_of, is_turn_of, schedule_text, turn_word}
-use Rattle.ostrace.proofs.CoreNumbers.{digits-end, number-back}
-use Rattle.ostrace.proofs.Quoted.{read-quoted}
-use Rattle.ostrace.proofs.Spaced.{parts-spaced}
+use Rattle.ostrace.proofs.{CoreNumbers.digits-end, CoreNumbers.number-back, Quoted.read-quoted, Spaced.parts-spaced}
 
 abbrev Turn : Type 0
 Turn = CoreId × Choice

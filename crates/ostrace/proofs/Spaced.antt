@@ -1,8 +1,7 @@
 -- Words that are divided by spaces are parted into just these words.
 use Rattle.std.proofs.Common.{◌≡◌, ℕ, ◌==◌, true, not, List, [], ◌∷◌, ◌++◌, length, refl, ap, ◌∙◌}
 use Rattle.std.specs.List.{join_with_byte, list_all, slice_split}
-use Rattle.std.proofs.lemmas.Bool.{not-true}
-use Rattle.std.proofs.lemmas.List.{append-nil}
+use Rattle.std.proofs.{lemmas.Bool.not-true, lemmas.List.append-nil}
 use Rattle.ossyntax.proofs.Joining.{has_none, some-more, split-joined}
 use Rattle.osjson.specs.Reading.{parts_of}
 use Rattle.ostrace_text.specs.Trace.{led, spaced}

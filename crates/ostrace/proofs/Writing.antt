@@ -1,10 +1,7 @@
 -- What several writes wrote is one text.
 use Rattle.std.proofs.Common.{◌≡◌, ◌≢◌, ◌+◌, ◌-◌, ◌<◌, ◌≤◌, ℕ, List, [], ◌++◌, Option, None, Some, Result, Ok, Err, length, take, drop, refl, sym, ap, ◌∙◌, append_assoc, append-nil, arith}
-use Rattle.std.proofs.Math.Seq.{take-add}
-use Rattle.std.proofs.lemmas.List.{take_rest, length-drop}
-use Rattle.std.proofs.lemmas.Bool.{ne_eqb}
-use Rattle.std.specs.Io.KnownBytes.{Appends}
-use Rattle.std.specs.Result.{IsErr}
+use Rattle.std.proofs.{Math.Seq.take-add, lemmas.List.take_rest, lemmas.List.length-drop, lemmas.Bool.ne_eqb}
+use Rattle.std.specs.{Io.KnownBytes.Appends, Result.IsErr}
 use Rattle.ostrace.specs.Taken.{Writes, count_after}
 
 -- nothing was written

@@ -1,7 +1,7 @@
--- The words that lines are written of. All of it is this project's own.
-use Rattle.std.specs.Prelude.{ℕ, List, ◌++◌, codes}
-use Rattle.std.specs.Fmt.{decimal, signed_decimal}
-use Rattle.std.specs.List.{flat_map}
+-- The words that lines are written of, and which marks have the long lines. All of it is this project's own.
+use Rattle.std.specs.Prelude.{ℕ, Bool, true, false, List, ◌++◌, codes}
+use Rattle.std.specs.{Fmt.decimal, Fmt.signed_decimal, List.flat_map}
+use Rattle.osbase.specs.declared.marks.Mark.{Mark}
 use Rattle.ostrace.specs.declared.words.Word.{Word}
 use Rattle.ostrace.specs.declared.words.Word.TheVariants.{Text, Whole, Signed, Variable}
 
@@ -15,3 +15,19 @@ word_text (Variable n) = codes "v" ++ decimal n
 -- Words, each after a space.
 abbrev pub led_text : List Word → List ℕ
 led_text words = flat_map (λ w. codes " " ++ word_text w) words
+
+-- The marks of what an operation answered.
+abbrev pub is_of_result : Mark → Bool
+is_of_result (Mark.ServiceReturned runner service status) = true
+is_of_result (Mark.ValueReturned runner service value) = true
+is_of_result (Mark.VariableSet runner variable value) = true
+is_of_result mark = false
+
+-- These, and the marks of a core's start or halt and of a call to another core. Their lines are the long ones.
+abbrev pub is_long : Mark → Bool
+is_long (Mark.StartCoreReturned core status) = true
+is_long (Mark.CallQueued core call) = true
+is_long (Mark.CallServed core status call) = true
+is_long (Mark.CallAnswered core alarm variable value) = true
+is_long (Mark.Halted core status) = true
+is_long mark = is_of_result mark

@@ -1,13 +1,8 @@
 -- The text of a schedule, and which turns are a configuration's. All of it is this project's own.
 use Rattle.std.specs.Prelude.{ℕ, ◌&&◌, Bool, true, not, is_some, List, ◌++◌, codes, map}
-use Rattle.std.specs.Fmt.{decimal}
-use Rattle.std.specs.List.{list_all}
-use Rattle.osbase.specs.declared.references.CoreId.{CoreId}
-use Rattle.osbase.specs.declared.turns.Choice.{Choice}
-use Rattle.osbase.specs.declared.turns.Choice.TheVariants.{Own, Serve, Look}
-use Rattle.osbase.specs.History.{same_core}
-use Rattle.osplan.specs.declared.plans.Plan.{Plan}
-use Rattle.osplan.specs.View.{core_of}
+use Rattle.std.specs.{Fmt.decimal, List.list_all}
+use Rattle.osbase.specs.{declared.references.CoreId.CoreId, declared.turns.Choice.Choice, declared.turns.Choice.TheVariants.Own, declared.turns.Choice.TheVariants.Serve, declared.turns.Choice.TheVariants.Look, History.same_core}
+use Rattle.osplan.specs.{declared.plans.Plan.Plan, View.core_of}
 use Rattle.ostrace_text.specs.Trace.{spaced}
 
 -- `o` is Own, `l` is Look, and `s` with the number of the served core is Serve.

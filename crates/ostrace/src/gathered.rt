@@ -1,8 +1,7 @@
 //! Text that is gathered before it is sent.
 
 ghost use Rattle.std.specs.Prelude.{◌≡◌, ◌+◌, ◌^◌, ◌<◌, ◌≤◌, ◌++◌, [], length, nat_le};
-ghost use Rattle.ostrace.specs.Taken.{Writes};
-ghost use Rattle.ostrace.specs.Gathers.{Gathers};
+ghost use Rattle.ostrace.specs.{Taken.Writes, Gathers.Gathers};
 
 use crate::sinks::{Sink, WriteFailed, write_all};
 use std::marker::Model;

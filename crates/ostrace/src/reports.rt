@@ -1,9 +1,8 @@
 //! The text of reports: a block for each core, in it a line for each mark.
 
-ghost use Rattle.std.specs.Prelude.{◌≡◌, ◌+◌, ◌^◌, ◌<◌, ◌++◌, ◌∷◌, [], IsTrue, OnOk, OnErr, codes};
+ghost use Rattle.std.specs.Prelude.{◌≡◌, ◌+◌, ◌^◌, ◌<◌, ◌++◌, OnOk, OnErr};
 ghost use Rattle.std.specs.Io.KnownBytes.{Appends};
-ghost use Rattle.ostrace.specs.Gathers.{Gathers};
-ghost use Rattle.ostrace.specs.Taken.{failures, TakesBeginning, Writes};
+ghost use Rattle.ostrace.specs.{Gathers.Gathers, Taken.failures, Taken.TakesBeginning, Taken.Writes};
 ghost use Rattle.ostrace_text.specs.Trace.{block_of, line_end, line_of, lines_of, text_of, title_of};
 
 use crate::gathered::Gathered;

@@ -1,8 +1,7 @@
 //! The text of a schedule: turns as a run is given them.
 
 ghost use Rattle.std.specs.Prelude.{◌≡◌, ◌≤◌, ◌++◌, IfOk, IsTrue, OnOk, Some, length, map, string_bytes};
-ghost use Rattle.osplan.specs.declared.plans.Plan.{Plan};
-ghost use Rattle.osplan.specs.Limits.{is_within_limits};
+ghost use Rattle.osplan.specs.{declared.plans.Plan.Plan, Limits.is_within_limits};
 ghost use Rattle.ostrace_text.specs.Trace.{led, spaced};
 ghost use Rattle.osinput.specs.Given.{schedule_of_text};
 ghost use Rattle.ostrace.specs.Schedules.{are_turns_of, choice_word, schedule_text, turn_word};

@@ -1,10 +1,8 @@
 //! The words of a line, and how they are written.
 
-ghost use Rattle.std.specs.Prelude.{◌≡◌, ◌^◌, ◌<◌, ◌++◌, ◌∷◌, [], codes};
+ghost use Rattle.std.specs.Prelude.{◌^◌, ◌<◌, ◌++◌, ◌∷◌, [], codes};
 ghost use Rattle.std.specs.Fmt.{decimal, signed_decimal};
-ghost use Rattle.ostrace.specs.Taken.{Writes};
-ghost use Rattle.ostrace.specs.Gathers.{Gathers};
-ghost use Rattle.ostrace.specs.Pieces.{led_text, word_text};
+ghost use Rattle.ostrace.specs.{Taken.Writes, Gathers.Gathers, Pieces.led_text, Pieces.word_text};
 ghost use Rattle.ostrace_text.specs.Trace.{led, line_end};
 
 use crate::gathered::Gathered;
@@ -110,6 +108,7 @@ pub fn write_led_variable<S: Sink>(
 }
 
 /// Writes a word after a space.
+#[inline(always)]
 pub fn write_led_word<S: Sink>(
     out: &mut S,
     gathered: &mut Gathered,
@@ -127,8 +126,9 @@ pub fn write_led_word<S: Sink>(
     }
 }
 
-// Words, each after a space.
-fn write_led<S: Sink>(
+/// Writes words, each after a space.
+#[inline(always)]
+pub fn write_led<S: Sink>(
     out: &mut S,
     gathered: &mut Gathered,
     words: &[Word],
@@ -143,6 +143,23 @@ fn write_led<S: Sink>(
     Ok(())
 }
 
+/// Writes a first word, and other words each after a space.
+// Put into its callers, where the words are known, it is as fast as a call for each of them.
+#[inline(always)]
+pub fn write_spaced<S: Sink>(
+    out: &mut S,
+    gathered: &mut Gathered,
+    first: &str,
+    others: &[Word],
+) -> Result<(), WriteFailed>
+    requires { S.failed out.old < 2 ^ 48 }
+    ensures { Gathers S.taken S.failed out.old out.new gathered.old gathered.new
+        (first.now ++ led_text others.now) result }
+{
+    gathered.put_text(out, first)?;
+    write_led(out, gathered, others)
+}
+
 fn write_words<S: Sink>(
     out: &mut S,
     gathered: &mut Gathered,
@@ -153,8 +170,7 @@ fn write_words<S: Sink>(
     ensures { Gathers S.taken S.failed out.old out.new gathered.old gathered.new
         ((first.now ++ led_text others.now) ++ line_end) result }
 {
-    gathered.put_text(out, first)?;
-    write_led(out, gathered, others)?;
+    write_spaced(out, gathered, first, others)?;
     gathered.put_text(out, "\n")
 }
 

@@ -1,7 +1,6 @@
 use Rattle.std.proofs.Common.{◌∷◌, [], map}
 use Rattle.oscript.specs.Rows.{items, word_of}
-use Rattle.ossyntax.specs.ParsedOp.{arg_text}
-use Rattle.ossyntax.specs.Operation.{named}
+use Rattle.ossyntax.specs.{ParsedOp.arg_text, Operation.named}
 use Rattle.osplan.specs.Names.{name_of}
 use Rattle.ostrace.proofs.Gathering.{Gathers-led, Gathers-led_begun}
 use Rattle.ostrace.proofs.lines.write_form.Goals as goal

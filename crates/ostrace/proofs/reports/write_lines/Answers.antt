@@ -1,5 +1,4 @@
-use Rattle.std.proofs.Common.{◌++◌}
-use Rattle.std.proofs.lemmas.List.{take_more}
+use Rattle.std.proofs.{Common.◌++◌, lemmas.List.take_more}
 use Rattle.ostrace_text.specs.Trace.{line_end, line_of}
 use Rattle.ostrace.proofs.Gathering.{Gathers-all, Gathers-broken_at, GathersAll-next}
 use Rattle.ostrace.proofs.reports.write_lines.Goals as goal

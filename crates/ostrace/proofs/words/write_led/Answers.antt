@@ -1,5 +1,4 @@
-use Rattle.std.proofs.Common.{◌++◌, append-nil, codes}
-use Rattle.std.proofs.lemmas.List.{take_more}
+use Rattle.std.proofs.{Common.◌++◌, Common.append-nil, Common.codes, lemmas.List.take_more}
 use Rattle.ostrace.specs.Pieces.{word_text}
 use Rattle.ostrace.proofs.Gathering.{Gathers-all, Gathers-as, Gathers-broken_at, GathersAll-next}
 use Rattle.ostrace.proofs.words.write_led.Goals as goal

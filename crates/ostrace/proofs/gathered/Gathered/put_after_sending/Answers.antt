@@ -1,5 +1,4 @@
-use Rattle.ostrace.proofs.Writing.{Writes-then, Wrote-all}
-use Rattle.ostrace.proofs.Gathering.{Gathers-written}
+use Rattle.ostrace.proofs.{Writing.Writes-then, Writing.Wrote-all, Gathering.Gathers-written}
 use Rattle.ostrace.proofs.gathered.Gathered.put_after_sending.Goals as goal
 
 pub returns-then-bytes-gt-ROOM : goal.returns-then-bytes-gt-ROOM
