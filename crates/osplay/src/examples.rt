@@ -7,10 +7,7 @@ config {"cap":1,"cores":[{"id":0,"start":[1],"tasks":[{"name":"A","prio":1,"auto
 stimuli {"0":"op op","1":"op op"}
 run
 core 0
-start 1 E_OK
-hook Startup
-act A
-pre A
+start 1 E_OK .. pre A
 out 1 ActivateTask B
 act A
 in 1 ActivateTask A E_OK
@@ -18,10 +15,7 @@ stat A ActivateTask E_OK
 post A
 end A
 pre A
-core 1
-hook Startup
-act B
-pre B
+core 1 .. pre B
 out 0 ActivateTask A
 act B
 in 0 ActivateTask B E_OK
@@ -44,106 +38,63 @@ config {"cores":[{"id":0,"start":[1],"tasks":[{"name":"A","prio":1,"auto":["M"],
 stimuli {"0":"op","1":"op op op op op op"}
 run
 core 0
-start 1 E_OK
-hook Startup
-act A
-pre A
+start 1 E_OK .. pre A
 halt 0 E_OK
 hook Shutdown E_OK
-core 1
-hook Startup
-act B
-pre B
+core 1 .. pre B
 halt 0 E_OK
 hook Shutdown E_OK
 ended
 
-// A core that passes the second barrier after a request to shut all down.
-turns "0o 1l 1o 0o 0l 1l 0o 1o 0l 0o 0o 1l 1l 0o 1o 0l 1l 0l 1l"
-run
-as before
-
-stimuli {"0":"op","1":"op op op op op op"}
 items 0
-began 1 E_OK
-entered
-pass1 M
-readied
-pass2 0 1
+began 1 E_OK .. pass2 0 1
 stim op
 halt 0 E_OK
-drained
-passend
-last 0 E_OK
+drained .. last 0 E_OK
 
 replay 0
 as run
 
 items 1
-on
-entered
-pass1 M
-readied
-pass2 0 1
+on .. pass2 0 1
 stim op
 stim op
 halt 0 E_OK
-drained
-passend
-last 0 E_OK
+drained .. last 0 E_OK
 
 replay 1
+as run
+
+// A core that passes the second barrier after a request to shut all down.
+turns "0o 1l 1o 0o 0l 1l 0o 1o 0l 0o 0o 1l 1l 0o 1o 0l 1l 0l 1l"
+run
 as run
 
 // A core that has drained takes no halt. It calls ShutdownHook at its end.
 stimuli {"0":"op"}
 run
-core 0
-start 1 E_OK
-hook Startup
-act A
-pre A
-halt 0 E_OK
-hook Shutdown E_OK
-core 1
-hook Startup
-act B
-pre B
+as run up to pre B
 hook Shutdown E_OK
 ended
 
 // Who asked, and for what, is as the log says. A core may end with or without a shutdown of all.
 first
-on
-entered
-pass1 M
-readied
-pass2 0 1
+on .. pass2 0 1
 
 log
 halt 255 E_OS_STATE
-drained
-passend
-last
+drained .. last
 
 replay 1
-core 1
-hook Startup
-act B
-pre B
+core 1 .. pre B
 halt 255 E_OS_STATE
 
 log
 stim op
-drained
-passend
-last 7 E_OS_VALUE
+drained .. last 7 E_OS_VALUE
 
 replay 1
-core 1
-hook Startup
-act B
-pre B
+core 1 .. pre B
 hook Shutdown E_OS_VALUE
 
 // After the halt there is no stimulus and no further halt; after the last stimulus there is none either.
@@ -153,10 +104,7 @@ halt 0 E_OK
 
 with stim op|halt 0 E_OK|passend
 replay 1
-core 1
-hook Startup
-act B
-pre B
+core 1 .. pre B
 halt 0 E_OK
 fault 15 ItemRefused 7
 
@@ -165,10 +113,7 @@ drained
 halt 0 E_OK
 
 replay 1
-core 1
-hook Startup
-act B
-pre B
+core 1 .. pre B
 fault 15 ItemRefused 7
 
 // Nor is there one behind the last barrier,
@@ -178,10 +123,7 @@ passend
 halt 0 E_OK
 
 replay 1
-core 1
-hook Startup
-act B
-pre B
+core 1 .. pre B
 fault 15 ItemRefused 8
 
 // and before the second one.
@@ -201,11 +143,7 @@ fault 15 ItemRefused 5
 
 // A core that has asked awaits the halt, whoever asked first.
 first
-began 1 E_OK
-entered
-pass1 M
-readied
-pass2 0 1
+began 1 E_OK .. pass2 0 1
 
 log
 stim op
@@ -214,10 +152,7 @@ drained
 
 replay 0
 core 0
-start 1 E_OK
-hook Startup
-act A
-pre A
+start 1 E_OK .. pre A
 halt 1 E_OS_LIMIT
 
 log
@@ -227,11 +162,66 @@ stim op
 with stim op|drained
 replay 0
 core 0
-start 1 E_OK
-hook Startup
-act A
-pre A
+start 1 E_OK .. pre A
 fault 15 ItemRefused 7
+
+// Core 1 is down when core 0 asks for a shutdown of all.
+config {"cores":[{"id":0,"start":[1],"tasks":[{"name":"A","prio":1,"auto":["M"],"script":"work;ShutdownAllCores 0"}]},{"id":1,"tasks":[{"name":"B","prio":1,"auto":["M"],"script":"ShutdownOS 5"}]}]}
+stimuli {"0":"op op","1":"op op"}
+// It has called ShutdownHook already.
+run
+as run up to pre B
+hook Shutdown E_OS_NOFUNC
+ended
+
+items 1
+on .. pass2 0 1
+stim op
+drained .. last 0 E_OK
+
+replay 1
+as run
+
+// A core that is down takes no halt, whether it has drained or not.
+turns "0o 1l 1o 0o 0l 1l 0o 1o 0l 1l 0o 1o 0o 0o 1l 1o 1l"
+run -> 3
+as run up to halt 0 E_OK
+core 1 .. pre B
+hook Shutdown E_OS_NOFUNC
+stalled
+
+// A look does not halt a core that tries for a spinlock, nor one that still has to give one back.
+config {"spinlocks":[{"name":"S"}],"cores":[{"id":0,"start":[1],"tasks":[{"name":"A","prio":1,"auto":["M"],"script":"ShutdownAllCores 0"}]},{"id":1,"tasks":[{"name":"B","prio":1,"auto":["M"],"script":"TryToGetSpinlock S v0;ReleaseSpinlock S;TerminateTask"}]}]}
+stimuli {"0":"op","1":"op op op"}
+turns "0o 1l 1o 0o 0l 1l 0o 1o 0l 1l 1o 0o 0o 1l 1o 1l 1o 0o 1o 0l 1l 0l 1l"
+run
+as run up to halt 0 E_OK
+hook Shutdown E_OK
+core 1 .. pre B
+stat B TryToGetSpinlock E_OK 1
+halt 0 E_OK
+hook Shutdown E_OK
+ended
+
+config {"spinlocks":[{"name":"S"}],"cores":[{"id":0,"start":[1],"tasks":[{"name":"A","prio":1,"auto":["M"],"script":"ShutdownAllCores 0"}]},{"id":1,"tasks":[{"name":"B","prio":1,"auto":["M"],"script":"GetSpinlock S"},{"name":"N","prio":1,"auto":["M"],"script":"TerminateTask"}]}]}
+stimuli {"0":"op","1":"op op op"}
+turns "0o 1l 1o 0o 0l 1l 0o 1o 0l 1l 1o 1o 1o 0o 0o 1l 1o 1l 0o 1o 0l 1l 0l 1l"
+run
+core 0
+start 1 E_OK .. pre A
+halt 0 E_OK
+hook Shutdown E_OK
+core 1 .. act B
+act N
+pre B
+stat B GetSpinlock E_OK
+hook Error E_OS_MISSINGEND
+post B
+end B
+pre N
+halt 0 E_OK
+hook Shutdown E_OK
+ended
 "#;
 
 /// Both cores ask for a shutdown of all.
@@ -242,16 +232,10 @@ stimuli {"0":"op","1":"op"}
 // Of two that ask, the first decides for both.
 run
 core 0
-start 1 E_OK
-hook Startup
-act A
-pre A
+start 1 E_OK .. pre A
 halt 0 E_OS_LIMIT
 hook Shutdown E_OS_LIMIT
-core 1
-hook Startup
-act B
-pre B
+core 1 .. pre B
 halt 0 E_OS_LIMIT
 hook Shutdown E_OS_LIMIT
 ended
@@ -265,31 +249,19 @@ as before
 turns "0o 1l 1o 0o 0l 1l 0o 1o 0l 1l 0o 1o 0o 1l"
 run -> 3
 core 0
-start 1 E_OK
-hook Startup
-act A
-pre A
+start 1 E_OK .. pre A
 halt 0 E_OS_LIMIT
-core 1
-hook Startup
-act B
-pre B
+core 1 .. pre B
 stalled
 
 // Core 1 asks first.
 turns "0o 1l 1o 0o 0l 1l 0o 1o 0l 1l 0o 1o 1o 0l 0o 1o 0o 0l 1l 0l 1l"
 run
 core 0
-start 1 E_OK
-hook Startup
-act A
-pre A
+start 1 E_OK .. pre A
 halt 1 E_OS_STATE
 hook Shutdown E_OS_STATE
-core 1
-hook Startup
-act B
-pre B
+core 1 .. pre B
 halt 1 E_OS_STATE
 hook Shutdown E_OS_STATE
 ended
@@ -303,10 +275,7 @@ config {"spinlocks":[{"name":"S1","next":"S2"},{"name":"S2"}],"cores":[{"id":0,"
 stimuli {"0":"op op op op","1":"op op op op"}
 run -> 3
 core 0
-start 1 E_OK
-hook Startup
-act A
-pre A
+start 1 E_OK .. pre A
 stat A GetSpinlock E_OK
 stat A GetSpinlock E_OS_INTERFERENCE_DEADLOCK
 hook Error E_OS_INTERFERENCE_DEADLOCK
@@ -314,19 +283,12 @@ stat A GetSpinlock E_OS_NESTING_DEADLOCK
 hook Error E_OS_NESTING_DEADLOCK
 stat A TerminateTask E_OS_SPINLOCK
 hook Error E_OS_SPINLOCK
-core 1
-hook Startup
-act B
-pre B
+core 1 .. pre B
 stat B TryToGetSpinlock E_OK 0
 stalled
 
 items 0 -> 3
-began 1 E_OK
-entered
-pass1 M
-readied
-pass2 0 1
+began 1 E_OK .. pass2 0 1
 stim op
 granted S2
 stim op
@@ -338,11 +300,7 @@ replay 0
 as run
 
 items 1 -> 3
-on
-entered
-pass1 M
-readied
-pass2 0 1
+on .. pass2 0 1
 stim op
 stim op
 stim op
@@ -356,14 +314,8 @@ as run
 turns "0o 1l 1o 0o 0l 1l 0o 1o 0l 1l 1o 1o 1o 0o 1o 0o 1o 0o 1o 0o 0l 1o"
 run -> 3
 core 0
-start 1 E_OK
-hook Startup
-act A
-pre A
-core 1
-hook Startup
-act B
-pre B
+start 1 E_OK .. pre A
+core 1 .. pre B
 stat B TryToGetSpinlock E_OK 1
 stat B GetSpinlock E_OS_INTERFERENCE_DEADLOCK
 hook Error E_OS_INTERFERENCE_DEADLOCK
@@ -371,11 +323,7 @@ stalled
 
 // A core that asks for a spinlock takes that one, and nothing else but an envelope or a halt.
 first
-began 1 E_OK
-entered
-pass1 M
-readied
-pass2 0 1
+began 1 E_OK .. pass2 0 1
 stim op
 
 log
@@ -383,10 +331,7 @@ granted S2
 
 replay 0
 core 0
-start 1 E_OK
-hook Startup
-act A
-pre A
+start 1 E_OK .. pre A
 stat A GetSpinlock E_OK
 
 log
@@ -395,24 +340,16 @@ log
 with granted S1|tried S2 1|tried S2 0|freed S2|stim op|drained
 replay 0
 core 0
-start 1 E_OK
-hook Startup
-act A
-pre A
+start 1 E_OK .. pre A
 fault 15 ItemRefused 7
 
 log
 halt 1 E_OK
-drained
-passend
-last 1 E_OK
+drained .. last 1 E_OK
 
 replay 0
 core 0
-start 1 E_OK
-hook Startup
-act A
-pre A
+start 1 E_OK .. pre A
 halt 1 E_OK
 hook Shutdown E_OK
 
@@ -423,10 +360,7 @@ granted S2
 
 replay 0
 core 0
-start 1 E_OK
-hook Startup
-act A
-pre A
+start 1 E_OK .. pre A
 stat A GetSpinlock E_OK
 fault 15 ItemRefused 8
 
@@ -436,20 +370,13 @@ granted S2
 
 replay 0
 core 0
-start 1 E_OK
-hook Startup
-act A
-pre A
+start 1 E_OK .. pre A
 halt 1 E_OK
 fault 15 ItemRefused 8
 
 // A core that did not ask takes none.
 first
-on
-entered
-pass1 M
-readied
-pass2 0 1
+on .. pass2 0 1
 stim op
 
 log
@@ -457,10 +384,7 @@ log
 
 with granted S2|tried S2 1|freed S2
 replay 1
-core 1
-hook Startup
-act B
-pre B
+core 1 .. pre B
 fault 15 ItemRefused 7
 
 // A core that tries takes either answer of that spinlock; there is no halt before it.
@@ -472,10 +396,7 @@ stim op
 granted S2
 
 replay 1
-core 1
-hook Startup
-act B
-pre B
+core 1 .. pre B
 stat B TryToGetSpinlock E_OK 0
 stat B GetSpinlock E_OK
 
@@ -488,13 +409,7 @@ stim op
 freed S2
 
 replay 1
-core 1
-hook Startup
-act B
-pre B
-stat B TryToGetSpinlock E_OK 1
-stat B GetSpinlock E_OS_INTERFERENCE_DEADLOCK
-hook Error E_OS_INTERFERENCE_DEADLOCK
+as run up to hook Error E_OS_INTERFERENCE_DEADLOCK
 hook Error E_OS_MISSINGEND
 post B
 end B
@@ -506,10 +421,7 @@ stim op
 
 with tried S1 1|granted S2|halt 0 E_OK
 replay 1
-core 1
-hook Startup
-act B
-pre B
+core 1 .. pre B
 fault 15 ItemRefused 9
 "#;
 
@@ -520,18 +432,12 @@ config {"spinlocks":[{"name":"S"}],"cores":[{"id":0,"start":[1],"tasks":[{"name"
 stimuli {"0":"op op op op op","1":"op op op op op op op op op op op op"}
 run
 core 0
-start 1 E_OK
-hook Startup
-act A
-pre A
+start 1 E_OK .. pre A
 stat A GetSpinlock E_OK
 stat A ReleaseSpinlock E_OK
 post A
 end A
-core 1
-hook Startup
-act B
-pre B
+core 1 .. pre B
 stat B TryToGetSpinlock E_OK 0
 stat B TryToGetSpinlock E_OK 0
 stat B TryToGetSpinlock E_OK 1
@@ -541,11 +447,7 @@ end B
 ended
 
 items 1
-on
-entered
-pass1 M
-readied
-pass2 0 1
+on .. pass2 0 1
 stim op
 tried S 0
 stim op
@@ -562,9 +464,7 @@ stim op
 stim op
 stim op
 stim op
-drained
-passend
-last
+drained .. last
 
 replay 1
 as run

@@ -10,6 +10,7 @@ mod jobs;
 mod prints;
 mod repeats;
 mod scenes;
+mod shorts;
 pub mod sixteen;
 mod tables;
 

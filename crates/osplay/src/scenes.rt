@@ -4,6 +4,7 @@ use crate::differences::Difference;
 use crate::files::file_of;
 use crate::jobs::job_of;
 use crate::prints::{result_over, result_text, same};
+use crate::shorts::{push_in_full, push_part, repeat_of};
 use oscommand::Job;
 use std::alloc::{AllocError, Global};
 use std::sync::Wait;
@@ -16,7 +17,8 @@ pub struct Scene<'a> {
     stimuli: Option<&'a str>,
     turns: Option<&'a str>,
     log: Option<String>,
-    // What each log begins with.
+    // The lines of the last log, and what each log begins with.
+    logged: String,
     first: String,
     // What comes into the place of an `@`, one after the other, with `|` between.
     values: &'a str,
@@ -39,14 +41,21 @@ impl Block {
         }
     }
 
-    pub fn push(&mut self, line: &str) -> Result<(), AllocError> {
+    fn copied(&self, alloc: Global) -> Result<Block, AllocError> {
+        Ok(Block {
+            printed: String::from_str(alloc, self.printed.as_str())?,
+            reported: String::from_str(alloc, self.reported.as_str())?,
+        })
+    }
+
+    /// Adds a line, or those that it stands for.
+    pub fn push(&mut self, line: &str) -> Result<(), Difference> {
         let text = if self.reported.is_empty() && !line.starts_with("fault ") {
             &mut self.printed
         } else {
             &mut self.reported
         };
-        text.push_str(line)?;
-        text.push_str("\n")
+        push_in_full(text, line)
     }
 }
 
@@ -57,6 +66,7 @@ impl<'a> Scene<'a> {
             stimuli: None,
             turns: None,
             log: None,
+            logged: String::new(alloc),
             first: String::new(alloc),
             values: "",
             before: Block::new(alloc),
@@ -106,36 +116,38 @@ impl<'a> Scene<'a> {
     ) -> Result<usize, Difference> {
         match head {
             "first" => self.first = block.printed,
-            "log" => self.log = Some(self.begun(alloc, block.printed.as_str())?),
-            "log open" => {
-                let lines = block.printed.strip_suffix('\n').ok_or("a line")?;
-                self.log = Some(self.begun(alloc, lines)?);
+            "log" | "log open" => {
+                self.logged = self.in_full(alloc, head, block)?.printed;
+                self.log = Some(self.begun(alloc, head)?);
             }
-            job => return self.play_job(rt, alloc, job, block),
+            job => {
+                self.before = self.in_full(alloc, job, block)?;
+                return self.play_job(rt, alloc, job);
+            }
         }
         Ok(0)
     }
 
-    // The log of these lines.
-    fn begun(&self, alloc: Global, lines: &str) -> Result<String, AllocError> {
+    // The log of the last lines of one. An open one has no last line end.
+    fn begun(&self, alloc: Global, head: &str) -> Result<String, Difference> {
+        let lines = self.logged.as_str();
+        let lines = if head == "log open" {
+            lines.strip_suffix('\n').ok_or("a line")?
+        } else {
+            lines
+        };
         let mut log = String::from_str(alloc, self.first.as_str())?;
         log.push_str(lines)?;
         Ok(log)
     }
 
-    // Does the job of a head for each value, and compares its result with the block.
+    // Does the job of a head for each value, and compares its result with the block before. Answers how often.
     fn play_job(
         &mut self,
         rt: &(impl Threads + Wait + Sync),
         alloc: Global,
         head: &str,
-        block: Block,
     ) -> Result<usize, Difference> {
-        match block.printed.as_str() {
-            "as before\n" => {}
-            "as run\n" => self.before = self.as_run(alloc, head)?,
-            _ => self.before = block,
-        }
         let mut jobs = 0usize;
         for value in self.values().split('|') {
             self.play_once(rt, alloc, head, value)?;
@@ -143,11 +155,60 @@ impl<'a> Scene<'a> {
         }
         let printed = self.before.printed.as_str();
         if head.starts_with("items ") {
+            self.logged = String::from_str(alloc, printed)?;
             self.log = Some(String::from_str(alloc, printed)?);
         } else if head.starts_with("run") {
             self.ran = String::from_str(alloc, printed)?;
         }
         Ok(jobs)
+    }
+
+    // The block of a job with the lines of earlier blocks that it repeats.
+    fn in_full(&self, alloc: Global, head: &str, block: Block) -> Result<Block, Difference> {
+        if block.reported.is_empty() {
+            if let Some(words) = block.printed.strip_suffix('\n') {
+                if let Some(earlier) = self.earlier(alloc, head, words)? {
+                    return Ok(earlier);
+                }
+            }
+        }
+        let mut printed = String::new(alloc);
+        for line in block.printed.lines() {
+            self.push_repeated(alloc, head, &mut printed, line)?;
+        }
+        Ok(Block {
+            printed,
+            reported: block.reported,
+        })
+    }
+
+    // Adds the lines of an earlier block that this line of a job's block stands for, or itself.
+    fn push_repeated(
+        &self,
+        alloc: Global,
+        head: &str,
+        printed: &mut String,
+        line: &str,
+    ) -> Result<(), Difference> {
+        if let Some((words, part)) = repeat_of(line) {
+            let earlier = self.earlier(alloc, head, words)?.ok_or("an earlier block")?;
+            return push_part(alloc, printed, earlier.printed.as_str(), part);
+        }
+        printed.push_str(line)?;
+        Ok(printed.push_str("\n")?)
+    }
+
+    // The block that these words mean under a head, if they mean one.
+    fn earlier(&self, alloc: Global, head: &str, words: &str) -> Result<Option<Block>, AllocError> {
+        match words {
+            "as before" if head.starts_with("log") => Ok(Some(Block {
+                printed: String::from_str(alloc, self.logged.as_str())?,
+                reported: String::new(alloc),
+            })),
+            "as before" => Ok(Some(self.before.copied(alloc)?)),
+            "as run" => Ok(Some(self.as_run(alloc, head)?)),
+            _ => Ok(None),
+        }
     }
 
     // What the last run printed: of a replay's core its block.

@@ -20,10 +20,7 @@ start 11 E_OK
 start 12 E_OK
 start 13 E_OK
 start 14 E_OK
-start 15 E_OK
-hook Startup
-act A0
-pre A0
+start 15 E_OK .. pre A0
 out 1 ActivateTask B1
 act B0
 in 15 ActivateTask B0 E_OK
@@ -33,10 +30,7 @@ end A0
 pre B0
 post B0
 end B0
-core 1
-hook Startup
-act A1
-pre A1
+core 1 .. pre A1
 out 2 ActivateTask B2
 act B1
 in 0 ActivateTask B1 E_OK
@@ -46,10 +40,7 @@ end A1
 pre B1
 post B1
 end B1
-core 2
-hook Startup
-act A2
-pre A2
+core 2 .. pre A2
 out 3 ActivateTask B3
 act B2
 in 1 ActivateTask B2 E_OK
@@ -59,10 +50,7 @@ end A2
 pre B2
 post B2
 end B2
-core 3
-hook Startup
-act A3
-pre A3
+core 3 .. pre A3
 out 4 ActivateTask B4
 act B3
 in 2 ActivateTask B3 E_OK
@@ -72,10 +60,7 @@ end A3
 pre B3
 post B3
 end B3
-core 4
-hook Startup
-act A4
-pre A4
+core 4 .. pre A4
 out 5 ActivateTask B5
 act B4
 in 3 ActivateTask B4 E_OK
@@ -85,10 +70,7 @@ end A4
 pre B4
 post B4
 end B4
-core 5
-hook Startup
-act A5
-pre A5
+core 5 .. pre A5
 out 6 ActivateTask B6
 act B5
 in 4 ActivateTask B5 E_OK
@@ -98,10 +80,7 @@ end A5
 pre B5
 post B5
 end B5
-core 6
-hook Startup
-act A6
-pre A6
+core 6 .. pre A6
 out 7 ActivateTask B7
 act B6
 in 5 ActivateTask B6 E_OK
@@ -111,10 +90,7 @@ end A6
 pre B6
 post B6
 end B6
-core 7
-hook Startup
-act A7
-pre A7
+core 7 .. pre A7
 out 8 ActivateTask B8
 act B7
 in 6 ActivateTask B7 E_OK
@@ -124,10 +100,7 @@ end A7
 pre B7
 post B7
 end B7
-core 8
-hook Startup
-act A8
-pre A8
+core 8 .. pre A8
 out 9 ActivateTask B9
 act B8
 in 7 ActivateTask B8 E_OK
@@ -137,10 +110,7 @@ end A8
 pre B8
 post B8
 end B8
-core 9
-hook Startup
-act A9
-pre A9
+core 9 .. pre A9
 out 10 ActivateTask B10
 act B9
 in 8 ActivateTask B9 E_OK
@@ -150,10 +120,7 @@ end A9
 pre B9
 post B9
 end B9
-core 10
-hook Startup
-act A10
-pre A10
+core 10 .. pre A10
 out 11 ActivateTask B11
 act B10
 in 9 ActivateTask B10 E_OK
@@ -163,10 +130,7 @@ end A10
 pre B10
 post B10
 end B10
-core 11
-hook Startup
-act A11
-pre A11
+core 11 .. pre A11
 out 12 ActivateTask B12
 act B11
 in 10 ActivateTask B11 E_OK
@@ -176,10 +140,7 @@ end A11
 pre B11
 post B11
 end B11
-core 12
-hook Startup
-act A12
-pre A12
+core 12 .. pre A12
 out 13 ActivateTask B13
 act B12
 in 11 ActivateTask B12 E_OK
@@ -189,10 +150,7 @@ end A12
 pre B12
 post B12
 end B12
-core 13
-hook Startup
-act A13
-pre A13
+core 13 .. pre A13
 out 14 ActivateTask B14
 act B13
 in 12 ActivateTask B13 E_OK
@@ -202,10 +160,7 @@ end A13
 pre B13
 post B13
 end B13
-core 14
-hook Startup
-act A14
-pre A14
+core 14 .. pre A14
 out 15 ActivateTask B15
 act B14
 in 13 ActivateTask B14 E_OK
@@ -215,10 +170,7 @@ end A14
 pre B14
 post B14
 end B14
-core 15
-hook Startup
-act A15
-pre A15
+core 15 .. pre A15
 out 0 ActivateTask B0
 act B15
 in 14 ActivateTask B15 E_OK

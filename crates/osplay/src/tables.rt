@@ -51,9 +51,16 @@ pub fn play_all(
 // the next configuration.
 // `run`, `items CORE`, `replay CORE`, `check`, `cut CORE`, `groups`, `group CORE`, `threads TURNS`, `threads TURNS CORE` or
 // `threads TURNS order`: a job, and what it prints. `threads locked ..`: with locked mailboxes in place of rings.
-// A last line `fault ..` is reported, and the job exits with 1; else it exits with 0, or with the N of `JOB -> N`. The one line
-// `as before` means the block of the job before; `as run` what the last `run` printed, and under a `replay` the block of its core in
-// that. What `items` prints is the log of the jobs behind it.
+// A last line `fault ..` is reported, and the job exits with 1; else it exits with 0, or with the N of `JOB -> N`. What `items` prints
+// is the log of the jobs behind it.
+// A part `<3*T>` stands for three T (`repeats.rt`), and in a block one line may stand for several:
+// `A .. B`: A, the lines that each run has behind it, and B. Behind `core 0`, or `start 1 E_OK`, that is `hook Startup`, and with
+// `pre T` as B also `act T`; behind `on`, or `began 1 E_OK`, `entered`, `pass1 M` and `readied`; behind `entered` the latter two; and
+// behind `drained` it is `passend`.
+// `as before`, alone: the block of the job before, or under `log` the log before, without what is `first`.
+// `as run`, alone: what the last `run` printed, and under a `replay` the block of its core in that.
+// `as before up to L`, `as run up to L`: the lines of that up to the last one that is L, and it.
+// `as before from L`, `as run from L`: the first one that is L, and the lines behind it.
 fn play(
     rt: &(impl Threads + Wait + Sync),
     alloc: Global,

@@ -2,7 +2,6 @@
 
 mod alarms;
 mod cores;
-mod counters;
 mod events;
 mod files;
 mod groups;

@@ -1,27 +1,48 @@
-//! Worked examples of alarms.
+//! Worked examples of counters and alarms.
 
 use osplay::play_all;
 use std::test::Fail;
 
-const RUNS: &str = r#"
+const COUNTERS: &str = r#"
+// A counter that ticks advance past its greatest value, one that a task advances, and each check of the services.
+config {"cores":[{"id":0,"counters":[{"name":"C","max":2},{"name":"S","max":9,"min":2,"software":true}],"tasks":[{"name":"A","prio":1,"auto":["M"],"script":"GetCounterValue C v0;IncrementCounter S;GetCounterValue S v1;IncrementCounter C;IncrementCounter F;IncrementCounter ?;GetCounterValue ? v2;GetCounterValue C v0;TerminateTask"}]},{"id":1,"counters":[{"name":"F","max":5,"software":true}]}]}
+stimuli {"0":"tick tick op op op op op op op tick op op"}
+run
+core 0 .. pre A
+tick
+tick
+stat A GetCounterValue E_OK 2
+stat A IncrementCounter E_OK
+stat A GetCounterValue E_OK 1
+stat A IncrementCounter E_OS_ID
+hook Error E_OS_ID
+stat A IncrementCounter E_OS_CORE
+hook Error E_OS_CORE
+stat A IncrementCounter E_OS_ID
+hook Error E_OS_ID
+stat A GetCounterValue E_OS_ID
+hook Error E_OS_ID
+tick
+stat A GetCounterValue E_OK 0
+post A
+end A
+core 1
+ended
+"#;
+
+const ALARMS: &str = r#"
 // An alarm that is to be due at the value that its counter has is due a full turn later.
 config {"cores":[{"id":0,"tasks":[{"name":"A","prio":1,"auto":["M"],"script":"SetAbsAlarm L 0 0;SetRelAlarm K 0 0;TerminateTask"},{"name":"B","prio":2,"script":"TerminateTask"}],"counters":[{"name":"C","max":3}],"alarms":[{"name":"L","counter":"C","action":"ActivateTask B"},{"name":"K","counter":"C","action":"ActivateTask B"}]}]}
 stimuli {"0":"op op op tick tick tick tick op"}
 run
-core 0
-hook Startup
-act A
-pre A
+core 0 .. pre A
 stat A SetAbsAlarm E_OK
 stat A SetRelAlarm E_OS_VALUE
 hook Error E_OS_VALUE
 post A
 end A
-tick
-tick
-tick
-tick
-alarm L
+<4*tick
+>alarm L
 act B
 pre B
 post B
@@ -32,10 +53,7 @@ ended
 config {"cores":[{"id":0,"tasks":[{"name":"A","prio":1,"auto":["M"],"script":"SetRelAlarm L 2 3;TerminateTask"},{"name":"B","prio":1,"script":"GetCounterValue C v0;TerminateTask"}],"counters":[{"name":"C","max":3}],"alarms":[{"name":"L","counter":"C","action":"ActivateTask B"}]}]}
 stimuli {"0":"op op tick tick op op tick tick tick op op"}
 run
-core 0
-hook Startup
-act A
-pre A
+core 0 .. pre A
 stat A SetRelAlarm E_OK
 post A
 end A
@@ -47,10 +65,8 @@ pre B
 stat B GetCounterValue E_OK 2
 post B
 end B
-tick
-tick
-tick
-alarm L
+<3*tick
+>alarm L
 act B
 pre B
 stat B GetCounterValue E_OK 1
@@ -58,44 +74,12 @@ post B
 end B
 ended
 
-// Three alarms that act on another core, whose mailbox holds one envelope.
-config {"cap":1,"cores":[{"id":0,"start":[1],"counters":[{"name":"C","max":9}],"alarms":[{"name":"L1","counter":"C","action":"ActivateTask P","auto":{"modes":["M"],"start":1,"cycle":0}},{"name":"L2","counter":"C","action":"ActivateTask Q","auto":{"modes":["M"],"start":1,"cycle":0}},{"name":"L3","counter":"C","action":"ActivateTask R","auto":{"modes":["M"],"start":1,"cycle":0}}]},{"id":1,"tasks":[{"name":"P","prio":1,"script":"TerminateTask"},{"name":"Q","prio":1,"script":"TerminateTask"},{"name":"R","prio":1,"script":"TerminateTask"}]}]}
-stimuli {"0":"tick"}
-run
-core 0
-start 1 E_OK
-hook Startup
-tick
-alarm L1
-out 1 ActivateTask P
-alarm L2
-out 1 ActivateTask Q
-alarm L3
-out 1 ActivateTask R
-core 1
-hook Startup
-act P
-in 0 ActivateTask P E_OK
-pre P
-act Q
-in 0 ActivateTask Q E_OK
-act R
-in 0 ActivateTask R E_OK
-ended
-
-turns "0o 1l 1o 0o 0l 1l 0o 1o 0l 1l 0o 0o 0o 0o 1s0 0o 1s0 0o 1s0 0o 1o 0l 1l 0l 1l"
-run
-as before
-
 // An alarm of another core is set, asked for and cancelled.
 config {"cores":[{"id":0,"start":[1],"tasks":[{"name":"A","prio":1,"auto":["M"],"script":"SetRelAlarm L 5 0;GetAlarm L v0;CancelAlarm L;TerminateTask"}]},{"id":1,"tasks":[{"name":"B","prio":1,"script":"TerminateTask"}],"counters":[{"name":"C","max":9}],"alarms":[{"name":"L","counter":"C","action":"ActivateTask B"}]}]}
 stimuli {"0":"op op op op"}
 run
 core 0
-start 1 E_OK
-hook Startup
-act A
-pre A
+start 1 E_OK .. pre A
 out 1 SetRelAlarm L 5 0
 stat A SetRelAlarm E_OK
 out 1 GetAlarm L v0
@@ -104,9 +88,7 @@ out 1 CancelAlarm L
 stat A CancelAlarm E_OK
 post A
 end A
-core 1
-hook Startup
-in 0 SetRelAlarm L 5 0 E_OK
+core 1 .. in 0 SetRelAlarm L 5 0 E_OK
 in 0 GetAlarm L v0 E_OK 5
 in 0 CancelAlarm L E_OK
 ended
@@ -115,10 +97,7 @@ ended
 config {"cores":[{"id":0,"counters":[{"name":"C","max":5,"min":2}],"alarms":[{"name":"L","counter":"C","action":"ActivateTask A"}],"tasks":[{"name":"A","prio":1,"auto":["M"],"script":"SetRelAlarm ? 1 0;SetAbsAlarm F 1 0;CancelAlarm L;GetAlarm L v0;SetRelAlarm L 0 0;SetRelAlarm L 6 0;SetRelAlarm L 1 1;SetRelAlarm L 1 6;SetAbsAlarm L 6 0;SetAbsAlarm L 0 1;SetRelAlarm L 5 5;SetAbsAlarm L 0 0;SetRelAlarm L 0 0;GetAlarm L v0;CancelAlarm L;CancelAlarm L;SetAbsAlarm ? 0 0;GetAlarm ? v0;CancelAlarm ?;TerminateTask"}]},{"id":1,"counters":[{"name":"D","max":5}],"alarms":[{"name":"F","counter":"D","action":"ActivateTask A"}]}]}
 stimuli {"0":"op op op op op op op op op op op op op op op op op op op op"}
 run
-core 0
-hook Startup
-act A
-pre A
+core 0 .. pre A
 stat A SetRelAlarm E_OS_ID
 hook Error E_OS_ID
 stat A SetAbsAlarm E_OS_CORE
@@ -127,15 +106,9 @@ stat A CancelAlarm E_OS_NOFUNC
 hook Error E_OS_NOFUNC
 stat A GetAlarm E_OS_NOFUNC
 hook Error E_OS_NOFUNC
-stat A SetRelAlarm E_OS_VALUE
+<4*stat A SetRelAlarm E_OS_VALUE
 hook Error E_OS_VALUE
-stat A SetRelAlarm E_OS_VALUE
-hook Error E_OS_VALUE
-stat A SetRelAlarm E_OS_VALUE
-hook Error E_OS_VALUE
-stat A SetRelAlarm E_OS_VALUE
-hook Error E_OS_VALUE
-stat A SetAbsAlarm E_OS_VALUE
+>stat A SetAbsAlarm E_OS_VALUE
 hook Error E_OS_VALUE
 stat A SetAbsAlarm E_OS_VALUE
 hook Error E_OS_VALUE
@@ -163,9 +136,7 @@ ended
 config {"cores":[{"id":0,"counters":[{"name":"C","max":9},{"name":"S","max":9,"software":true}],"alarms":[{"name":"L1","counter":"C","action":"ActivateTask A","auto":{"modes":["M"],"start":1,"cycle":0}},{"name":"L2","counter":"C","action":"SetEvent W 4","auto":{"modes":["M"],"start":1,"cycle":0}},{"name":"L3","counter":"C","action":"SetEvent A 1","auto":{"modes":["M"],"start":1,"cycle":0}},{"name":"L4","counter":"S","action":"ActivateTask B","auto":{"modes":["M"],"start":1,"cycle":0}},{"name":"L5","counter":"C","action":"SetEvent V 1","auto":{"modes":["M"],"start":1,"cycle":0}}],"tasks":[{"name":"A","prio":1,"auto":["M"],"script":"IncrementCounter S;TerminateTask"},{"name":"W","prio":2,"extended":true,"auto":["M"],"script":"WaitEvent 4;ClearEvent 4;TerminateTask"},{"name":"B","prio":3,"script":"TerminateTask"},{"name":"V","prio":4,"extended":true,"script":"TerminateTask"}]}]}
 stimuli {"0":"op tick op op op op op"}
 run
-core 0
-hook Startup
-act A
+core 0 .. act A
 act W
 pre W
 post W
@@ -205,9 +176,7 @@ config {"cores":[{"id":0,"start":[1],"counters":[{"name":"C","max":3}],"alarms":
 stimuli {"0":"tick tick","1":"op"}
 run
 core 0
-start 1 E_OK
-hook Startup
-tick
+start 1 E_OK .. tick
 alarm L1
 out 1 ActivateTask T
 alarm L2
@@ -217,10 +186,7 @@ alarm L1
 out 1 ActivateTask T
 alarm L3
 out 1 SetEvent W 2
-core 1
-hook Startup
-act W
-pre W
+core 1 .. pre W
 post W
 wait W 2
 act T
@@ -238,6 +204,6 @@ ended
 "#;
 
 #[test]
-fn alarms_come_to_their_texts(rt: HostRuntime) -> Result<(), Fail> {
-    play_all(&rt, rt.alloc(), &[RUNS], 8)
+fn counters_and_alarms_come_to_their_texts(rt: HostRuntime) -> Result<(), Fail> {
+    play_all(&rt, rt.alloc(), &[COUNTERS, ALARMS], 7)
 }

@@ -17,60 +17,42 @@ config {"version":2,"cores":[{"id":0,"start":[15],"tasks":[{"name":"A","prio":1,
 stimuli {"0":"op op","15":"op op"}
 run
 core 0
-start 15 E_OK
-hook Startup
-act A
-pre A
+start 15 E_OK .. pre A
 out 15 ActivateTask B
 stat A ActivateTask E_OK
 post A
 end A
-core 15
-hook Startup
-act B
+core 15 .. act B
 in 0 ActivateTask B E_OK
 pre B
 post B
 end B
 ended
 
-turns "0o 15l 15o 0o 0l 15l 0o 15o 0l 15l 0o 0o 15s0 15o 0s15 15l 0o 15o 0o 15o 15o 0l 15l 0l 15l"
-run
-as before
-
-stimuli {"0":"op op","15":"op op"}
 items 0
-began 15 E_OK
-entered
-pass1 M
-readied
-pass2 0 15
+began 15 E_OK .. pass2 0 15
 stim op
 post 15
 in 15 0 rep E_OK
 stim op
-drained
-passend
-last
+drained .. last
 
 replay 0
 as run
 
 items 15
-on
-entered
-pass1 M
-readied
-pass2 0 15
+on .. pass2 0 15
 stim op
 in 0 0 req ActivateTask B
 post 0
 stim op
-drained
-passend
-last
+drained .. last
 
 replay 15
+as run
+
+turns "0o 15l 15o 0o 0l 15l 0o 15o 0l 15l 0o 0o 15s0 15o 0s15 15l 0o 15o 0o 15o 15o 0l 15l 0l 15l"
+run
 as run
 
 // A core alone is of the same version.
@@ -86,10 +68,7 @@ cut 12
 config
 stimuli {"12":"op op"}
 run
-core 12
-hook Startup
-act V
-pre V
+core 12 .. pre V
 var V v0 3
 post V
 end V

@@ -8,9 +8,7 @@ const RUNS: &str = r#"
 config {"cores":[{"id":0,"tasks":[{"name":"W","prio":2,"extended":true,"auto":["M"],"script":"WaitEvent 1;TerminateTask"},{"name":"F","prio":2,"script":"TerminateTask"},{"name":"D","prio":1,"preemptable":false,"auto":["M"],"script":"ActivateTask F;SetEvent W 1;TerminateTask"}]}]}
 stimuli {"0":"op op op op op op"}
 run
-core 0
-hook Startup
-act W
+core 0 .. act W
 act D
 pre W
 post W
@@ -35,10 +33,7 @@ ended
 config {"cores":[{"id":0,"tasks":[{"name":"S","prio":1,"auto":["M"],"script":"ChainTask S"}]}]}
 stimuli {"0":"op op"}
 run
-core 0
-hook Startup
-act S
-pre S
+core 0 .. pre S
 post S
 end S
 act S
@@ -54,19 +49,13 @@ config {"cores":[{"id":0,"start":[1],"tasks":[{"name":"A","prio":1,"auto":["M"],
 stimuli {"0":"op op"}
 run
 core 0
-start 1 E_OK
-hook Startup
-act A
-pre A
+start 1 E_OK .. pre A
 out 1 ActivateTask B
 stat A ChainTask E_OS_LIMIT
 hook Error E_OS_LIMIT
 post A
 end A
-core 1
-hook Startup
-act B
-pre B
+core 1 .. pre B
 in 0 ActivateTask B E_OS_LIMIT
 ended
 
@@ -75,9 +64,7 @@ config {"cores":[{"id":0,"start":[1],"tasks":[{"name":"A","prio":1,"auto":["M"],
 stimuli {"0":"op op","1":"op op"}
 run
 core 0
-start 1 E_OK
-hook Startup
-act A
+start 1 E_OK .. act A
 act C
 pre A
 out 1 ActivateTask B
@@ -86,9 +73,7 @@ end A
 pre C
 post C
 end C
-core 1
-hook Startup
-act B
+core 1 .. act B
 in 0 ActivateTask B E_OK
 pre B
 post B
@@ -100,18 +85,12 @@ config {"cores":[{"id":0,"start":[1],"tasks":[{"name":"A","prio":1,"auto":["M"],
 stimuli {"0":"op op","1":"op op"}
 run
 core 0
-start 1 E_OK
-hook Startup
-act A
-pre A
+start 1 E_OK .. pre A
 out 1 SetEvent W 4
 stat A SetEvent E_OK
 post A
 end A
-core 1
-hook Startup
-act W
-pre W
+core 1 .. pre W
 post W
 wait W 4
 ev W 4
@@ -127,10 +106,7 @@ config {"cores":[{"id":0,"start":[1],"tasks":[{"name":"A","prio":1,"auto":["M"],
 stimuli {"0":"op op op"}
 run
 core 0
-start 1 E_OK
-hook Startup
-act A
-pre A
+start 1 E_OK .. pre A
 out 1 SetEvent B 1
 stat A SetEvent E_OS_ACCESS
 hook Error E_OS_ACCESS
@@ -139,9 +115,7 @@ stat A SetEvent E_OS_STATE
 hook Error E_OS_STATE
 post A
 end A
-core 1
-hook Startup
-in 0 SetEvent B 1 E_OS_ACCESS
+core 1 .. in 0 SetEvent B 1 E_OS_ACCESS
 in 0 SetEvent E 1 E_OS_STATE
 ended
 
@@ -149,9 +123,7 @@ ended
 config {"cores":[{"id":0,"tasks":[{"name":"B","prio":1,"auto":["M"],"script":"ChainTask ?;ChainTask N;GetResource R;ChainTask B;ReleaseResource R;SetEvent ? 1;SetEvent B 1;SetEvent E 1;ClearEvent 1;WaitEvent 1;GetEvent ? v0;GetEvent B v0;GetEvent E v0;ChainTask F;TerminateTask"},{"name":"F","prio":0,"auto":["M"],"script":"ActivateTask E;SetEvent E 6;GetEvent E v1;status v2;TerminateTask"},{"name":"E","prio":0,"extended":true,"script":"WaitEvent 3;ClearEvent 2;GetEvent E v0;GetResource R;WaitEvent 4;ReleaseResource R;WaitEvent 1;TerminateTask"}],"resources":[{"name":"R","ceiling":1}]},{"id":1,"tasks":[{"name":"N","prio":1,"script":"TerminateTask"}]}]}
 stimuli {"0":"op op op op op op op op op op op op op op op op op op op op op op op op op op op op"}
 run
-core 0
-hook Startup
-act B
+core 0 .. act B
 act F
 pre B
 stat B ChainTask E_OS_ID

@@ -55,7 +55,7 @@ core 1 group 1 2
 core 2 group 1 2
 
 // Two groups with a spinlock each,
-config {"spinlocks":[{"name":"S"},{"name":"T"}],"cores":[{"id":0,"start":[1,2,3],"tasks":[{"name":"T0","prio":1,"auto":["M"],"script":"GetSpinlock S;ReleaseSpinlock S;TerminateTask"}]},{"id":1,"tasks":[{"name":"T1","prio":1,"auto":["M"],"script":"GetSpinlock S;ReleaseSpinlock S;TerminateTask"}]},{"id":2,"tasks":[{"name":"T2","prio":1,"auto":["M"],"script":"GetSpinlock T;ReleaseSpinlock T;TerminateTask"}]},{"id":3,"tasks":[{"name":"T3","prio":1,"auto":["M"],"script":"GetSpinlock T;ReleaseSpinlock T;TerminateTask"}]}]}
+config {"spinlocks":[{"name":"S"},{"name":"T"}],"cores":[{"id":0,"start":[1,2,3],"tasks":[{"name":"Door","prio":1,"auto":["M"],"script":"GetSpinlock S;ReleaseSpinlock S;TerminateTask"}]},{"id":1,"tasks":[{"name":"Light","prio":1,"auto":["M"],"script":"GetSpinlock S;ReleaseSpinlock S;TerminateTask"}]},{"id":2,"tasks":[{"name":"Wiper","prio":1,"auto":["M"],"script":"GetSpinlock T;ReleaseSpinlock T;TerminateTask"}]},{"id":3,"tasks":[{"name":"Horn","prio":1,"auto":["M"],"script":"GetSpinlock T;ReleaseSpinlock T;TerminateTask"}]}]}
 groups
 core 0 group 0 1
 core 1 group 0 1
@@ -64,10 +64,10 @@ core 3 group 2 3
 
 // with both in the configuration of each,
 group 3
-{"cap":16,"cores":[{"alarms":[],"counters":[],"id":0,"isrs":[],"mode":"M","protection":"PRO_SHUTDOWN","resources":[],"start":[1,2,3],"tables":[],"tasks":[]},{"alarms":[],"counters":[],"id":1,"isrs":[],"mode":"M","protection":"PRO_SHUTDOWN","resources":[],"start":[],"tables":[],"tasks":[]},{"alarms":[],"counters":[],"id":2,"isrs":[],"mode":"M","protection":"PRO_SHUTDOWN","resources":[],"start":[],"tables":[],"tasks":[{"activations":1,"auto":["M"],"budget":0,"extended":false,"name":"T2","preemptable":true,"prio":1,"script":"GetSpinlock T;ReleaseSpinlock T;TerminateTask"}]},{"alarms":[],"counters":[],"id":3,"isrs":[],"mode":"M","protection":"PRO_SHUTDOWN","resources":[],"start":[],"tables":[],"tasks":[{"activations":1,"auto":["M"],"budget":0,"extended":false,"name":"T3","preemptable":true,"prio":1,"script":"GetSpinlock T;ReleaseSpinlock T;TerminateTask"}]}],"master":0,"modes":["M"],"spinlocks":[{"name":"S","next":null},{"name":"T","next":null}],"version":1}
+{"cap":16,"cores":[{"alarms":[],"counters":[],"id":0,"isrs":[],"mode":"M","protection":"PRO_SHUTDOWN","resources":[],"start":[1,2,3],"tables":[],"tasks":[]},{"alarms":[],"counters":[],"id":1,"isrs":[],"mode":"M","protection":"PRO_SHUTDOWN","resources":[],"start":[],"tables":[],"tasks":[]},{"alarms":[],"counters":[],"id":2,"isrs":[],"mode":"M","protection":"PRO_SHUTDOWN","resources":[],"start":[],"tables":[],"tasks":[{"activations":1,"auto":["M"],"budget":0,"extended":false,"name":"Wiper","preemptable":true,"prio":1,"script":"GetSpinlock T;ReleaseSpinlock T;TerminateTask"}]},{"alarms":[],"counters":[],"id":3,"isrs":[],"mode":"M","protection":"PRO_SHUTDOWN","resources":[],"start":[],"tables":[],"tasks":[{"activations":1,"auto":["M"],"budget":0,"extended":false,"name":"Horn","preemptable":true,"prio":1,"script":"GetSpinlock T;ReleaseSpinlock T;TerminateTask"}]}],"master":0,"modes":["M"],"spinlocks":[{"name":"S","next":null},{"name":"T","next":null}],"version":1}
 
 // and one group with one in common.
-config {"spinlocks":[{"name":"S"},{"name":"T"}],"cores":[{"id":0,"start":[1,2,3],"tasks":[{"name":"T0","prio":1,"auto":["M"],"script":"GetSpinlock T;ReleaseSpinlock T;TerminateTask"}]},{"id":1,"tasks":[{"name":"T1","prio":1,"auto":["M"],"script":"GetSpinlock T;ReleaseSpinlock T;TerminateTask"}]},{"id":2,"tasks":[{"name":"T2","prio":1,"auto":["M"],"script":"GetSpinlock T;ReleaseSpinlock T;TerminateTask"}]},{"id":3,"tasks":[{"name":"T3","prio":1,"auto":["M"],"script":"GetSpinlock T;ReleaseSpinlock T;TerminateTask"}]}]}
+config {"spinlocks":[{"name":"S"},{"name":"T"}],"cores":[{"id":0,"start":[1,2,3],"tasks":[{"name":"Door","prio":1,"auto":["M"],"script":"GetSpinlock T;ReleaseSpinlock T;TerminateTask"}]},{"id":1,"tasks":[{"name":"Light","prio":1,"auto":["M"],"script":"GetSpinlock T;ReleaseSpinlock T;TerminateTask"}]},{"id":2,"tasks":[{"name":"Wiper","prio":1,"auto":["M"],"script":"GetSpinlock T;ReleaseSpinlock T;TerminateTask"}]},{"id":3,"tasks":[{"name":"Horn","prio":1,"auto":["M"],"script":"GetSpinlock T;ReleaseSpinlock T;TerminateTask"}]}]}
 groups
 core 0 group 0 1 2 3
 core 1 group 0 1 2 3

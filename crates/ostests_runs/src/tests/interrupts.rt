@@ -9,9 +9,7 @@ const RUNS: &str = r#"
 config {"cores":[{"id":0,"resources":[{"name":"R","ceiling":2}],"protection":"PRO_TERMINATETASKISR","tasks":[{"name":"W","prio":2,"extended":true,"auto":["M"],"budget":2,"script":"WaitEvent 1;GetResource R;TerminateTask"},{"name":"D","prio":1,"auto":["M"],"script":"SetEvent W 1;TerminateTask"}]}]}
 stimuli {"0":"tick op op op tick tick op"}
 run
-core 0
-hook Startup
-act W
+core 0 .. act W
 act D
 pre W
 tick
@@ -37,24 +35,7 @@ ended
 config {"cores":[{"id":0,"resources":[{"name":"R","ceiling":2}],"protection":"PRO_IGNORE","tasks":[{"name":"W","prio":2,"extended":true,"auto":["M"],"budget":2,"script":"WaitEvent 1;GetResource R;TerminateTask"},{"name":"D","prio":1,"auto":["M"],"script":"SetEvent W 1;TerminateTask"}]}]}
 stimuli {"0":"tick op op op tick tick op"}
 run
-core 0
-hook Startup
-act W
-act D
-pre W
-tick
-post W
-wait W 1
-pre D
-ev W 1
-free W
-stat D SetEvent E_OK
-post D
-pre W
-stat W GetResource E_OK
-tick
-tick
-hook Protection E_OS_PROTECTION_TIME
+as before up to hook Protection E_OS_PROTECTION_TIME
 hook Shutdown E_OS_PROTECTION_TIME
 ended
 
@@ -62,10 +43,7 @@ ended
 config {"cores":[{"id":0,"tasks":[{"name":"A","prio":1,"auto":["M"],"script":"SuspendAllInterrupts;ActivateTask A;ResumeAllInterrupts;TerminateTask"},{"name":"H","prio":2,"script":"TerminateTask"}],"isrs":[{"name":"I1","level":1,"script":"ActivateTask H"}]}]}
 stimuli {"0":"op irq=I1 irq=I1 op op op op op op"}
 run
-core 0
-hook Startup
-act A
-pre A
+core 0 .. pre A
 irq I1
 lost I1
 stat A ActivateTask E_OS_DISABLEDINT
@@ -87,10 +65,7 @@ ended
 config {"cores":[{"id":0,"tasks":[{"name":"A","prio":1,"auto":["M"],"script":"TerminateTask"}],"isrs":[{"name":"I1","level":1,"script":"SuspendAllInterrupts"}]}]}
 stimuli {"0":"irq=I1 op op op"}
 run
-core 0
-hook Startup
-act A
-pre A
+core 0 .. pre A
 irq I1
 enter I1
 hook Error E_OS_DISABLEDINT
@@ -103,10 +78,7 @@ ended
 config {"cores":[{"id":0,"tasks":[{"name":"A","prio":1,"auto":["M"],"script":"work;TerminateTask"}],"isrs":[{"name":"I1","level":1,"script":"work;add v0 1"},{"name":"I2","level":2,"script":"work"},{"name":"J2","level":2,"script":"work"}]}]}
 stimuli {"0":"irq=I1 op irq=I2 irq=J2 op op op op op op op op"}
 run
-core 0
-hook Startup
-act A
-pre A
+core 0 .. pre A
 irq I1
 enter I1
 irq I2
@@ -126,10 +98,7 @@ ended
 config {"cores":[{"id":0,"tasks":[{"name":"A","prio":1,"auto":["M"],"script":"TerminateTask"},{"name":"E","prio":3,"extended":true,"script":"WaitEvent 1;TerminateTask"}],"isrs":[{"name":"I","level":1,"script":"TerminateTask;ChainTask A;Schedule;ClearEvent 1;WaitEvent 1;ActivateTask E"}]}]}
 stimuli {"0":"irq=I op irq=I irq=I op op op op op op op op op op op op op op op op"}
 run
-core 0
-hook Startup
-act A
-pre A
+core 0 .. pre A
 irq I
 enter I
 stat I TerminateTask E_OS_CALLEVEL
@@ -175,10 +144,7 @@ ended
 config {"cores":[{"id":0,"tasks":[{"name":"A","prio":1,"auto":["M"],"script":"SuspendAllInterrupts;TerminateTask"}],"isrs":[{"name":"I","level":1,"script":"work"}]}]}
 stimuli {"0":"op irq=I op op op op"}
 run
-core 0
-hook Startup
-act A
-pre A
+core 0 .. pre A
 irq I
 stat A TerminateTask E_OS_DISABLEDINT
 hook Error E_OS_DISABLEDINT
@@ -193,10 +159,7 @@ ended
 config {"cores":[{"id":0,"protection":"PRO_TERMINATETASKISR","counters":[{"name":"C","max":9}],"alarms":[{"name":"L","counter":"C","action":"ActivateTask B","auto":{"modes":["M"],"start":3,"cycle":0}}],"tasks":[{"name":"A","prio":1,"auto":["M"],"budget":2,"script":"jump 0"},{"name":"B","prio":2,"script":"TerminateTask"}],"isrs":[{"name":"I","level":1,"budget":2,"script":"SuspendAllInterrupts;jump 1"}]}]}
 stimuli {"0":"tick irq=I op tick tick op op tick op"}
 run
-core 0
-hook Startup
-act A
-pre A
+core 0 .. pre A
 tick
 irq I
 enter I
@@ -220,10 +183,7 @@ ended
 config {"cores":[{"id":0,"protection":"PRO_TERMINATETASKISR","tasks":[{"name":"A","prio":1,"auto":["M"],"activations":2,"budget":1,"script":"ActivateTask A;jump 1"}]}]}
 stimuli {"0":"op tick op op tick tick op"}
 run
-core 0
-hook Startup
-act A
-pre A
+core 0 .. pre A
 act A
 stat A ActivateTask E_OK
 tick
@@ -245,10 +205,7 @@ ended
 config {"cores":[{"id":0,"protection":"PRO_SHUTDOWN","counters":[{"name":"C","max":9}],"alarms":[{"name":"L","counter":"C","action":"ActivateTask B","auto":{"modes":["M"],"start":1,"cycle":0}}],"tasks":[{"name":"A","prio":1,"auto":["M"],"budget":1,"script":"jump 0"},{"name":"B","prio":2,"script":"TerminateTask"}]}]}
 stimuli {"0":"op tick op tick op"}
 run
-core 0
-hook Startup
-act A
-pre A
+core 0 .. pre A
 tick
 hook Protection E_OS_PROTECTION_TIME
 hook Shutdown E_OS_PROTECTION_TIME
@@ -271,10 +228,7 @@ config {"cores":[{"id":0,"start":[1],"counters":[{"name":"C","max":9}],"alarms":
 stimuli {"0":"op op op tick op op op","1":"op tick op op"}
 run
 core 0
-start 1 E_OK
-hook Startup
-act A
-pre A
+start 1 E_OK .. pre A
 tick
 alarm L
 out 1 ActivateTask B
@@ -286,10 +240,7 @@ stat A ActivateTask E_OS_CORE
 hook Error E_OS_CORE
 post A
 end A
-core 1
-hook Startup
-act X
-pre X
+core 1 .. pre X
 tick
 hook Protection E_OS_PROTECTION_TIME
 hook Shutdown E_OS_PROTECTION_TIME
@@ -300,16 +251,10 @@ config {"cores":[{"id":0,"start":[1],"tasks":[{"name":"A","prio":1,"auto":["M"],
 stimuli {"0":"op","1":"irq=I tick op op tick tick op irq=I"}
 run
 core 0
-start 1 E_OK
-hook Startup
-act A
-pre A
+start 1 E_OK .. pre A
 post A
 end A
-core 1
-hook Startup
-act X
-pre X
+core 1 .. pre X
 irq I
 enter I
 tick
@@ -324,19 +269,7 @@ ended
 config {"master":1,"cores":[{"id":1,"protection":"PRO_SHUTDOWN","tasks":[{"name":"X","prio":1,"auto":["M"],"budget":2,"script":"jump 0"}],"isrs":[{"name":"I","level":1,"script":"work"}]}]}
 stimuli {"1":"irq=I tick op op tick tick op irq=I"}
 run
-core 1
-hook Startup
-act X
-pre X
-irq I
-enter I
-tick
-leave I
-tick
-tick
-hook Protection E_OS_PROTECTION_TIME
-hook Shutdown E_OS_PROTECTION_TIME
-ended
+as run from core 1
 
 // An ISR calls another core; while it awaits the reply, no interrupt is taken, and the task that was activated
 // meanwhile waits.
@@ -344,10 +277,7 @@ config {"cores":[{"id":0,"start":[1],"tasks":[{"name":"A","prio":1,"auto":["M"],
 stimuli {"0":"irq=I op irq=J op op op op op op op","1":"op op op"}
 run
 core 0
-start 1 E_OK
-hook Startup
-act A
-pre A
+start 1 E_OK .. pre A
 irq I
 enter I
 out 1 ActivateTask B
@@ -366,9 +296,7 @@ end H
 pre A
 post A
 end A
-core 1
-hook Startup
-act B
+core 1 .. act B
 in 0 ActivateTask B E_OK
 pre B
 out 0 ActivateTask H

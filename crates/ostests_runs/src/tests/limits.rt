@@ -77,10 +77,7 @@ config {"cores":[{"id":0,"isrs":[{"name":"I","level":1,"script":"work"}],"tasks"
 // two more. The last 54 operations resume interrupts.
 stimuli {"0":"op op irq=I<307* op><204* op><54* op>"}
 run
-core 0
-hook Startup
-act A
-pre A
+core 0 .. pre A
 var A v0 -3
 irq I
 var A v0 -2
@@ -93,17 +90,7 @@ ended
 // One more resumes the last of 255 suspensions.
 stimuli {"0":"op op irq=I<307* op><204* op><55* op>"}
 run
-core 0
-hook Startup
-act A
-pre A
-var A v0 -3
-irq I
-var A v0 -2
-var A v0 -1
-var A v0 0
-var A v1 1
-var A v1 2
+as before up to var A v1 2
 enter I
 ended
 "#;

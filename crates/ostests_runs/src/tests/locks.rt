@@ -8,10 +8,7 @@ const RUNS: &str = r#"
 config {"cores":[{"id":0,"tasks":[{"name":"A","prio":1,"auto":["M"],"script":"GetResource R;work;ReleaseResource R;TerminateTask"}],"protection":"PRO_TERMINATETASKISR","resources":[{"name":"R","ceiling":1,"lock":2}]}]}
 stimuli {"0":"op tick op tick op"}
 run
-core 0
-hook Startup
-act A
-pre A
+core 0 .. pre A
 stat A GetResource E_OK
 tick
 tick
@@ -20,18 +17,13 @@ end A
 ended
 
 items 0
-entered
-pass1 M
-readied
-pass2 0
+entered .. pass2 0
 stim op
 stim tick
 stim op
 stim tick
 stim op
-drained
-passend
-last
+drained .. last
 
 replay 0
 as run
@@ -40,10 +32,7 @@ as run
 config {"cores":[{"id":0,"tasks":[{"name":"A","prio":1,"auto":["M"],"budget":2,"script":"GetResource R;work;ReleaseResource R;TerminateTask"}],"protection":"PRO_TERMINATETASKISR","resources":[{"name":"R","ceiling":1,"lock":2}]}]}
 stimuli {"0":"op tick op tick op"}
 run
-core 0
-hook Startup
-act A
-pre A
+core 0 .. pre A
 stat A GetResource E_OK
 tick
 tick
@@ -55,10 +44,7 @@ ended
 config {"cores":[{"id":0,"tasks":[{"name":"A","prio":1,"auto":["M"],"budget":3,"script":"GetResource R;work;ReleaseResource R;TerminateTask"}],"protection":"PRO_TERMINATETASKISR","resources":[{"name":"R","ceiling":1,"lock":2}]}]}
 stimuli {"0":"tick op tick tick op"}
 run
-core 0
-hook Startup
-act A
-pre A
+core 0 .. pre A
 tick
 stat A GetResource E_OK
 tick
@@ -70,10 +56,7 @@ ended
 // and without it the lock budget is reached first.
 stimuli {"0":"op tick tick tick op"}
 run
-core 0
-hook Startup
-act A
-pre A
+core 0 .. pre A
 stat A GetResource E_OK
 tick
 tick
@@ -86,15 +69,7 @@ ended
 config {"cores":[{"id":0,"protection":"PRO_TERMINATETASKISR","counters":[{"name":"C","max":9}],"alarms":[{"name":"L","counter":"C","action":"ActivateTask B","auto":{"modes":["M"],"start":2,"cycle":0}}],"resources":[{"name":"R","ceiling":1,"lock":2}],"tasks":[{"name":"A","prio":1,"auto":["M"],"script":"GetResource R;work;ReleaseResource R;TerminateTask"},{"name":"B","prio":2,"script":"TerminateTask"}]}]}
 stimuli {"0":"op tick op tick op tick"}
 run
-core 0
-hook Startup
-act A
-pre A
-stat A GetResource E_OK
-tick
-tick
-hook Protection E_OS_PROTECTION_LOCKED
-end A
+as before up to end A
 alarm L
 act B
 pre B
@@ -108,10 +83,7 @@ config {"cores":[{"id":0,@"counters":[{"name":"C","max":9}],"alarms":[{"name":"L
 stimuli {"0":"op tick op tick op tick"}
 with |"protection":"PRO_SHUTDOWN",|"protection":"PRO_IGNORE",|"protection":"PRO_TERMINATEAPPL",|"protection":"PRO_TERMINATEAPPL_RESTART",
 run
-core 0
-hook Startup
-act A
-pre A
+core 0 .. pre A
 stat A GetResource E_OK
 tick
 tick
@@ -123,9 +95,7 @@ ended
 config {"cores":[{"id":0,"protection":"PRO_TERMINATETASKISR","resources":[{"name":"R","ceiling":1,"lock":3},{"name":"S","ceiling":1,"lock":3}],"tasks":[{"name":"A","prio":1,"auto":["M"],"script":"GetResource R;GetResource S;jump 2"},{"name":"B","prio":1,"auto":["M"],"script":"GetResource S;GetResource R;ReleaseResource R;ReleaseResource S;TerminateTask"}]}]}
 stimuli {"0":"op tick op tick tick op op op op op"}
 run
-core 0
-hook Startup
-act A
+core 0 .. act A
 act B
 pre A
 stat A GetResource E_OK
@@ -148,10 +118,7 @@ ended
 config {"cores":[{"id":0,"protection":"PRO_TERMINATETASKISR","resources":[{"name":"R","ceiling":1},{"name":"S","ceiling":1,"lock":1}],"tasks":[{"name":"A","prio":1,"auto":["M"],"script":"GetResource R;GetResource S;jump 2"}]}]}
 stimuli {"0":"op tick tick op tick op"}
 run
-core 0
-hook Startup
-act A
-pre A
+core 0 .. pre A
 stat A GetResource E_OK
 tick
 tick
@@ -166,10 +133,7 @@ config {"cores":[{"id":0,"protection":"@","resources":[{"name":"R","ceiling":1,"
 stimuli {"0":"op tick op tick op"}
 with PRO_TERMINATETASKISR
 run
-core 0
-hook Startup
-act A
-pre A
+core 0 .. pre A
 stat A GetResource E_OK
 tick
 stat A GetResource E_OK
@@ -181,15 +145,7 @@ ended
 // also where the core shuts down.
 with PRO_SHUTDOWN
 run
-core 0
-hook Startup
-act A
-pre A
-stat A GetResource E_OK
-tick
-stat A GetResource E_OK
-tick
-hook Protection E_OS_PROTECTION_LOCKED
+as before up to hook Protection E_OS_PROTECTION_LOCKED
 hook Shutdown E_OS_PROTECTION_LOCKED
 ended
 
@@ -197,10 +153,7 @@ ended
 config {"cores":[{"id":0,"protection":"PRO_TERMINATETASKISR","resources":[{"name":"R","ceiling":1,"lock":2}],"tasks":[{"name":"A","prio":1,"auto":["M"],"script":"GetResource R;jump 1"}],"isrs":[{"name":"I","level":1,"budget":2,"script":"jump 0"}]}]}
 stimuli {"0":"op tick irq=I op tick tick tick op"}
 run
-core 0
-hook Startup
-act A
-pre A
+core 0 .. pre A
 stat A GetResource E_OK
 tick
 irq I
@@ -218,10 +171,7 @@ ended
 config {"cores":[{"id":0,"protection":"PRO_TERMINATETASKISR","resources":[{"name":"R","ceiling":1,"lock":2}],"tasks":[{"name":"A","prio":1,"auto":["M"],"script":"GetResource R;SuspendAllInterrupts;jump 2"}],"isrs":[{"name":"I","level":1,"script":"work"}]}]}
 stimuli {"0":"op op irq=I tick tick op op"}
 run
-core 0
-hook Startup
-act A
-pre A
+core 0 .. pre A
 stat A GetResource E_OK
 irq I
 tick
@@ -236,10 +186,7 @@ ended
 config {"cores":[{"id":0,"protection":"PRO_TERMINATETASKISR","resources":[{"name":"R","ceiling":1,"lock":2}],"tasks":[{"name":"A","prio":1,"auto":["M"],"script":"GetResource R;ActivateTask H;jump 2"},{"name":"H","prio":2,"script":"TerminateTask"}]}]}
 stimuli {"0":"op tick op tick tick op tick op"}
 run
-core 0
-hook Startup
-act A
-pre A
+core 0 .. pre A
 stat A GetResource E_OK
 tick
 act H
@@ -260,16 +207,7 @@ ended
 config {"cores":[{"id":0,"protection":"PRO_TERMINATETASKISR","resources":[{"name":"R","ceiling":1,"lock":3},{"name":"S","ceiling":2,"lock":1}],"tasks":[{"name":"A","prio":1,"auto":["M"],"script":"GetResource R;ActivateTask H;jump 2"},{"name":"H","prio":2,"script":"GetResource S;jump 1"}]}]}
 stimuli {"0":"op tick op op tick tick tick op"}
 run
-core 0
-hook Startup
-act A
-pre A
-stat A GetResource E_OK
-tick
-act H
-stat A ActivateTask E_OK
-post A
-pre H
+as before up to pre H
 stat H GetResource E_OK
 tick
 hook Protection E_OS_PROTECTION_LOCKED
@@ -285,10 +223,7 @@ ended
 config {"cores":[{"id":0,"protection":"PRO_TERMINATETASKISR","counters":[{"name":"C","max":9}],"alarms":[{"name":"L","counter":"C","action":"ActivateTask H","auto":{"modes":["M"],"start":1,"cycle":0}}],"resources":[{"name":"R","ceiling":1,"lock":2}],"tasks":[{"name":"A","prio":1,"auto":["M"],"script":"GetResource R;jump 1"},{"name":"H","prio":2,"script":"TerminateTask"}]}]}
 stimuli {"0":"op tick tick op tick op"}
 run
-core 0
-hook Startup
-act A
-pre A
+core 0 .. pre A
 stat A GetResource E_OK
 tick
 alarm L
@@ -308,10 +243,7 @@ ended
 config {"cores":[{"id":0,"protection":"PRO_TERMINATETASKISR","resources":[{"name":"R","ceiling":1,"lock":2}],"tasks":[{"name":"A","prio":1,"auto":["M"],"script":"GetResource R;ReleaseResource R;GetResource R;jump 3"}]}]}
 stimuli {"0":"op tick op tick tick tick op tick tick op"}
 run
-core 0
-hook Startup
-act A
-pre A
+core 0 .. pre A
 stat A GetResource E_OK
 tick
 stat A ReleaseResource E_OK
@@ -329,10 +261,7 @@ ended
 config {"cores":[{"id":0,"protection":"PRO_TERMINATETASKISR","resources":[{"name":"R","ceiling":1,"lock":2}],"tasks":[{"name":"A","prio":1,"auto":["M"],"script":"GetResource R;GetResource R;jump 2"}]}]}
 stimuli {"0":"op tick op tick op"}
 run
-core 0
-hook Startup
-act A
-pre A
+core 0 .. pre A
 stat A GetResource E_OK
 tick
 stat A GetResource E_OS_ACCESS
@@ -346,10 +275,7 @@ ended
 config {"cores":[{"id":0,"protection":"PRO_TERMINATETASKISR","resources":[{"name":"R","ceiling":1,"lock":3},{"name":"S","ceiling":1,"lock":2}],"tasks":[{"name":"A","prio":1,"auto":["M"],"script":"GetResource R;GetResource S;ReleaseResource S;GetResource S;ReleaseResource S;jump 5"}]}]}
 stimuli {"0":"op op tick op op tick op tick op"}
 run
-core 0
-hook Startup
-act A
-pre A
+core 0 .. pre A
 stat A GetResource E_OK
 stat A GetResource E_OK
 tick
@@ -366,9 +292,7 @@ ended
 config {"cores":[{"id":0,"protection":"PRO_TERMINATETASKISR","resources":[{"name":"R","ceiling":1,"lock":2}],"tasks":[{"name":"A","prio":1,"auto":["M"],"activations":2,"script":"ActivateTask A;GetResource R;jump 2"},{"name":"B","prio":1,"auto":["M"],"script":"GetResource R;jump 1"}]}]}
 stimuli {"0":"op op tick tick op tick tick op op tick tick"}
 run
-core 0
-hook Startup
-act A
+core 0 .. act A
 act B
 pre A
 act A
@@ -399,10 +323,7 @@ ended
 config {"cores":[{"id":0,"protection":"PRO_TERMINATETASKISR","resources":[{"name":"R","ceiling":1,"lock":2}],"tasks":[{"name":"A","prio":1,"auto":["M"],"activations":2,"script":"ActivateTask A;GetResource R"}]}]}
 stimuli {"0":"op op tick op op op tick tick op"}
 run
-core 0
-hook Startup
-act A
-pre A
+core 0 .. pre A
 act A
 stat A ActivateTask E_OK
 stat A GetResource E_OK
@@ -427,10 +348,7 @@ ended
 config {"cores":[{"id":0,"resources":[{"name":"R","ceiling":1,"lock":0},{"name":"S","ceiling":1,"lock":1000000000}],"tasks":[{"name":"A","prio":1,"auto":["M"],"script":"GetResource R;GetResource S;ReleaseResource S;ReleaseResource R;TerminateTask"}]}]}
 stimuli {"0":"op op tick tick tick op op op"}
 run
-core 0
-hook Startup
-act A
-pre A
+core 0 .. pre A
 stat A GetResource E_OK
 stat A GetResource E_OK
 tick
@@ -446,9 +364,7 @@ ended
 config {"spinlocks":[{"name":"S"}],"cores":[{"id":0,"protection":"PRO_TERMINATETASKISR","resources":[{"name":"R","ceiling":2,"lock":2}],"tasks":[{"name":"A","prio":2,"auto":["M"],"script":"GetResource R;GetSpinlock S;jump 2"},{"name":"N","prio":1,"auto":["M"],"script":"GetSpinlock S;ReleaseSpinlock S;TerminateTask"}]}]}
 stimuli {"0":"op op tick tick op op op"}
 run
-core 0
-hook Startup
-act A
+core 0 .. act A
 act N
 pre A
 stat A GetResource E_OK
@@ -464,46 +380,15 @@ post N
 end N
 ended
 
-// A core that is down takes no tick, and answers other cores with E_OS_CORE.
-config {"cores":[{"id":0,"start":[1],"tasks":[{"name":"A","prio":1,"auto":["M"],"script":"work;work;work;ActivateTask B;TerminateTask"}]},{"id":1,"resources":[{"name":"R","ceiling":1,"lock":2}],"tasks":[{"name":"X","prio":1,"auto":["M"],"script":"GetResource R;jump 1"},{"name":"B","prio":2,"script":"TerminateTask"}]}]}
-stimuli {"0":"op op op op op","1":"op tick tick tick tick"}
-run
-core 0
-start 1 E_OK
-hook Startup
-act A
-pre A
-out 1 ActivateTask B
-stat A ActivateTask E_OS_CORE
-hook Error E_OS_CORE
-post A
-end A
-core 1
-hook Startup
-act X
-pre X
-stat X GetResource E_OK
-tick
-tick
-hook Protection E_OS_PROTECTION_LOCKED
-hook Shutdown E_OS_PROTECTION_LOCKED
-ended
-
-// A core that is halted takes none either: its job would have reached the lock budget by the next one.
+// A core that is halted takes no tick: its job would have reached the lock budget by the next one.
 config {"cores":[{"id":0,"start":[1],"tasks":[{"name":"A","prio":1,"auto":["M"],"script":"ShutdownAllCores 16"}]},{"id":1,"resources":[{"name":"R","ceiling":1,"lock":2}],"tasks":[{"name":"B","prio":1,"auto":["M"],"script":"GetResource R;jump 1"}]}]}
 stimuli {"0":"op","1":"op tick tick tick"}
 run
 core 0
-start 1 E_OK
-hook Startup
-act A
-pre A
+start 1 E_OK .. pre A
 halt 0 E_OS_PROTECTION_LOCKED
 hook Shutdown E_OS_PROTECTION_LOCKED
-core 1
-hook Startup
-act B
-pre B
+core 1 .. pre B
 stat B GetResource E_OK
 tick
 halt 0 E_OS_PROTECTION_LOCKED
@@ -514,55 +399,12 @@ ended
 config {"cores":[{"id":0,"tasks":[{"name":"A","prio":1,"auto":["M"],"script":"ShutdownOS 16"}]}]}
 stimuli {"0":"op tick"}
 run
-core 0
-hook Startup
-act A
-pre A
-hook Shutdown E_OS_PROTECTION_LOCKED
-ended
-
-// A separate core that goes down,
-config {"cores":[{"id":0,"start":[1],"tasks":[{"name":"A","prio":1,"auto":["M"],"script":"TerminateTask"}]},{"id":1,"resources":[{"lock":2,"name":"R","ceiling":1},{"name":"S","ceiling":0}],"tasks":[{"name":"X","prio":1,"auto":["M"],"script":"GetResource R;jump 1"}]}]}
-stimuli {"0":"op","1":"op tick tick op"}
-run
-core 0
-start 1 E_OK
-hook Startup
-act A
-pre A
-post A
-end A
-core 1
-hook Startup
-act X
-pre X
-stat X GetResource E_OK
-tick
-tick
-hook Protection E_OS_PROTECTION_LOCKED
-hook Shutdown E_OS_PROTECTION_LOCKED
-ended
-
-cut 1
-{"cap":16,"cores":[{"alarms":[],"counters":[],"id":1,"isrs":[],"mode":"M","protection":"PRO_SHUTDOWN","resources":[{"ceiling":1,"lock":2,"name":"R"},{"ceiling":0,"lock":0,"name":"S"}],"start":[],"tables":[],"tasks":[{"activations":1,"auto":["M"],"budget":0,"extended":false,"name":"X","preemptable":true,"prio":1,"script":"GetResource R;jump 1"}]}],"master":1,"modes":["M"],"spinlocks":[],"version":1}
-
-// prints the same by its own configuration.
-config
-stimuli {"1":"op tick tick op"}
-run
-core 1
-hook Startup
-act X
-pre X
-stat X GetResource E_OK
-tick
-tick
-hook Protection E_OS_PROTECTION_LOCKED
+core 0 .. pre A
 hook Shutdown E_OS_PROTECTION_LOCKED
 ended
 "#;
 
 #[test]
 fn lock_budgets_come_to_their_texts(rt: HostRuntime) -> Result<(), Fail> {
-    play_all(&rt, rt.alloc(), &[RUNS], 34)
+    play_all(&rt, rt.alloc(), &[RUNS], 30)
 }

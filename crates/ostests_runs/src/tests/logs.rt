@@ -19,94 +19,62 @@ fault 5 UnknownName
 stimuli {"0":"op op","1":"op op"}
 run
 core 0
-start 1 E_OK
-hook Startup
-act A
-pre A
+start 1 E_OK .. pre A
 out 1 ActivateTask B
 stat A ActivateTask E_OK
 post A
 end A
-core 1
-hook Startup
-act B
+core 1 .. act B
 in 0 ActivateTask B E_OK
 pre B
 post B
 end B
 ended
 
-// A schedule that ends the run, with a useless turn among the others.
-turns "0o 1l 1o 0o 0l 1l 0o 1o 0l 1l 0o 0o 1s0 1o 0s1 1l 0o 1o 0o 1o 1o 0l 1l 0l 1l"
-run
-as before
-
-// The same, with a turn that changes nothing before each that does.
-turns "1o 0o 0s1 1l 1s0 1o 1l 0o 0o 0l 1o 1l 0l 0o 0l 1o 1o 0l 0l 1l 1s0 0o 1s0 0o 0o 1s0 0s1 1o 1s0 0s1 0s1 0o 1s0 1o 0s1 0o 0l 1o 0l 1o 1o 0l 0o 1l 1o 0l 0l 1l"
-run
-as before
-
 // The log of core 0, which replays to its block, also without its last line end.
-stimuli {"0":"op op","1":"op op"}
 items 0
-began 1 E_OK
-entered
-pass1 M
-readied
-pass2 0 1
+began 1 E_OK .. pass2 0 1
 stim op
 post 1
 in 1 0 rep E_OK
 stim op
-drained
-passend
-last
+drained .. last
 
 replay 0
 as run
 
 log open
-began 1 E_OK
-entered
-pass1 M
-readied
-pass2 0 1
-stim op
-post 1
-in 1 0 rep E_OK
-stim op
-drained
-passend
-last
+as before
 
 replay 0
 as before
 
 // The log of core 1.
 items 1
-on
-entered
-pass1 M
-readied
-pass2 0 1
+on .. pass2 0 1
 stim op
 in 0 0 req ActivateTask B
 post 0
 stim op
-drained
-passend
-last
+drained .. last
 
 replay 1
+as run
+
+// A schedule that ends the run, with a useless turn among the others.
+turns "0o 1l 1o 0o 0l 1l 0o 1o 0l 1l 0o 0o 1s0 1o 0s1 1l 0o 1o 0o 1o 1o 0l 1l 0l 1l"
+run
+as run
+
+// The same, with a turn that changes nothing before each that does.
+turns "1o 0o 0s1 1l 1s0 1o 1l 0o 0o 0l 1o 1l 0l 0o 0l 1o 1o 0l 0l 1l 1s0 0o 1s0 0o 0o 1s0 0s1 1o 1s0 0s1 0s1 0o 1s0 1o 0s1 0o 0l 1o 0l 1o 1o 0l 0o 1l 1o 0l 0l 1l"
+run
 as run
 
 stimuli {}
 run
 core 0
-start 1 E_OK
-hook Startup
-act A
-pre A
+start 1 E_OK .. pre A
 core 1
 hook Startup
 ended
@@ -124,7 +92,7 @@ start 1 E_OK
 core 1
 stalled
 
-// Faults of the stimuli and of the turns.
+// Faults of the stimuli, which come before those of the turns.
 stimuli x
 run
 fault 1 NotJson
@@ -134,11 +102,6 @@ turns x
 run
 fault 12 BadStimulus
 
-stimuli {}
-turns "0s0"
-run
-fault 13 BadSchedule
-
 // A log of no lines.
 log
 
@@ -147,26 +110,17 @@ core 0
 
 // A second reply is refused.
 log
-began 1 E_OK
-entered
-pass1 M
-readied
-pass2 0 1
+began 1 E_OK .. pass2 0 1
 stim op
 post 1
 in 1 0 rep E_OK
 in 1 1 rep E_OK
 stim op
-drained
-passend
-last
+drained .. last
 
 replay 0
 core 0
-start 1 E_OK
-hook Startup
-act A
-pre A
+start 1 E_OK .. pre A
 out 1 ActivateTask B
 stat A ActivateTask E_OK
 fault 15 ItemRefused 9
@@ -182,21 +136,14 @@ fault 15 ItemRefused 1
 
 // and one that a core which runs may not take.
 log
-began 1 E_OK
-entered
-pass1 M
-readied
-pass2 0 1
+began 1 E_OK .. pass2 0 1
 @
 last
 
 with in 1 0 rep E_OK|in 1 0 req ActivateTask B|in 1 1 req ActivateTask A|in 0 0 req ActivateTask A|in 7 18446744073709551615 act SetEvent A 4294967295|in 1 0 rep E_OK -9223372036854775808|post 1|passend
 replay 0
 core 0
-start 1 E_OK
-hook Startup
-act A
-pre A
+start 1 E_OK .. pre A
 fault 15 ItemRefused 6
 
 // A line of no item is a bad log.
@@ -253,38 +200,24 @@ stimuli {"0":"op op","2":"op"}
 run
 core 0
 start 1 E_OK
-start 2 E_OK
-hook Startup
-act A
-pre A
+start 2 E_OK .. pre A
 out 1 ActivateTask B
 stat A ActivateTask E_OK
 post A
 end A
-core 1
-hook Startup
-act B
+core 1 .. act B
 in 0 ActivateTask B E_OK
 pre B
-core 2
-hook Startup
-act V
-pre V
+core 2 .. pre V
 post V
 end V
 ended
 
 stimuli {"2":"op"}
 items 2
-on
-entered
-pass1 M
-readied
-pass2 0 1 2
+on .. pass2 0 1 2
 stim op
-drained
-passend
-last
+drained .. last
 
 replay 2
 as run
@@ -306,13 +239,7 @@ cut 2
 config
 stimuli {"2":"op"}
 run
-core 2
-hook Startup
-act V
-pre V
-post V
-end V
-ended
+as run from core 2
 
 cut 2
 {"cap":16,"cores":[{"alarms":[],"counters":[],"id":2,"isrs":[],"mode":"M","protection":"PRO_SHUTDOWN","resources":[],"start":[],"tables":[],"tasks":[{"activations":1,"auto":["M"],"budget":0,"extended":false,"name":"V","preemptable":true,"prio":1,"script":"TerminateTask"}]}],"master":2,"modes":["M"],"spinlocks":[],"version":1}
@@ -334,11 +261,7 @@ config {"cores":[{"id":0,"start":[1],"tasks":[{"name":"A","prio":1,"auto":["M"],
 stimuli {"0":"op op op","1":"tick tick"}
 turns "0o 1l 1o 0o 0l 1l 0o 1o 0l 1l 0o 0o 1s0 1o 0s1 0o 0o 1s0 1o 0s1 0o 0o 1o 1o 1o 0s1 1o 0l 1l 0l 1l"
 items 0
-began 1 E_OK
-entered
-pass1 M
-readied
-pass2 0 1
+began 1 E_OK .. pass2 0 1
 stim op
 post 1
 in 1 0 rep E_OK
@@ -353,10 +276,7 @@ last
 
 replay 0
 core 0
-start 1 E_OK
-hook Startup
-act A
-pre A
+start 1 E_OK .. pre A
 out 1 SetRelAlarm L 2 0
 stat A SetRelAlarm E_OK
 out 1 GetAlarm L v1
@@ -369,7 +289,7 @@ hook Error E_OS_STATE
 
 #[test]
 fn logs_come_to_their_texts(rt: HostRuntime) -> Result<(), Fail> {
-    play_all(&rt, rt.alloc(), &[BORDER, LOGS], 84)
+    play_all(&rt, rt.alloc(), &[BORDER, LOGS], 83)
 }
 
 // No line of a table holds this line end.

@@ -10,6 +10,35 @@ const CONFIG: &str = r#"config {"cores":[{"id":0}]}"#;
 
 const RIGHT: &str = "check\nok\ncore 0 separate\n";
 
+/// The run of the core, and its log, in each of the short forms.
+const SHORT: &str = r#"stimuli {}
+run
+core 0 .. ended
+
+run
+as before
+
+run
+as run up to hook Startup
+ended
+
+run
+core 0
+as before from hook Startup
+
+items 0
+entered .. pass2 0
+drained .. last
+
+log
+as before up to readied
+pass2 0
+as before from drained
+
+replay 0
+as run
+"#;
+
 // Plays a table of one core with this block, or with none. It has so many jobs.
 fn play_block(
     rt: &(impl Threads + Wait + Sync),
@@ -24,6 +53,7 @@ fn play_block(
 #[test]
 fn a_right_table_passes(rt: HostRuntime) -> Result<(), Fail> {
     play_block(&rt, rt.alloc(), RIGHT, 1)?;
+    play_block(&rt, rt.alloc(), SHORT, 6)?;
     Ok(())
 }
 
@@ -61,6 +91,49 @@ fn a_wrong_table_is_refused(rt: HostRuntime) -> Result<(), Fail> {
             "check\nok\ncore 0 separate\nfault 1 NotJson\n",
             1,
             r#"Line("check : line 3 is `and exits with 0` in place of `fault 1 NotJson`")"#,
+        ),
+        // Another line behind those of an earlier block, one of those too few, and one too many.
+        (
+            "check\nok\ncore 0 separate\n\ncheck\nas before up to core 0 separate\ncore 1 off\n",
+            2,
+            r#"Line("check : line 2 is `and reports` in place of `core 1 off`")"#,
+        ),
+        (
+            "stimuli {}\nrun\ncore 0 .. ended\n\nrun\nas run from hook Startup\n",
+            2,
+            r#"Line("run : line 0 is `core 0` in place of `hook Startup`")"#,
+        ),
+        (
+            "stimuli {}\nrun\ncore 0 .. ended\n\nrun\nas run up to ended\nended\n",
+            2,
+            r#"Line("run : line 3 is `and reports` in place of `ended`")"#,
+        ),
+        // Other lines than those that `..` stands for.
+        (
+            "stimuli {}\nrun\ncore 0 .. pre A\nended\n",
+            1,
+            r#"Line("run : line 2 is `ended` in place of `act A`")"#,
+        ),
+        // An earlier block with a fault that is not reported again, a line that it does not have, and no such block.
+        (
+            "check\nok\ncore 0 separate\n\ncheck\nas before\nfault 1 NotJson\n",
+            2,
+            r#"Line("check : line 0 is `ok` in place of `as before`")"#,
+        ),
+        (
+            "check\nok\ncore 0 separate\n\ncheck\nas before up to core 1 off\n",
+            2,
+            r#"Lacks("the line from which or up to which a block is repeated")"#,
+        ),
+        (
+            "check\nas ever up to ok\n",
+            1,
+            r#"Lacks("an earlier block")"#,
+        ),
+        (
+            "check\nok .. core 0 separate\n",
+            1,
+            r#"Lacks("a line that `..` may follow")"#,
         ),
         // A job that there is not, and none at all.
         ("walk\nok\ncore 0 separate\n", 1, r#"Lacks("a job")"#),

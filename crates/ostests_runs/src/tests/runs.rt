@@ -10,10 +10,7 @@ config {"cores":[{"id":0,"start":[1],"tasks":[{"name":"A","prio":1,"auto":["M"],
 stimuli {"0":"op op op"}
 run
 core 0
-start 1 E_OK
-hook Startup
-act A
-pre A
+start 1 E_OK .. pre A
 out 1 ActivateTask B
 stat A ActivateTask E_OK
 out 1 ActivateTask B
@@ -21,9 +18,7 @@ stat A ActivateTask E_OS_LIMIT
 hook Error E_OS_LIMIT
 post A
 end A
-core 1
-hook Startup
-act B
+core 1 .. act B
 in 0 ActivateTask B E_OK
 pre B
 in 0 ActivateTask B E_OS_LIMIT
@@ -33,10 +28,7 @@ ended
 config {"cores":[{"id":0,"tasks":[{"name":"A","prio":1,"auto":["M"],"script":"ActivateTask B;ActivateTask ?;ActivateTask A;TerminateTask"}]},{"id":1,"tasks":[{"name":"B","prio":1,"script":"TerminateTask"}]}]}
 stimuli {"0":"op op op op"}
 run
-core 0
-hook Startup
-act A
-pre A
+core 0 .. pre A
 stat A ActivateTask E_OS_CORE
 hook Error E_OS_CORE
 stat A ActivateTask E_OS_ID
@@ -61,10 +53,7 @@ fault 20 NotSeparate
 config {"cores":[{"id":0,"tasks":[{"name":"X","prio":1,"auto":["M"],"script":"ActivateTask Y;ActivateTask H;TerminateTask"},{"name":"Y","prio":1,"script":"TerminateTask"},{"name":"Z","prio":1,"script":"TerminateTask"},{"name":"H","prio":2,"script":"ActivateTask Z;TerminateTask"}]}]}
 stimuli {"0":"op op op op op op op"}
 run
-core 0
-hook Startup
-act X
-pre X
+core 0 .. pre X
 act Y
 stat X ActivateTask E_OK
 act H
@@ -90,10 +79,7 @@ ended
 config {"cores":[{"id":2,"tasks":[{"name":"V","prio":1,"auto":["M"],"script":"add v0 3;TerminateTask"}]}],"master":2}
 stimuli {"2":"op op"}
 run
-core 2
-hook Startup
-act V
-pre V
+core 2 .. pre V
 var V v0 3
 post V
 end V
@@ -103,10 +89,7 @@ ended
 config {"cores":[{"id":0,"tasks":[{"name":"N","prio":1,"preemptable":false,"auto":["M"],"script":"ActivateTask E;Schedule;ActivateTask U;Schedule;TerminateTask"},{"name":"E","prio":1,"script":"TerminateTask"},{"name":"U","prio":2,"script":"TerminateTask"}]}]}
 stimuli {"0":"op op op op op op op"}
 run
-core 0
-hook Startup
-act N
-pre N
+core 0 .. pre N
 act E
 stat N ActivateTask E_OK
 stat N Schedule E_OK
@@ -129,10 +112,7 @@ ended
 config {"cores":[{"id":0,"tasks":[{"name":"L","prio":1,"auto":["M"],"script":"GetResource R;ActivateTask H;ReleaseResource R;TerminateTask"},{"name":"H","prio":2,"script":"TerminateTask"}],"resources":[{"name":"R","ceiling":2}]}]}
 stimuli {"0":"op op op op op"}
 run
-core 0
-hook Startup
-act L
-pre L
+core 0 .. pre L
 stat L GetResource E_OK
 act H
 stat L ActivateTask E_OK
@@ -150,10 +130,7 @@ ended
 config {"cores":[{"id":0,"tasks":[{"name":"N","prio":1,"preemptable":false,"auto":["M"],"script":"GetResource R;ActivateTask U;Schedule;ReleaseResource R;TerminateTask"},{"name":"U","prio":2,"script":"TerminateTask"}],"resources":[{"name":"R","ceiling":1}]}]}
 stimuli {"0":"op op op op op op"}
 run
-core 0
-hook Startup
-act N
-pre N
+core 0 .. pre N
 stat N GetResource E_OK
 act U
 stat N ActivateTask E_OK
@@ -171,10 +148,7 @@ ended
 config {"cores":[{"id":0,"tasks":[{"name":"A","prio":1,"auto":["M"],"script":"GetResource ?;GetResource LOW;GetResource R;GetResource R;GetResource S;ReleaseResource R;ActivateTask B;ReleaseResource S;TerminateTask;ReleaseResource LOW"},{"name":"B","prio":2,"script":"GetResource R;ReleaseResource ?;ReleaseResource R;ReleaseResource R;TerminateTask"}],"resources":[{"name":"R","ceiling":3},{"name":"S","ceiling":1},{"name":"LOW","ceiling":0}]}]}
 stimuli {"0":"op op op op op op op op op op op op op op op op"}
 run
-core 0
-hook Startup
-act A
-pre A
+core 0 .. pre A
 stat A GetResource E_OS_ID
 hook Error E_OS_ID
 stat A GetResource E_OS_ACCESS
@@ -211,10 +185,7 @@ config {"cores":[{"id":0,"start":[1],"tasks":[{"name":"A","prio":2,"auto":["M"],
 stimuli {"0":"op op op","1":"op op op"}
 run
 core 0
-start 1 E_OK
-hook Startup
-act A
-pre A
+start 1 E_OK .. pre A
 out 1 ActivateTask D
 act C
 in 1 ActivateTask C E_OK
@@ -224,10 +195,7 @@ end A
 pre C
 post C
 end C
-core 1
-hook Startup
-act B
-pre B
+core 1 .. pre B
 out 0 ActivateTask C
 act D
 in 0 ActivateTask D E_OK
@@ -243,10 +211,7 @@ ended
 config {"cores":[{"id":0,"tasks":[{"name":"A","prio":1,"auto":["M"],"activations":2,"script":"status v1;jz v0 4;set v2 -5;jump 8;ActivateTask A;ActivateTask A;status v1;add v0 9223372036854775807;add v0 2;addv v2 v2;jz v2 12;TerminateTask;jump 0"}]}]}
 stimuli {"0":"op op op op op op op op op op op op op op op op op op op op op"}
 run
-core 0
-hook Startup
-act A
-pre A
+core 0 .. pre A
 var A v1 0
 act A
 stat A ActivateTask E_OK

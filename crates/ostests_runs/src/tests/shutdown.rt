@@ -10,28 +10,18 @@ config {"cores":[{"id":0,"start":[1],"tasks":[{"name":"A","prio":1,"auto":["M"],
 stimuli {"0":"op op op","1":"op"}
 run
 core 0
-start 1 E_OK
-hook Startup
-act A
-pre A
+start 1 E_OK .. pre A
 out 1 ActivateTask B
 stat A ActivateTask E_OS_CORE
 hook Error E_OS_CORE
 post A
 end A
-core 1
-hook Startup
-act B
-pre B
+core 1 .. pre B
 hook Shutdown E_OK
 ended
 
 items 1
-on
-entered
-pass1 M
-readied
-pass2 0 1
+on .. pass2 0 1
 stim op
 drained
 in 0 0 req ActivateTask B
@@ -44,11 +34,7 @@ as run
 
 // A core that awaits a reply takes no halt.
 first
-began 1 E_OK
-entered
-pass1 M
-readied
-pass2 0 1
+began 1 E_OK .. pass2 0 1
 
 log
 stim op
@@ -56,12 +42,7 @@ stim op
 halt 1 E_OK
 
 replay 0
-core 0
-start 1 E_OK
-hook Startup
-act A
-pre A
-out 1 ActivateTask B
+as run up to out 1 ActivateTask B
 fault 15 ItemRefused 8
 
 log
@@ -71,39 +52,21 @@ post 1
 halt 1 E_OK
 
 replay 0
-core 0
-start 1 E_OK
-hook Startup
-act A
-pre A
-out 1 ActivateTask B
+as before up to out 1 ActivateTask B
 fault 15 ItemRefused 9
 
 log
-stim op
-stim op
-post 1
+as before up to post 1
 in 1 0 rep E_OS_CORE
 halt 1 E_OK
 
 replay 0
-core 0
-start 1 E_OK
-hook Startup
-act A
-pre A
-out 1 ActivateTask B
-stat A ActivateTask E_OS_CORE
-hook Error E_OS_CORE
+as run up to hook Error E_OS_CORE
 halt 1 E_OK
 
 // A core that is down takes no stimulus and no halt, and calls no hook a second time.
 first
-on
-entered
-pass1 M
-readied
-pass2 0 1
+on .. pass2 0 1
 
 log
 stim op
@@ -111,94 +74,60 @@ stim op
 
 with stim op|halt 0 E_OS_ID
 replay 1
-core 1
-hook Startup
-act B
-pre B
+core 1 .. pre B
 hook Shutdown E_OK
 fault 15 ItemRefused 7
 
 log
 stim op
-drained
-passend
-last 0 E_OS_ID
+drained .. last 0 E_OS_ID
 
 replay 1
 as run
-
-// Core 1 is down when core 0 asks for a shutdown of all.
-config {"cores":[{"id":0,"start":[1],"tasks":[{"name":"A","prio":1,"auto":["M"],"script":"work;ShutdownAllCores 0"}]},{"id":1,"tasks":[{"name":"B","prio":1,"auto":["M"],"script":"ShutdownOS 5"}]}]}
-stimuli {"0":"op op","1":"op op"}
-// It has called ShutdownHook already.
-run
-core 0
-start 1 E_OK
-hook Startup
-act A
-pre A
-halt 0 E_OK
-hook Shutdown E_OK
-core 1
-hook Startup
-act B
-pre B
-hook Shutdown E_OS_NOFUNC
-ended
-
-items 1
-on
-entered
-pass1 M
-readied
-pass2 0 1
-stim op
-drained
-passend
-last 0 E_OK
-
-replay 1
-as run
-
-// A core that is down takes no halt, whether it has drained or not.
-turns "0o 1l 1o 0o 0l 1l 0o 1o 0l 1l 0o 1o 0o 0o 1l 1o 1l"
-run -> 3
-core 0
-start 1 E_OK
-hook Startup
-act A
-pre A
-halt 0 E_OK
-core 1
-hook Startup
-act B
-pre B
-hook Shutdown E_OS_NOFUNC
-stalled
 
 // A core that was halted refuses a request. The caller takes the halt when the reply has come.
 config {"cores":[{"id":0,"start":[1],"tasks":[{"name":"A","prio":1,"auto":["M"],"script":"work;ActivateTask B;TerminateTask"}]},{"id":1,"tasks":[{"name":"X","prio":2,"auto":["M"],"script":"ShutdownAllCores 0"},{"name":"B","prio":1,"script":"TerminateTask"}]}]}
 stimuli {"0":"op op op op","1":"op op"}
 run
-core 0
-start 1 E_OK
-hook Startup
-act A
-pre A
-out 1 ActivateTask B
-stat A ActivateTask E_OS_CORE
-hook Error E_OS_CORE
-post A
-end A
+as run up to end A
 halt 1 E_OK
 hook Shutdown E_OK
-core 1
-hook Startup
-act X
-pre X
+core 1 .. pre X
 halt 1 E_OK
 hook Shutdown E_OK
 ended
+
+// A core that is down takes no tick, and answers other cores with E_OS_CORE.
+config {"cores":[{"id":0,"start":[1],"tasks":[{"name":"A","prio":1,"auto":["M"],"script":"work;work;work;ActivateTask B;TerminateTask"}]},{"id":1,"resources":[{"name":"R","ceiling":1,"lock":2}],"tasks":[{"name":"X","prio":1,"auto":["M"],"script":"GetResource R;jump 1"},{"name":"B","prio":2,"script":"TerminateTask"}]}]}
+stimuli {"0":"op op op op op","1":"op tick tick tick tick"}
+run
+as run up to end A
+core 1 .. pre X
+stat X GetResource E_OK
+tick
+tick
+hook Protection E_OS_PROTECTION_LOCKED
+hook Shutdown E_OS_PROTECTION_LOCKED
+ended
+
+// A separate core that goes down,
+config {"cores":[{"id":0,"start":[1],"tasks":[{"name":"A","prio":1,"auto":["M"],"script":"TerminateTask"}]},{"id":1,"resources":[{"lock":2,"name":"R","ceiling":1},{"name":"S","ceiling":0}],"tasks":[{"name":"X","prio":1,"auto":["M"],"script":"GetResource R;jump 1"}]}]}
+stimuli {"0":"op","1":"op tick tick op"}
+run
+core 0
+start 1 E_OK .. pre A
+post A
+end A
+as run from core 1
+
+cut 1
+{"cap":16,"cores":[{"alarms":[],"counters":[],"id":1,"isrs":[],"mode":"M","protection":"PRO_SHUTDOWN","resources":[{"ceiling":1,"lock":2,"name":"R"},{"ceiling":0,"lock":0,"name":"S"}],"start":[],"tables":[],"tasks":[{"activations":1,"auto":["M"],"budget":0,"extended":false,"name":"X","preemptable":true,"prio":1,"script":"GetResource R;jump 1"}]}],"master":1,"modes":["M"],"spinlocks":[],"version":1}
+
+// prints the same by its own configuration.
+config
+stimuli {"1":"op tick tick op"}
+run
+as run from core 1
 
 // Alarms of core 0 act on core 1, which shuts all cores down. A mailbox has room for one envelope.
 config {"cap":1,"cores":[{"id":0,"start":[1],"counters":[{"name":"C","max":9}],"alarms":[{"name":"L1","counter":"C","action":"ActivateTask P","auto":{"modes":["M"],"start":1,"cycle":0}},{"name":"L2","counter":"C","action":"ActivateTask Q","auto":{"modes":["M"],"start":1,"cycle":0}}]},{"id":1,"tasks":[{"name":"X","prio":2,"auto":["M"],"script":"ShutdownAllCores 7"},{"name":"P","prio":1,"script":"TerminateTask"},{"name":"Q","prio":1,"script":"TerminateTask"}]}]}
@@ -206,19 +135,14 @@ stimuli {"0":"op tick op","1":"op"}
 // A core that was halted drops actions.
 run
 core 0
-start 1 E_OK
-hook Startup
-tick
+start 1 E_OK .. tick
 alarm L1
 out 1 ActivateTask P
 alarm L2
 out 1 ActivateTask Q
 halt 1 E_OS_STATE
 hook Shutdown E_OS_STATE
-core 1
-hook Startup
-act X
-pre X
+core 1 .. pre X
 halt 1 E_OS_STATE
 hook Shutdown E_OS_STATE
 ended
@@ -230,38 +154,53 @@ as before
 
 // The envelopes are posted after the halt.
 items 0
-began 1 E_OK
-entered
-pass1 M
-readied
-pass2 0 1
+began 1 E_OK .. pass2 0 1
 stim op
 stim tick
 halt 1 E_OS_STATE
 post 1
 post 1
-drained
-passend
-last 1 E_OS_STATE
+drained .. last 1 E_OS_STATE
 
 replay 0
 as run
 
 items 1
-on
-entered
-pass1 M
-readied
-pass2 0 1
+on .. pass2 0 1
 stim op
 halt 1 E_OS_STATE
 in 0 0 act ActivateTask P
 in 0 1 act ActivateTask Q
-drained
-passend
-last 1 E_OS_STATE
+drained .. last 1 E_OS_STATE
 
 replay 1
+as run
+
+// Core 0 has a spinlock, and its alarms act on core 1, which shuts all cores down. A mailbox has room for one
+// envelope.
+config {"cap":1,"spinlocks":[{"name":"S"}],"cores":[{"id":0,"start":[1],"tasks":[{"name":"A","prio":1,"auto":["M"],"script":"GetSpinlock S;TerminateTask"}],"counters":[{"name":"C","max":9}],"alarms":[{"name":"L1","counter":"C","action":"ActivateTask P","auto":{"modes":["M"],"start":1,"cycle":0}},{"name":"L2","counter":"C","action":"ActivateTask Q","auto":{"modes":["M"],"start":1,"cycle":0}}]},{"id":1,"tasks":[{"name":"X","prio":2,"auto":["M"],"script":"ShutdownAllCores 7"},{"name":"P","prio":1,"script":"TerminateTask"},{"name":"Q","prio":1,"script":"TerminateTask"}]}]}
+stimuli {"0":"op tick op","1":"op"}
+// The halt finds both letters in the outbox.
+turns "0o 1l 1o 0o 0l 1l 0o 1o 0l 1l 0o 0o 0o 1o 1o 0l 0o 0o 1s0 0o 0o 1s0 0o 1o 0l 1l 0l 1l"
+run
+core 0
+start 1 E_OK .. pre A
+stat A GetSpinlock E_OK
+as run from tick
+
+// The outbox comes before the spinlock.
+items 0
+began 1 E_OK .. pass2 0 1
+stim op
+granted S
+stim tick
+halt 1 E_OS_STATE
+post 1
+post 1
+freed S
+drained .. last 1 E_OS_STATE
+
+replay 0
 as run
 
 // A core that has asked and was not halted yet serves others, and dispatches nothing.
@@ -269,17 +208,12 @@ config {"cores":[{"id":0,"start":[1],"counters":[{"name":"C","max":9}],"alarms":
 stimuli {"0":"tick op op","1":"op op"}
 run
 core 0
-start 1 E_OK
-hook Startup
-tick
+start 1 E_OK .. tick
 alarm L
 out 1 ActivateTask P
 halt 1 E_OK
 hook Shutdown E_OK
-core 1
-hook Startup
-act X
-pre X
+core 1 .. pre X
 act P
 in 0 ActivateTask P E_OK
 halt 1 E_OK
@@ -291,10 +225,7 @@ ended
 config {"cores":[{"id":0,"tasks":[{"name":"A","prio":1,"auto":["M"],"script":"work;TerminateTask"}],"isrs":[{"name":"I","level":1,"script":"ShutdownAllCores 11"}]}]}
 stimuli {"0":"irq=I op op op"}
 run
-core 0
-hook Startup
-act A
-pre A
+core 0 .. pre A
 irq I
 enter I
 halt 0 E_OS_PROTECTION_TIME
@@ -304,10 +235,7 @@ ended
 config {"cores":[{"id":0,"tasks":[{"name":"A","prio":1,"auto":["M"],"script":"work;TerminateTask"}],"isrs":[{"name":"I","level":1,"script":"work;ShutdownOS 15"}]}]}
 stimuli {"0":"irq=I op op op irq=I tick"}
 run
-core 0
-hook Startup
-act A
-pre A
+core 0 .. pre A
 irq I
 enter I
 hook Shutdown E_OS_NESTING_DEADLOCK
@@ -316,10 +244,7 @@ ended
 config {"cores":[{"id":0,"tasks":[{"name":"A","prio":1,"auto":["M"],"script":"ActivateTask B;ShutdownOS 3;TerminateTask"},{"name":"B","prio":1,"script":"TerminateTask"}]}]}
 stimuli {"0":"op op op op"}
 run
-core 0
-hook Startup
-act A
-pre A
+core 0 .. pre A
 act B
 stat A ActivateTask E_OK
 hook Shutdown E_OS_ID
@@ -331,20 +256,11 @@ stimuli {"0":"op op op","1":"op","2":"op op op op"}
 run
 core 0
 start 1 E_OK
-start 2 E_OK
-hook Startup
-act A
-pre A
+start 2 E_OK .. pre A
 hook Shutdown E_OK
-core 1
-hook Startup
-act B
-pre B
+core 1 .. pre B
 hook Shutdown E_OS_LIMIT
-core 2
-hook Startup
-act V
-pre V
+core 2 .. pre V
 var V v0 3
 hook Shutdown E_OS_CALLEVEL
 ended
@@ -356,36 +272,27 @@ core 1 separate
 core 2 separate
 
 // The separate cores by themselves.
-cut 1
-{"cap":16,"cores":[{"alarms":[],"counters":[],"id":1,"isrs":[],"mode":"M","protection":"PRO_SHUTDOWN","resources":[],"start":[],"tables":[],"tasks":[{"activations":1,"auto":["M"],"budget":0,"extended":false,"name":"B","preemptable":true,"prio":1,"script":"ShutdownOS 4"}]}],"master":1,"modes":["M"],"spinlocks":[],"version":1}
-
-config
-stimuli {"1":"op"}
-run
-core 1
-hook Startup
-act B
-pre B
-hook Shutdown E_OS_LIMIT
-ended
-
-config {"cores":[{"id":0,"start":[1,2],"tasks":[{"name":"A","prio":1,"auto":["M"],"script":"work;ShutdownOS 0"}]},{"id":1,"tasks":[{"name":"B","prio":1,"auto":["M"],"script":"ShutdownOS 4"}]},{"id":2,"tasks":[{"name":"V","prio":1,"auto":["M"],"script":"add v0 3;ShutdownOS 2"}]}]}
 cut 2
 {"cap":16,"cores":[{"alarms":[],"counters":[],"id":2,"isrs":[],"mode":"M","protection":"PRO_SHUTDOWN","resources":[],"start":[],"tables":[],"tasks":[{"activations":1,"auto":["M"],"budget":0,"extended":false,"name":"V","preemptable":true,"prio":1,"script":"add v0 3;ShutdownOS 2"}]}],"master":2,"modes":["M"],"spinlocks":[],"version":1}
 
 config
 stimuli {"2":"op op op op"}
 run
-core 2
-hook Startup
-act V
-pre V
-var V v0 3
-hook Shutdown E_OS_CALLEVEL
+as run from core 2
+
+config {"cores":[{"id":0,"start":[1,2],"tasks":[{"name":"A","prio":1,"auto":["M"],"script":"work;ShutdownOS 0"}]},{"id":1,"tasks":[{"name":"B","prio":1,"auto":["M"],"script":"ShutdownOS 4"}]},{"id":2,"tasks":[{"name":"V","prio":1,"auto":["M"],"script":"add v0 3;ShutdownOS 2"}]}]}
+cut 1
+{"cap":16,"cores":[{"alarms":[],"counters":[],"id":1,"isrs":[],"mode":"M","protection":"PRO_SHUTDOWN","resources":[],"start":[],"tables":[],"tasks":[{"activations":1,"auto":["M"],"budget":0,"extended":false,"name":"B","preemptable":true,"prio":1,"script":"ShutdownOS 4"}]}],"master":1,"modes":["M"],"spinlocks":[],"version":1}
+
+config
+stimuli {"1":"op"}
+run
+core 1 .. pre B
+hook Shutdown E_OS_LIMIT
 ended
 "#;
 
 #[test]
 fn shutdowns_come_to_their_texts(rt: HostRuntime) -> Result<(), Fail> {
-    play_all(&rt, rt.alloc(), &[ALL_DOWN, ASKERS, RUNS], 52)
+    play_all(&rt, rt.alloc(), &[ALL_DOWN, ASKERS, RUNS], 61)
 }

@@ -11,9 +11,7 @@ stimuli {"0":"op op op op op","1":"op op op op"}
 turns "0o 1l 1o 0o 0l 1l 0o 1o 0l 1l 0o 0o 0o 0o 1o 1o 0o 0o 0s1 0o 1s0 1o 1o 0o 0o 1o 1o 0o 1o 0o 1o 0l 1l 0l 1l"
 run
 core 0
-start 1 E_OK
-hook Startup
-act A
+start 1 E_OK .. act A
 act N
 pre A
 stat A GetSpinlock E_OK
@@ -29,10 +27,7 @@ end H
 pre N
 post N
 end N
-core 1
-hook Startup
-act B
-pre B
+core 1 .. pre B
 out 0 ActivateTask H
 stat B ActivateTask E_OK
 stat B GetSpinlock E_OK
@@ -42,11 +37,7 @@ end B
 ended
 
 items 0
-began 1 E_OK
-entered
-pass1 M
-readied
-pass2 0 1
+began 1 E_OK .. pass2 0 1
 stim op
 granted S1
 stim op
@@ -58,19 +49,13 @@ post 1
 freed S1
 stim op
 stim op
-drained
-passend
-last
+drained .. last
 
 replay 0
 as run
 
 items 1
-on
-entered
-pass1 M
-readied
-pass2 0 1
+on .. pass2 0 1
 stim op
 post 0
 in 0 0 rep E_OK
@@ -79,20 +64,14 @@ granted S2
 stim op
 freed S2
 stim op
-drained
-passend
-last
+drained .. last
 
 replay 1
 as run
 
 // Of two the newest comes first, after a job's end, and after a halt.
 first
-began 1 E_OK
-entered
-pass1 M
-readied
-pass2 0 1
+began 1 E_OK .. pass2 0 1
 stim op
 
 log
@@ -103,124 +82,55 @@ stim op
 freed S1
 
 replay 0
-core 0
-start 1 E_OK
-hook Startup
-act A
-act N
-pre A
-stat A GetSpinlock E_OK
-stat A GetSpinlock E_OK
-hook Error E_OS_MISSINGEND
-post A
-end A
+as run up to end A
 fault 15 ItemRefused 11
 
 log
-granted S1
-stim op
-granted S2
-stim op
+as before up to stim op
 freed S2
 freed S2
 
 replay 0
-core 0
-start 1 E_OK
-hook Startup
-act A
-act N
-pre A
-stat A GetSpinlock E_OK
-stat A GetSpinlock E_OK
-hook Error E_OS_MISSINGEND
-post A
-end A
+as before up to end A
 fault 15 ItemRefused 12
 
 log
-granted S1
-stim op
-granted S2
+as before up to granted S2
 halt 1 E_OK
 freed S1
 
 replay 0
-core 0
-start 1 E_OK
-hook Startup
-act A
-act N
-pre A
-stat A GetSpinlock E_OK
-stat A GetSpinlock E_OK
+as before up to stat A GetSpinlock E_OK
 halt 1 E_OK
 fault 15 ItemRefused 11
 
 log
-granted S1
-stim op
-granted S2
-halt 1 E_OK
+as before up to halt 1 E_OK
 freed S2
 drained
 
 replay 0
-core 0
-start 1 E_OK
-hook Startup
-act A
-act N
-pre A
-stat A GetSpinlock E_OK
-stat A GetSpinlock E_OK
-halt 1 E_OK
+as before up to halt 1 E_OK
 fault 15 ItemRefused 12
 
 log
-granted S1
-stim op
-granted S2
-halt 1 E_OK
-freed S2
+as before up to freed S2
 freed S1
-drained
-passend
-last 1 E_OK
+drained .. last 1 E_OK
 
 replay 0
-core 0
-start 1 E_OK
-hook Startup
-act A
-act N
-pre A
-stat A GetSpinlock E_OK
-stat A GetSpinlock E_OK
-halt 1 E_OK
+as before up to halt 1 E_OK
 hook Shutdown E_OK
 
 // A halt has to wait until all are given back.
 log
-granted S1
-stim op
-granted S2
+as before up to granted S2
 stim op
 freed S2
 halt 1 E_OK
 
 replay 0
-core 0
-start 1 E_OK
-hook Startup
-act A
-act N
-pre A
-stat A GetSpinlock E_OK
-stat A GetSpinlock E_OK
-hook Error E_OS_MISSINGEND
-post A
-end A
+as run up to end A
 fault 15 ItemRefused 12
 "#;
 
@@ -231,59 +141,40 @@ stimuli {"0":"op op","1":"op op"}
 // A GetSpinlock that waits is dropped by the halt, and core 0 gives its spinlock back.
 run
 core 0
-start 1 E_OK
-hook Startup
-act A
-pre A
+start 1 E_OK .. pre A
 stat A GetSpinlock E_OK
 halt 0 E_OS_LIMIT
 hook Shutdown E_OS_LIMIT
-core 1
-hook Startup
-act B
-pre B
+core 1 .. pre B
 halt 0 E_OS_LIMIT
 hook Shutdown E_OS_LIMIT
 ended
 
-// Core 1 asks again and again; its look drops the call once the shutdown was asked for.
-turns "0o 1l 1o 0o 0l 1l 0o 1o 0l 1l 0o 0o 1o 1o 1l 1o 0o 0o 1o 1l 1o 0o 0o 0l 1l 0l 1l"
-run
-as before
-
 // The halt drops what core 1 asked for, and core 0 gives its spinlock back.
-stimuli {"0":"op op","1":"op op"}
 items 0
-began 1 E_OK
-entered
-pass1 M
-readied
-pass2 0 1
+began 1 E_OK .. pass2 0 1
 stim op
 granted S
 stim op
 halt 0 E_OS_LIMIT
 freed S
-drained
-passend
-last 0 E_OS_LIMIT
+drained .. last 0 E_OS_LIMIT
 
 replay 0
 as run
 
 items 1
-on
-entered
-pass1 M
-readied
-pass2 0 1
+on .. pass2 0 1
 stim op
 halt 0 E_OS_LIMIT
-drained
-passend
-last 0 E_OS_LIMIT
+drained .. last 0 E_OS_LIMIT
 
 replay 1
+as run
+
+// Core 1 asks again and again; its look drops the call once the shutdown was asked for.
+turns "0o 1l 1o 0o 0l 1l 0o 1o 0l 1l 0o 0o 1o 1o 1l 1o 0o 0o 1o 1l 1o 0o 0o 0l 1l 0l 1l"
+run
 as run
 "#;
 
@@ -294,10 +185,7 @@ stimuli {"0":"op op op irq=I op op op","1":"op op op op op op op op"}
 // The spinlocks of a core that is down are given back, whoever had them.
 run
 core 0
-start 1 E_OK
-hook Startup
-act A
-pre A
+start 1 E_OK .. pre A
 stat A GetSpinlock E_OK
 act B
 stat A ActivateTask E_OK
@@ -308,10 +196,7 @@ irq I
 enter I
 stat I GetSpinlock E_OK
 hook Shutdown E_OS_RESOURCE
-core 1
-hook Startup
-act C
-pre C
+core 1 .. pre C
 stat C GetSpinlock E_OK
 stat C ReleaseSpinlock E_OK
 post C
@@ -320,11 +205,7 @@ ended
 
 // The newest one is given back first, over the whole core.
 items 0
-began 1 E_OK
-entered
-pass1 M
-readied
-pass2 0 1
+began 1 E_OK .. pass2 0 1
 stim op
 granted S2
 stim op
@@ -337,60 +218,7 @@ stim op
 freed S3
 freed S1
 freed S2
-drained
-passend
-last
-
-replay 0
-as run
-"#;
-
-const POSTING: &str = r#"
-// Core 0 has a spinlock, and its alarms act on core 1, which shuts all cores down. A mailbox has room for one
-// envelope.
-config {"cap":1,"spinlocks":[{"name":"S"}],"cores":[{"id":0,"start":[1],"tasks":[{"name":"A","prio":1,"auto":["M"],"script":"GetSpinlock S;TerminateTask"}],"counters":[{"name":"C","max":9}],"alarms":[{"name":"L1","counter":"C","action":"ActivateTask P","auto":{"modes":["M"],"start":1,"cycle":0}},{"name":"L2","counter":"C","action":"ActivateTask Q","auto":{"modes":["M"],"start":1,"cycle":0}}]},{"id":1,"tasks":[{"name":"X","prio":2,"auto":["M"],"script":"ShutdownAllCores 7"},{"name":"P","prio":1,"script":"TerminateTask"},{"name":"Q","prio":1,"script":"TerminateTask"}]}]}
-stimuli {"0":"op tick op","1":"op"}
-// The halt finds both letters in the outbox.
-turns "0o 1l 1o 0o 0l 1l 0o 1o 0l 1l 0o 0o 0o 1o 1o 0l 0o 0o 1s0 0o 0o 1s0 0o 1o 0l 1l 0l 1l"
-run
-core 0
-start 1 E_OK
-hook Startup
-act A
-pre A
-stat A GetSpinlock E_OK
-tick
-alarm L1
-out 1 ActivateTask P
-alarm L2
-out 1 ActivateTask Q
-halt 1 E_OS_STATE
-hook Shutdown E_OS_STATE
-core 1
-hook Startup
-act X
-pre X
-halt 1 E_OS_STATE
-hook Shutdown E_OS_STATE
-ended
-
-// The outbox comes before the spinlock.
-items 0
-began 1 E_OK
-entered
-pass1 M
-readied
-pass2 0 1
-stim op
-granted S
-stim tick
-halt 1 E_OS_STATE
-post 1
-post 1
-freed S
-drained
-passend
-last 1 E_OS_STATE
+drained .. last
 
 replay 0
 as run
@@ -398,5 +226,5 @@ as run
 
 #[test]
 fn spinlocks_are_given_back_as_the_logs_say(rt: HostRuntime) -> Result<(), Fail> {
-    play_all(&rt, rt.alloc(), &[TWO_OWED, WAITING, DOWN, POSTING], 23)
+    play_all(&rt, rt.alloc(), &[TWO_OWED, WAITING, DOWN], 20)
 }

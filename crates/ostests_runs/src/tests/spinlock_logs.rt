@@ -11,20 +11,14 @@ stimuli {"0":"op op op op","1":"op op op op op"}
 // A core that waits for a spinlock serves others, and dispatches when it got it.
 run
 core 0
-start 1 E_OK
-hook Startup
-act A
-pre A
+start 1 E_OK .. pre A
 stat A GetSpinlock E_OK
 out 1 ActivateTask H
 stat A ActivateTask E_OK
 stat A ReleaseSpinlock E_OK
 post A
 end A
-core 1
-hook Startup
-act B
-pre B
+core 1 .. pre B
 act H
 in 0 ActivateTask H E_OK
 stat B GetSpinlock E_OK
@@ -39,11 +33,7 @@ end B
 ended
 
 items 1
-on
-entered
-pass1 M
-readied
-pass2 0 1
+on .. pass2 0 1
 stim op
 in 0 0 req ActivateTask H
 post 0
@@ -53,41 +43,22 @@ stim op
 freed S
 stim op
 stim op
-drained
-passend
-last
+drained .. last
 
 replay 1
 as run
 
 // Whether the outbox comes before the spinlock is up to the core's own turns, and not to the item.
-first
-on
-entered
-pass1 M
-readied
-pass2 0 1
-stim op
-
 log
+on .. pass2 0 1
+stim op
 in 0 0 req ActivateTask H
 granted S
 post 0
 stim op
 
 replay 1
-core 1
-hook Startup
-act B
-pre B
-act H
-in 0 ActivateTask H E_OK
-stat B GetSpinlock E_OK
-post B
-pre H
-post H
-end H
-pre B
+as before up to pre B
 "#;
 
 #[test]

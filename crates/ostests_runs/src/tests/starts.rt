@@ -57,10 +57,7 @@ run
 core 0
 start 1 E_OK
 hook Startup
-core 1
-hook Startup
-act B
-pre B
+core 1 .. pre B
 core 2
 ended
 
@@ -70,9 +67,7 @@ stimuli {"0":"op tick"}
 // If no core names a mode, StartupHook is called and nothing autostarts.
 run
 core 0
-start 1 E_OK
-hook Startup
-tick
+start 1 E_OK .. tick
 core 1
 hook Startup
 ended
@@ -84,9 +79,7 @@ entered
 pass1 none
 readied
 pass2 0 1
-drained
-passend
-last
+drained .. last
 
 replay 1
 core 1
@@ -97,16 +90,10 @@ config {"modes":["M","N"],"cores":[{"id":0,"mode":"DONOTCARE","start":[1],"tasks
 stimuli {"0":"op op","1":"op op"}
 run
 core 0
-start 1 E_OK
-hook Startup
-act A
-pre A
+start 1 E_OK .. pre A
 post A
 end A
-core 1
-hook Startup
-act D
-pre D
+core 1 .. pre D
 post D
 end D
 ended
@@ -119,9 +106,7 @@ pass1 N
 readied
 pass2 0 1
 stim op
-drained
-passend
-last
+drained .. last
 
 replay 0
 as run
@@ -159,10 +144,7 @@ pass2 0
 
 replay 0
 core 0
-start 1 E_OK
-hook Startup
-act B
-pre B
+start 1 E_OK .. pre B
 
 log
 pass1 none
@@ -170,9 +152,7 @@ readied
 pass2 0
 
 replay 0
-core 0
-start 1 E_OK
-hook Startup
+as before up to hook Startup
 
 log
 pass1 conflict
@@ -186,9 +166,7 @@ conflict
 config {"modes":["M","N","O"],"cores":[{"id":0,"mode":"N","counters":[{"name":"C","max":9}],"alarms":[{"name":"L1","counter":"C","action":"ActivateTask B","auto":{"modes":["O"],"start":1,"cycle":0}},{"name":"L2","counter":"C","action":"ActivateTask E","auto":{"modes":["M","N"],"start":1,"cycle":0}}],"tables":[{"name":"S1","counter":"C","duration":5,"points":[{"offset":0,"actions":["ActivateTask B"]}],"auto":{"modes":["M","O"],"offset":1}},{"name":"S2","counter":"C","duration":5,"points":[{"offset":0,"actions":["ActivateTask B"]}],"auto":{"modes":["N"],"offset":1}}],"tasks":[{"name":"A","prio":1,"auto":["M","N"],"script":"TerminateTask"},{"name":"B","prio":3,"auto":["O"],"script":"TerminateTask"},{"name":"D","prio":2,"auto":["N","N"],"script":"TerminateTask"},{"name":"E","prio":4,"auto":[],"script":"TerminateTask"}]}]}
 stimuli {"0":"tick op op op op"}
 run
-core 0
-hook Startup
-act A
+core 0 .. act A
 act D
 pre D
 tick
@@ -215,10 +193,7 @@ ended
 config {"modes":["N","M"],"cores":[{"id":0,"tasks":[{"name":"A","prio":1,"auto":["N"],"script":"TerminateTask"},{"name":"B","prio":1,"auto":["M"],"script":"TerminateTask"}]}]}
 stimuli {"0":"op op"}
 run
-core 0
-hook Startup
-act A
-pre A
+core 0 .. pre A
 post A
 end A
 ended
@@ -229,10 +204,7 @@ config {"cores":[{"id":0,"start":[1],"tasks":[{"name":"A","prio":1,"auto":["M"],
 stimuli {"0":"op op op op op op op op"}
 run
 core 0
-start 1 E_OK
-hook Startup
-act A
-pre A
+start 1 E_OK .. pre A
 stat A StartCore E_OS_ID
 stat A StartCore E_OS_ID
 stat A StartCore E_OS_ID
@@ -252,10 +224,7 @@ ended
 config {"cores":[{"id":0,"tasks":[{"name":"A","prio":1,"auto":["M"],"script":"set v1 9;StartCore ?;SuspendAllInterrupts;StartCore ?;status v0;GetNumberOfActivatedCores v1;ShutdownOS 0;ShutdownAllCores 0;status v0;addv v2 v1;ResumeAllInterrupts;GetNumberOfActivatedCores v1;status v0;TerminateTask"}]}]}
 stimuli {"0":"op op op op op op op op op op op op op op"}
 run
-core 0
-hook Startup
-act A
-pre A
+core 0 .. pre A
 var A v1 9
 stat A StartCore E_OS_ID
 stat A StartCore E_OS_DISABLEDINT
@@ -274,10 +243,7 @@ stimuli {"0":"irq=I op op op op op"}
 run
 core 0
 start 1 E_OK
-start 2 E_OK
-hook Startup
-act A
-pre A
+start 2 E_OK .. pre A
 irq I
 enter I
 stat I StartCore E_OS_ACCESS
@@ -382,9 +348,7 @@ core 1 off
 
 config {"cores":[{"id":0,"start":[0],"isrs":[{"name":"A","level":1,"script":"@"}]},{"id":1}]}
 check
-ok
-core 0 bound
-core 1 off
+as before
 
 // Operations that are not.
 with StartCore|StartCore 256|StartCore 01|StartCore -1|StartCore x|StartCore A|StartCore 1 2|StartCore 18446744073709551616|GetNumberOfActivatedCores|GetNumberOfActivatedCores v8|GetNumberOfActivatedCores ?|GetNumberOfActivatedCores 0|ShutdownOS|ShutdownOS 17|ShutdownOS 00|ShutdownOS ?|ShutdownOS E_OK|shutdownOS 0|ShutdownAllCores|ShutdownAllCores 17|ShutdownAllCores ?|ShutdownAllCores 0 0
@@ -394,7 +358,7 @@ fault 10 BadScript
 
 config {"cores":[{"id":0,"start":[0],"isrs":[{"name":"A","level":1,"script":"@"}]},{"id":1}]}
 check
-fault 10 BadScript
+as before
 "#;
 
 #[test]

@@ -9,10 +9,7 @@ const RUNS: &str = r#"
 config {"cores":[{"id":0,"tasks":[{"name":"W","prio":2,"extended":true,"auto":["M"],"script":"StartScheduleTableRel S1 1;NextScheduleTable S1 S2;WaitEvent 1;ClearEvent 1;WaitEvent 2"},{"name":"B","prio":1,"script":"TerminateTask"}],"counters":[{"name":"C","max":9}],"tables":[{"name":"S1","counter":"C","duration":3,"points":[{"offset":1,"actions":["SetEvent W 1","ActivateTask B"]}]},{"name":"S2","counter":"C","duration":2,"points":[{"offset":0,"actions":["ActivateTask B"]}],"repeating":true}]}]}
 stimuli {"0":"op op op tick tick op op op tick tick op tick tick"}
 run
-core 0
-hook Startup
-act W
-pre W
+core 0 .. pre W
 stat W StartScheduleTableRel E_OK
 stat W NextScheduleTable E_OK
 post W
@@ -52,10 +49,7 @@ ended
 config {"cores":[{"id":0,"counters":[{"name":"C","max":9}],"tables":[{"name":"S","counter":"C","duration":4,"points":[{"offset":2,"actions":["ActivateTask A"]}]},{"name":"U","counter":"C","duration":3,"points":[{"offset":0,"actions":["ActivateTask A"]}]}],"tasks":[{"name":"A","prio":1,"auto":["M"],"script":"StartScheduleTableRel ? 1;StartScheduleTableRel S 0;StartScheduleTableRel S 8;GetScheduleTableStatus S v0;StartScheduleTableRel S 7;StartScheduleTableRel S 7;StartScheduleTableRel S 8;StartScheduleTableAbs S 10;GetScheduleTableStatus S v0;add v0 0;StartScheduleTableAbs ? 0;StartScheduleTableAbs U 10;StopScheduleTable ?;StopScheduleTable U;StartScheduleTableAbs U 9;StartScheduleTableRel U 9;StopScheduleTable U;StopScheduleTable U;StartScheduleTableRel U 9;GetScheduleTableStatus ? v0;status v1;TerminateTask"}]}]}
 stimuli {"0":"op op op op op op op op op op op op op op op op op op op op op op"}
 run
-core 0
-hook Startup
-act A
-pre A
+core 0 .. pre A
 stat A StartScheduleTableRel E_OS_ID
 hook Error E_OS_ID
 stat A StartScheduleTableRel E_OS_VALUE
@@ -99,28 +93,15 @@ ended
 config {"cores":[{"id":0,"counters":[{"name":"C","max":9},{"name":"D","max":9}],"tables":[{"name":"S","counter":"C","duration":4,"points":[{"offset":2,"actions":["ActivateTask A"]}]},{"name":"U","counter":"C","duration":3,"points":[{"offset":0,"actions":["ActivateTask A"]}]},{"name":"V","counter":"D","duration":3,"points":[{"offset":0,"actions":["ActivateTask A"]}]},{"name":"X","counter":"C","duration":3,"points":[{"offset":0,"actions":["ActivateTask A"]}]}],"tasks":[{"name":"A","prio":1,"auto":["M"],"script":"StartScheduleTableRel S 1;NextScheduleTable ? U;NextScheduleTable S ?;NextScheduleTable S V;NextScheduleTable V S;NextScheduleTable S S;NextScheduleTable U S;NextScheduleTable U U;NextScheduleTable U X;NextScheduleTable S U;NextScheduleTable S U;NextScheduleTable U U;NextScheduleTable U X;StartScheduleTableRel U 0;StartScheduleTableAbs U 10;GetScheduleTableStatus U v0;TerminateTask"}]}]}
 stimuli {"0":"op op op op op op op op op op op op op op op op op"}
 run
-core 0
-hook Startup
-act A
-pre A
+core 0 .. pre A
 stat A StartScheduleTableRel E_OK
-stat A NextScheduleTable E_OS_ID
+<4*stat A NextScheduleTable E_OS_ID
 hook Error E_OS_ID
-stat A NextScheduleTable E_OS_ID
-hook Error E_OS_ID
-stat A NextScheduleTable E_OS_ID
-hook Error E_OS_ID
-stat A NextScheduleTable E_OS_ID
-hook Error E_OS_ID
-stat A NextScheduleTable E_OS_STATE
+><2*stat A NextScheduleTable E_OS_STATE
 hook Error E_OS_STATE
-stat A NextScheduleTable E_OS_STATE
-hook Error E_OS_STATE
-stat A NextScheduleTable E_OS_NOFUNC
+><2*stat A NextScheduleTable E_OS_NOFUNC
 hook Error E_OS_NOFUNC
-stat A NextScheduleTable E_OS_NOFUNC
-hook Error E_OS_NOFUNC
-stat A NextScheduleTable E_OK
+>stat A NextScheduleTable E_OK
 stat A NextScheduleTable E_OS_STATE
 hook Error E_OS_STATE
 stat A NextScheduleTable E_OS_STATE
@@ -140,10 +121,7 @@ ended
 config {"cores":[{"id":0,"counters":[{"name":"C","max":9}],"tables":[{"name":"U","counter":"C","duration":2,"points":[{"offset":0,"actions":["ActivateTask B"]}]},{"name":"S","counter":"C","duration":2,"points":[{"offset":1,"actions":["ActivateTask B"]}],"repeating":true},{"name":"V","counter":"C","duration":2,"points":[{"offset":0,"actions":["ActivateTask B"]},{"offset":2,"actions":["ActivateTask B"]}]}],"tasks":[{"name":"A","prio":2,"auto":["M"],"script":"StartScheduleTableRel S 1;NextScheduleTable S U;NextScheduleTable S V;GetScheduleTableStatus U v0;GetScheduleTableStatus V v1;TerminateTask"},{"name":"B","prio":1,"script":"TerminateTask"}]}]}
 stimuli {"0":"op op op op op op tick tick op tick op tick tick op tick tick"}
 run
-core 0
-hook Startup
-act A
-pre A
+core 0 .. pre A
 stat A StartScheduleTableRel E_OK
 stat A NextScheduleTable E_OK
 stat A NextScheduleTable E_OK
@@ -183,10 +161,7 @@ ended
 config {"cores":[{"id":0,"counters":[{"name":"C","max":9}],"tables":[{"name":"S","counter":"C","duration":1,"points":[{"offset":1,"actions":["ActivateTask B"]}]},{"name":"U","counter":"C","duration":1,"points":[{"offset":0,"actions":["ActivateTask B"]}]}],"tasks":[{"name":"B","prio":1,"script":"GetScheduleTableStatus S v0;GetScheduleTableStatus U v1;TerminateTask"},{"name":"A","prio":2,"extended":true,"auto":["M"],"script":"StartScheduleTableRel S 1;NextScheduleTable S U;StopScheduleTable U;GetScheduleTableStatus U v0;GetScheduleTableStatus S v1;WaitEvent 1;StartScheduleTableRel S 1;NextScheduleTable S U;StopScheduleTable S;GetScheduleTableStatus U v0;TerminateTask"},{"name":"N","prio":3,"script":"SetEvent A 1;TerminateTask"}],"alarms":[{"name":"L","counter":"C","action":"ActivateTask N","auto":{"modes":["M"],"start":4,"cycle":0}}]}]}
 stimuli {"0":"op op op op op op tick tick tick op op op tick op op op op op op op tick tick tick"}
 run
-core 0
-hook Startup
-act A
-pre A
+core 0 .. pre A
 stat A StartScheduleTableRel E_OK
 stat A NextScheduleTable E_OK
 stat A StopScheduleTable E_OK
@@ -231,9 +206,7 @@ ended
 config {"cores":[{"id":0,"counters":[{"name":"C","max":9}],"tables":[{"name":"S","counter":"C","duration":3,"points":[{"offset":1,"actions":["ActivateTask B"]},{"offset":3,"actions":["ActivateTask B"]}],"auto":{"modes":["M"],"offset":1}},{"name":"U","counter":"C","duration":3,"points":[{"offset":1,"actions":["ActivateTask B"]}],"auto":{"modes":["M"],"offset":2}},{"name":"V","counter":"C","duration":3,"points":[{"offset":2,"actions":["ActivateTask B"]}],"repeating":true,"auto":{"modes":["M"],"offset":1}}],"tasks":[{"name":"B","prio":1,"activations":9,"script":"TerminateTask"}]}]}
 stimuli {"0":"tick tick tick tick tick tick tick tick tick"}
 run
-core 0
-hook Startup
-tick
+core 0 .. tick
 tick
 point S 1
 act B
@@ -264,10 +237,7 @@ ended
 config {"cores":[{"id":0,"counters":[{"name":"C","max":3}],"tables":[{"name":"S","counter":"C","duration":3,"points":[{"offset":0,"actions":["ActivateTask B"]}]},{"name":"U","counter":"C","duration":2,"points":[{"offset":0,"actions":["ActivateTask B"]},{"offset":1,"actions":["ActivateTask B"]}],"repeating":true},{"name":"V","counter":"C","duration":2,"points":[{"offset":0,"actions":["ActivateTask B"]}]}],"tasks":[{"name":"A","prio":1,"auto":["M"],"script":"StartScheduleTableRel S 2;StartScheduleTableAbs U 0;StartScheduleTableAbs V 3;TerminateTask"},{"name":"B","prio":0,"activations":9,"script":"TerminateTask"}]}]}
 stimuli {"0":"op op tick op op tick tick tick tick tick tick tick"}
 run
-core 0
-hook Startup
-act A
-pre A
+core 0 .. pre A
 stat A StartScheduleTableRel E_OK
 stat A StartScheduleTableAbs E_OK
 tick
@@ -305,10 +275,7 @@ ended
 config {"cores":[{"id":0,"counters":[{"name":"C","max":9}],"tables":[{"name":"U","counter":"C","duration":2,"points":[{"offset":1,"actions":["ActivateTask N"]}],"repeating":true},{"name":"S","counter":"C","duration":1,"points":[{"offset":0,"actions":["ActivateTask N"]}]},{"name":"V","counter":"C","duration":2,"points":[{"offset":1,"actions":["ActivateTask B"]},{"offset":2,"actions":["ActivateTask N"]}]}],"tasks":[{"name":"A","prio":2,"auto":["M"],"script":"StartScheduleTableRel S 1;NextScheduleTable S V;TerminateTask"},{"name":"B","prio":1,"script":"NextScheduleTable V U;TerminateTask"},{"name":"N","prio":0,"activations":8,"script":"TerminateTask"}]}]}
 stimuli {"0":"op op op tick tick tick op op tick tick tick tick"}
 run
-core 0
-hook Startup
-act A
-pre A
+core 0 .. pre A
 stat A StartScheduleTableRel E_OK
 stat A NextScheduleTable E_OK
 post A
@@ -348,10 +315,7 @@ ended
 config {"cores":[{"id":0,"counters":[{"name":"C","max":9},{"name":"D","max":9},{"name":"E","max":9,"software":true}],"alarms":[{"name":"K","counter":"D","action":"ActivateTask B","auto":{"modes":["M"],"start":1,"cycle":1}},{"name":"L","counter":"C","action":"ActivateTask B","auto":{"modes":["M"],"start":1,"cycle":0}},{"name":"N","counter":"E","action":"ActivateTask B","auto":{"modes":["M"],"start":1,"cycle":0}}],"tables":[{"name":"R","counter":"D","duration":1,"points":[{"offset":0,"actions":["ActivateTask B"]}],"auto":{"modes":["M"],"offset":1}},{"name":"S","counter":"C","duration":1,"points":[{"offset":0,"actions":["ActivateTask B"]}],"auto":{"modes":["M"],"offset":1}},{"name":"U","counter":"C","duration":1,"points":[{"offset":0,"actions":["ActivateTask B"]}],"auto":{"modes":["M"],"offset":1}},{"name":"V","counter":"E","duration":1,"points":[{"offset":0,"actions":["ActivateTask B"]}],"auto":{"modes":["M"],"offset":1}}],"tasks":[{"name":"A","prio":2,"auto":["M"],"script":"IncrementCounter E;IncrementCounter E;TerminateTask"},{"name":"B","prio":1,"activations":9,"script":"TerminateTask"}]}]}
 stimuli {"0":"tick op tick op op"}
 run
-core 0
-hook Startup
-act A
-pre A
+core 0 .. pre A
 tick
 alarm L
 act B
@@ -386,9 +350,7 @@ ended
 config {"cores":[{"id":0,"counters":[{"name":"C","max":9}],"tables":[{"name":"S","counter":"C","duration":9,"points":[{"offset":0,"actions":["SetEvent W 1","ActivateTask A","SetEvent A 1","ActivateTask B","SetEvent V 2","ActivateTask V"]}],"auto":{"modes":["M"],"offset":1}}],"tasks":[{"name":"A","prio":1,"auto":["M"],"script":"TerminateTask"},{"name":"W","prio":2,"extended":true,"auto":["M"],"script":"WaitEvent 1;TerminateTask"},{"name":"B","prio":3,"script":"TerminateTask"},{"name":"V","prio":1,"extended":true,"script":"GetEvent V v0;TerminateTask"}]}]}
 stimuli {"0":"op tick op op op op op"}
 run
-core 0
-hook Startup
-act A
+core 0 .. act A
 act W
 pre W
 post W
@@ -425,9 +387,7 @@ config {"cap":1,"cores":[{"id":0,"start":[1],"counters":[{"name":"C","max":3}],"
 stimuli {"0":"tick tick op op tick tick","1":"op"}
 run
 core 0
-start 1 E_OK
-hook Startup
-tick
+start 1 E_OK .. tick
 tick
 point S 1
 hook Error E_OS_CORE
@@ -448,10 +408,7 @@ point U 0
 out 1 SetEvent X 4
 tick
 stop U
-core 1
-hook Startup
-act Y
-pre Y
+core 1 .. pre Y
 post Y
 wait Y 2
 act X
@@ -473,31 +430,21 @@ ended
 config {"cores":[{"id":0,"counters":[{"name":"C","max":9}],"tables":[{"name":"S","counter":"C","duration":2,"points":[{"offset":1,"actions":["ActivateTask B"]}],"repeating":true,"auto":{"modes":["M","M"],"offset":2}},{"name":"U","counter":"C","duration":2,"points":[{"offset":0,"actions":["ActivateTask B"]}],"auto":{"modes":[],"offset":1}},{"name":"V","counter":"C","duration":2,"points":[{"offset":0,"actions":["ActivateTask B"]}]},{"name":"X","counter":"C","duration":2,"points":[{"offset":1,"actions":["ActivateTask B"]},{"offset":2,"actions":["ActivateTask B"]}],"auto":{"modes":["M"],"offset":8}}],"tasks":[{"name":"A","prio":1,"auto":["M"],"script":"GetScheduleTableStatus S v0;GetScheduleTableStatus U v0;GetScheduleTableStatus V v0;TerminateTask"},{"name":"B","prio":1,"activations":9,"script":"TerminateTask"}]}]}
 stimuli {"0":"op op op op tick tick tick op tick tick op tick tick tick tick"}
 run
-core 0
-hook Startup
-act A
-pre A
+core 0 .. pre A
 stat A GetScheduleTableStatus E_OK 2
 stat A GetScheduleTableStatus E_OK 0
 stat A GetScheduleTableStatus E_OK 0
 post A
 end A
 tick
-tick
-tick
-point S 1
-act B
-pre B
-post B
-end B
-tick
+<2*tick
 tick
 point S 1
 act B
 pre B
 post B
 end B
-tick
+>tick
 tick
 point S 1
 act B

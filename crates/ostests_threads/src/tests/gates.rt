@@ -216,24 +216,32 @@ fn has(alloc: Global, text: &str, word: &str, due: &str) -> Result<(), Fail> {
     Ok(())
 }
 
+// The text of a run of the four cores under this gate, in which all that are started end.
+fn three_end(
+    rt: &(impl Threads + Wait + Sync),
+    alloc: Global,
+    mail: MailKind,
+    gate: &Watcher,
+) -> Result<String, Fail> {
+    let text = four_under(rt, alloc, mail, gate, MANY)?;
+    has(alloc, text.as_str(), "worker ", THREE_END)?;
+    Ok(text)
+}
+
 #[test]
 fn cores_that_call_each_other_end(rt: HostRuntime) -> Result<(), Fail> {
-    let alloc = rt.alloc();
     for mail in KINDS.iter() {
-        let text = four_under(&rt, alloc, *mail, &Watcher::new(None, false), MANY)?;
-        has(alloc, text.as_str(), "stat ", BOTH_RETURN)?;
-        has(alloc, text.as_str(), "worker ", THREE_END)?;
+        let text = three_end(&rt, rt.alloc(), *mail, &Watcher::new(None, false))?;
+        has(rt.alloc(), text.as_str(), "stat ", BOTH_RETURN)?;
     }
     Ok(())
 }
 
 #[test]
 fn all_cores_run_at_once(rt: HostRuntime) -> Result<(), Fail> {
-    let alloc = rt.alloc();
     for mail in KINDS.iter() {
         let gate = Watcher::new(None, true);
-        let text = four_under(&rt, alloc, *mail, &gate, MANY)?;
-        has(alloc, text.as_str(), "worker ", THREE_END)?;
+        three_end(&rt, rt.alloc(), *mail, &gate)?;
         have_met(&rt, &gate);
     }
     Ok(())
@@ -253,10 +261,8 @@ fn sixteen_cores_run_at_once(rt: HostRuntime) -> Result<(), Fail> {
 
 #[test]
 fn a_core_that_nobody_starts_does_not_hold_up_the_others(rt: HostRuntime) -> Result<(), Fail> {
-    let alloc = rt.alloc();
     for mail in KINDS.iter() {
-        let text = four_under(&rt, alloc, *mail, &Watcher::new(None, false), MANY)?;
-        has(alloc, text.as_str(), "worker ", THREE_END)?;
+        let text = three_end(&rt, rt.alloc(), *mail, &Watcher::new(None, false))?;
         assert!(rt; text.ends_with("\ncore 3\ntook 0\nworker 3 stopped\n"));
     }
     Ok(())
@@ -267,8 +273,7 @@ fn a_separate_core_prints_what_its_configuration_alone_prints(rt: HostRuntime) -
     let alloc = rt.alloc();
     for mail in KINDS.iter() {
         let gate = Watcher::new(None, false);
-        let text = four_under(&rt, alloc, *mail, &gate, MANY)?;
-        has(alloc, text.as_str(), "worker ", THREE_END)?;
+        let text = three_end(&rt, alloc, *mail, &gate)?;
         assert!(rt; text.contains(SEPARATE));
         let printed = result_of(&rt, alloc, &cut_of(2), &[Some(FOUR_CORES)])?;
         let (alone, _) = printed.split_once('\n').ok_or("a configuration")?;

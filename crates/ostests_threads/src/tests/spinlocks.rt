@@ -7,18 +7,12 @@ config {"spinlocks":[{"name":"S"}],"cores":[{"id":0,"start":[1],"tasks":[{"name"
 stimuli {"0":"op op op","1":"op op op"}
 run
 core 0
-start 1 E_OK
-hook Startup
-act A
-pre A
+start 1 E_OK .. pre A
 stat A GetSpinlock E_OK
 hook Error E_OS_MISSINGEND
 post A
 end A
-core 1
-hook Startup
-act B
-pre B
+core 1 .. pre B
 stat B GetSpinlock E_OK
 stat B ReleaseSpinlock E_OK
 post B
@@ -32,48 +26,32 @@ threads locked 1000000000
 as before
 
 items 0
-began 1 E_OK
-entered
-pass1 M
-readied
-pass2 0 1
+began 1 E_OK .. pass2 0 1
 stim op
 granted S
 stim op
 stim op
 freed S
-drained
-passend
-last
+drained .. last
 
 replay 0
 as run
 
 items 1
-on
-entered
-pass1 M
-readied
-pass2 0 1
+on .. pass2 0 1
 stim op
 granted S
 stim op
 freed S
 stim op
-drained
-passend
-last
+drained .. last
 
 replay 1
 as run
 
 // Before the answer to a ReleaseSpinlock no other item is taken, not even a halt.
 first
-on
-entered
-pass1 M
-readied
-pass2 0 1
+on .. pass2 0 1
 stim op
 
 log
@@ -83,10 +61,7 @@ stim op
 
 with halt 0 E_OK|stim op|granted S
 replay 1
-core 1
-hook Startup
-act B
-pre B
+core 1 .. pre B
 stat B GetSpinlock E_OK
 fault 15 ItemRefused 9
 
@@ -97,21 +72,12 @@ freed S
 halt 0 E_OK
 
 replay 1
-core 1
-hook Startup
-act B
-pre B
-stat B GetSpinlock E_OK
-stat B ReleaseSpinlock E_OK
+as run up to stat B ReleaseSpinlock E_OK
 halt 0 E_OK
 
 // What an ended job had is given back before all else.
 first
-began 1 E_OK
-entered
-pass1 M
-readied
-pass2 0 1
+began 1 E_OK .. pass2 0 1
 stim op
 
 log
@@ -122,53 +88,25 @@ stim op
 
 with stim op|halt 1 E_OK|drained
 replay 0
-core 0
-start 1 E_OK
-hook Startup
-act A
-pre A
-stat A GetSpinlock E_OK
-hook Error E_OS_MISSINGEND
-post A
-end A
+as run up to end A
 fault 15 ItemRefused 10
 
 log
-granted S
-stim op
-stim op
+as before up to stim op
 freed S
 freed S
 
 replay 0
-core 0
-start 1 E_OK
-hook Startup
-act A
-pre A
-stat A GetSpinlock E_OK
-hook Error E_OS_MISSINGEND
-post A
-end A
+as before up to end A
 fault 15 ItemRefused 11
 
 log
-granted S
-stim op
-stim op
+as before up to stim op
 freed S
 halt 1 E_OK
 
 replay 0
-core 0
-start 1 E_OK
-hook Startup
-act A
-pre A
-stat A GetSpinlock E_OK
-hook Error E_OS_MISSINGEND
-post A
-end A
+as before up to end A
 halt 1 E_OK
 
 // While the job runs, it keeps its spinlock; so does a core that has drained.
@@ -177,12 +115,7 @@ granted S
 freed S
 
 replay 0
-core 0
-start 1 E_OK
-hook Startup
-act A
-pre A
-stat A GetSpinlock E_OK
+as before up to stat A GetSpinlock E_OK
 fault 15 ItemRefused 8
 
 log
@@ -191,27 +124,15 @@ drained
 freed S
 
 replay 0
-core 0
-start 1 E_OK
-hook Startup
-act A
-pre A
-stat A GetSpinlock E_OK
+as before up to stat A GetSpinlock E_OK
 fault 15 ItemRefused 9
 
 log
 granted S
-drained
-passend
-last 1 E_OS_ID
+drained .. last 1 E_OS_ID
 
 replay 0
-core 0
-start 1 E_OK
-hook Startup
-act A
-pre A
-stat A GetSpinlock E_OK
+as before up to stat A GetSpinlock E_OK
 hook Shutdown E_OS_ID
 
 // Lines of no spinlock are a bad log.
@@ -241,31 +162,16 @@ stimuli {"0":"op op op op op op","1":"op op op op op op","2":"op op op op op op"
 run
 core 0
 start 1 E_OK
-start 2 E_OK
-hook Startup
-act A
-pre A
-stat A GetSpinlock E_OK
+start 2 E_OK .. pre A
+<2*stat A GetSpinlock E_OK
 stat A ReleaseSpinlock E_OK
-stat A GetSpinlock E_OK
-stat A ReleaseSpinlock E_OK
-core 1
-hook Startup
-act B
-pre B
-stat B GetSpinlock E_OK
+>core 1 .. pre B
+<2*stat B GetSpinlock E_OK
 stat B ReleaseSpinlock E_OK
-stat B GetSpinlock E_OK
-stat B ReleaseSpinlock E_OK
-core 2
-hook Startup
-act C
-pre C
-stat C GetSpinlock E_OK
+>core 2 .. pre C
+<2*stat C GetSpinlock E_OK
 stat C ReleaseSpinlock E_OK
-stat C GetSpinlock E_OK
-stat C ReleaseSpinlock E_OK
-ended
+>ended
 
 threads 1000000000
 as before

@@ -34,10 +34,7 @@ stimuli {"0":"op op op","1":"op op op","2":"op op"}
 run
 core 0
 start 1 E_OK
-start 2 E_OK
-hook Startup
-act A
-pre A
+start 2 E_OK .. pre A
 out 1 ActivateTask D
 act C
 in 1 ActivateTask C E_OK
@@ -47,10 +44,7 @@ end A
 pre C
 post C
 end C
-core 1
-hook Startup
-act B
-pre B
+core 1 .. pre B
 out 0 ActivateTask C
 act D
 in 0 ActivateTask D E_OK
@@ -60,10 +54,7 @@ end B
 pre D
 post D
 end D
-core 2
-hook Startup
-act V
-pre V
+core 2 .. pre V
 var V v0 3
 post V
 end V
@@ -75,16 +66,10 @@ run
 as before
 
 threads 1000000000 2
-on
-entered
-pass1 M
-readied
-pass2 0 1 2
+on .. pass2 0 1 2
 stim op
 stim op
-drained
-passend
-last
+drained .. last
 
 threads locked 1000000000 2
 as before
@@ -102,14 +87,7 @@ cut 2
 config
 stimuli {"2":"op op"}
 run
-core 2
-hook Startup
-act V
-pre V
-var V v0 3
-post V
-end V
-ended
+as run from core 2
 "#;
 
 const RUNS: &str = r#"
@@ -117,17 +95,11 @@ const RUNS: &str = r#"
 config {"cores":[{"id":0,"tasks":[{"name":"A","prio":1,"auto":["M"],"script":"work;TerminateTask"}]}]}
 stimuli {"0":"op op"}
 threads 1 -> 3
-core 0
-hook Startup
-act A
-pre A
+core 0 .. pre A
 stalled
 
 threads 2
-core 0
-hook Startup
-act A
-pre A
+core 0 .. pre A
 post A
 end A
 ended
@@ -159,17 +131,12 @@ config {"version":2,"cores":[{"id":0,"start":[9],"tasks":[{"name":"A","prio":1,"
 stimuli {"0":"op op"}
 run
 core 0
-start 9 E_OK
-hook Startup
-act A
-pre A
+start 9 E_OK .. pre A
 out 9 ActivateTask B
 stat A ActivateTask E_OK
 post A
 end A
-core 9
-hook Startup
-act B
+core 9 .. act B
 in 0 ActivateTask B E_OK
 pre B
 ended
@@ -188,20 +155,16 @@ core 9 bound
 // Three alarms that act on another core, whose mailbox holds one envelope.
 config {"cap":1,"cores":[{"id":0,"start":[1],"counters":[{"name":"C","max":9}],"alarms":[{"name":"L1","counter":"C","action":"ActivateTask P","auto":{"modes":["M"],"start":1,"cycle":0}},{"name":"L2","counter":"C","action":"ActivateTask Q","auto":{"modes":["M"],"start":1,"cycle":0}},{"name":"L3","counter":"C","action":"ActivateTask R","auto":{"modes":["M"],"start":1,"cycle":0}}]},{"id":1,"tasks":[{"name":"P","prio":1,"script":"TerminateTask"},{"name":"Q","prio":1,"script":"TerminateTask"},{"name":"R","prio":1,"script":"TerminateTask"}]}]}
 stimuli {"0":"tick"}
-threads 1000000000
+run
 core 0
-start 1 E_OK
-hook Startup
-tick
+start 1 E_OK .. tick
 alarm L1
 out 1 ActivateTask P
 alarm L2
 out 1 ActivateTask Q
 alarm L3
 out 1 ActivateTask R
-core 1
-hook Startup
-act P
+core 1 .. act P
 in 0 ActivateTask P E_OK
 pre P
 act Q
@@ -210,7 +173,14 @@ act R
 in 0 ActivateTask R E_OK
 ended
 
+threads 1000000000
+as before
+
 threads locked 1000000000
+as before
+
+turns "0o 1l 1o 0o 0l 1l 0o 1o 0l 1l 0o 0o 0o 0o 1s0 0o 1s0 0o 1s0 0o 1o 0l 1l 0l 1l"
+run
 as before
 
 // Faults come in their order.
@@ -241,7 +211,7 @@ fn runs_by_threads_come_to_their_texts(rt: HostRuntime) -> Result<(), Fail> {
         &rt,
         rt.alloc(),
         &[BOUND_AND_SEPARATE, RUNS, OWED, SHARED],
-        64,
+        66,
     )
 }
 

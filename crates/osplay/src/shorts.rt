@@ -1,0 +1,101 @@
+//! Blocks in short: a line in place of some that stand together in each run, and a line in place of those of an earlier block.
+
+ghost use Rattle.std.specs.Prelude.{◌≡◌, ◌-◌, IfSome, length, take, drop};
+
+use crate::differences::Difference;
+use std::alloc::Global;
+
+/// Adds what this line of a block stands for, with line ends. `A .. B` is A and B and the lines that a run has between them; any
+/// other line is itself.
+pub fn push_in_full(text: &mut String, line: &str) -> Result<(), Difference> {
+    let Some((first, last)) = line.split_once(" .. ") else {
+        return push_line(text, line);
+    };
+    push_line(text, first)?;
+    push_between(text, first, last)?;
+    push_line(text, last)
+}
+
+// Between the first item of a core's start and Pass2 there is the mode M, and between those of its end PassEnd. Behind a core's
+// number, or the last core that it starts, comes StartupHook, and then maybe a task that is activated before it runs.
+fn push_between(text: &mut String, first: &str, last: &str) -> Result<(), Difference> {
+    match first.split(' ').next().unwrap_or("") {
+        "on" | "began" => push_line(text, "entered\npass1 M\nreadied"),
+        "entered" => push_line(text, "pass1 M\nreadied"),
+        "drained" => push_line(text, "passend"),
+        "core" | "start" => {
+            push_line(text, "hook Startup")?;
+            if let Some(task) = last.strip_prefix("pre ") {
+                text.push_str("act ")?;
+                push_line(text, task)?;
+            }
+            Ok(())
+        }
+        _ => Err(Difference::Lacks("a line that `..` may follow")),
+    }
+}
+
+fn push_line(text: &mut String, line: &str) -> Result<(), Difference> {
+    text.push_str(line)?;
+    Ok(text.push_str("\n")?)
+}
+
+/// Of a line `as WHICH up to L` or `as WHICH from L` the words `as WHICH`, and which lines of that block it stands for.
+pub fn repeat_of(line: &str) -> Option<(&str, Part<'_>)> {
+    if !line.starts_with("as ") {
+        return None;
+    }
+    if let Some((which, last)) = line.split_once(" up to ") {
+        return Some((which, Part::UpTo(last)));
+    }
+    let (which, first) = line.split_once(" from ")?;
+    Some((which, Part::From(first)))
+}
+
+/// Some lines of a block.
+#[derive(Clone, Copy)]
+pub enum Part<'a> {
+    /// Those up to the last one that is this line, and it.
+    UpTo(&'a str),
+    /// The first one that is this line, and those behind it.
+    From(&'a str),
+}
+
+/// Adds this part of a block. Its line is not the block's first.
+pub fn push_part(
+    alloc: Global,
+    text: &mut String,
+    block: &str,
+    part: Part<'_>,
+) -> Result<(), Difference> {
+    let lacks = "the line from which or up to which a block is repeated";
+    match part {
+        Part::UpTo(line) => {
+            let end = format!(in alloc; "\n{line}\n")?;
+            text.push_str(before_last(block, end.as_str()).ok_or(lacks)?)?;
+            text.push_str("\n")?;
+            push_line(text, line)
+        }
+        Part::From(line) => {
+            let start = format!(in alloc; "\n{line}\n")?;
+            push_line(text, line)?;
+            Ok(text.push_str(behind_first(block, start.as_str()).ok_or(lacks)?)?)
+        }
+    }
+}
+
+// What stands in the block before the last place of these lines.
+fn before_last<'a>(block: &'a str, lines: &str) -> Option<&'a str>
+    ensures { IfSome result (λ before. before.now ≡ take (length before.now) block.now) }
+{
+    let (before, _) = block.rsplit_once(lines)?;
+    Some(before)
+}
+
+// What stands in the block behind the first place of these lines.
+fn behind_first<'a>(block: &'a str, lines: &str) -> Option<&'a str>
+    ensures { IfSome result (λ behind. behind.now ≡ drop (length block.now - length behind.now) block.now) }
+{
+    let (_, behind) = block.split_once(lines)?;
+    Some(behind)
+}
