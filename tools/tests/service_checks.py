@@ -90,6 +90,16 @@ def in_document(text: str) -> Checks:
 # ---------------------------------------------------------------------------------------------------------------------
 
 
+def imported(line: str) -> Iterator[Tuple[str, Tuple[str, str]]]:
+    """The names that an import brings of FILES, with the file of each: `use Rattle.CRATE.specs.FILE.{NAME, NAME}`, or
+    `use Rattle.CRATE.specs.{FILE.NAME, FILE.NAME}`."""
+    used = re.match(r"use Rattle\.(\w+)\.specs\.(.*)\{(.*)\}", line)
+    for place in used[3].split(", ") if used else []:
+        file, _, name = (used[2] + place).rpartition(".")
+        if (used[1], file) in FILES:
+            yield name, (used[1], file)
+
+
 class Definitions:
     """The definitions of FILES: their clauses, each the words of its left side and the text of its right side."""
 
@@ -112,9 +122,7 @@ class Definitions:
                 continue
             self._add(file, clause)
             clause = line
-            used = re.match(r"use Rattle\.(\w+)\.specs\.(\w+)\.\{(.*)\}", line)
-            for name in used[3].split(", ") if used and used.groups()[:2] in FILES else []:
-                self.imports[file][name] = used.groups()[:2]
+            self.imports[file].update(imported(line))
 
     def _add(self, file, clause):
         left, is_clause, right = clause.partition(" = ")
