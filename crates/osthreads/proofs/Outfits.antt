@@ -76,15 +76,15 @@ equipped-cores shared [] ends = refl
 equipped-cores shared (c ∷ cs) [] = ap (λ (ds : List CoreId). c ∷ ds) (equipped-cores shared cs [])
 equipped-cores shared (c ∷ cs) (e ∷ ends) = ap (λ (ds : List CoreId). c ∷ ds) (equipped-cores shared cs ends)
 
-module _ (plan : Plan) (cores : List CoreId) (shared : Shared) (limits : IsTrue (is_within_limits plan)) (listed : cores ≡ ids_of plan) where
+module _ (plan : Plan) (cores : List CoreId) (shared : Shared) (listed : cores ≡ ids_of plan) where
   ready-each : (cs : List CoreId) (ends : List RingEnd) → AllByRecursion (λ c. is_some (core_of plan c) ≡ true) cs → AllByRecursion IsUnused ends → AreReady plan cores shared (equipped (map (first_seats shared) cs) ends)
   ready-each [] ends all unused = tt
   ready-each (c ∷ cs) [] all unused = (
-    record { limits = limits; listed = listed; configured = all.0; placed = record { board = refl; spins = refl; board_core = refl; spins_core = refl }; fresh = refl; unused = tt },
+    record { listed = listed; configured = all.0; placed = record { board = refl; spins = refl; board_core = refl; spins_core = refl }; fresh = refl; unused = tt },
     ready-each cs [] all.1 tt,
   )
   ready-each (c ∷ cs) (e ∷ ends) all unused = (
-    record { limits = limits; listed = listed; configured = all.0; placed = record { board = refl; spins = refl; board_core = refl; spins_core = refl }; fresh = refl; unused = unused.0 },
+    record { listed = listed; configured = all.0; placed = record { board = refl; spins = refl; board_core = refl; spins_core = refl }; fresh = refl; unused = unused.0 },
     ready-each cs ends all.1 unused.1,
   )
 

@@ -27,8 +27,7 @@ use Rattle.osrun.proofs.{Answered.answered-push, Called.called-for, Asked.IsOwnR
 use Rattle.osrun.proofs.Resulting.{drained-item, halt-item, is-item, look-item, spinlock-item}
 use Rattle.osrun.proofs.Longer.{IsInTurn, core-on, history_from-push, length-stimuli_in}
 use Rattle.osrun.proofs.Streams.{received_letter, is_from, is_post_to, posted-after, received-is}
-use Rattle.osthreads.specs.{declared.turns.Turned.TheVariants.Nothing, declared.turns.Turned.TheVariants.Took as TookOne, declared.worker.Worker.Worker, Seats.made_from}
-use Rattle.osthreads.specs.Working.{AreCalls, AreSpinCalls, HasDone, HasTaken, HasWorked, IsAsked, IsAtWork, IsFruitless, IsIdleLook, IsMailed, IsRefusedWish, IsTurn, MayWait}
+use Rattle.osthreads.specs.Working.{AreCalls, AreSpinCalls, HasDone, IsAsked, IsAtWork, IsFruitless, IsIdleLook, IsMailed, IsRefusedWish, MayWait}
 
 -- ---- stimuli
 
@@ -430,25 +429,7 @@ module _ (plan : Plan) (stimuli : List CoreStimuli) (loads : ℕ) (old new : Cor
       (subst (λ (i : Item). IsMailed view (after view past i) sent' taken' None) (sym is_item)
       (mail-received view past sent taken sent' taken' done.mail from e same_sent grown))
 
--- A turn took an item, if what it did before the core took it results in what the worker has done then.
-pub turn-took : {M E : Type 0} (sent taken : M → Streams) (which : M → E) (more : ℕ) (old mid new : Worker M) (item : Item) → HasTaken mid new item → mid.run ≡ old.run → mid.core.id ≡ old.core.id → which mid.mail ≡ which old.mail
-    → ((stimuli : List CoreStimuli) (loads : ℕ) → HasWorked sent taken stimuli None loads old → HasDone mid.run.now.config.now stimuli new.core (made_from mid.seats) (sent mid.mail) (taken mid.mail) None 0) → IsTurn sent taken which more TookOne old new
-turn-took sent taken which more old mid new item took run id end done = record {
-  turns = λ stimuli loads worked. rw (took.run, took.seats, took.mail) (done stimuli loads worked);
-  core = tt;
-  same = record { run = took.run ∙ run; id = took.core.id ∙ id; end = ap which took.mail ∙ end };
-}
-
 -- ---- a turn that took none
-
--- A turn took nothing, if its core is as it was and what it called results in what the worker has done then.
-pub turn-idle : {M E : Type 0} (sent taken : M → Streams) (which : M → E) (more : ℕ) (old new : Worker M) → new.core ≡ old.core → new.run ≡ old.run → which new.mail ≡ which old.mail
-    → ((stimuli : List CoreStimuli) (loads : ℕ) → HasWorked sent taken stimuli None loads old → HasWorked sent taken stimuli None (loads + more) new) → IsTurn sent taken which more Nothing old new
-turn-idle sent taken which more old new core run end done = record {
-  turns = done;
-  core = core;
-  same = record { run = run; id = ap (λ (c : CoreRun). c.id) core; end = end };
-}
 
 module _ (plan : Plan) (stimuli : List CoreStimuli) (loads : ℕ) (core : CoreRun) (made : Calls) (sent taken : Streams) (done : HasDone plan stimuli core made sent taken None loads) where
   -- a look that resulted in no item

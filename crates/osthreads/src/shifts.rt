@@ -1,12 +1,12 @@
 //! One core's worker: turn by turn, until its core has ended or its turns change nothing any more.
 
-ghost use Rattle.std.specs.Prelude.{◌≡◌, ◌+◌, ◌<◌, [], IsSome, IsTrue, IfNone, IfSome, List, length};
+ghost use Rattle.std.specs.Prelude.{◌≡◌, ◌+◌, ◌<◌, [], IsSome, IfNone, IfSome, List, length};
 ghost use Rattle.osbase.specs.{declared.references.CoreId.CoreId as CoreIdValue, declared.turns.CoreStimuli.CoreStimuli as CoreStimuliValue};
-ghost use Rattle.osplan.specs.{Limits.is_within_limits, View.core_of};
+ghost use Rattle.osplan.specs.View.{core_of};
 ghost use Rattle.osrun.specs.{Fits.ids_of, CoreRuns.report_of, Requests.no_calls};
 ghost use Rattle.osthreads.specs.Seats.{AreAt, made_from, shared};
 ghost use Rattle.osthreads.specs.Rounds.{IsGoing, IsStopped, loads_at, next_at};
-ghost use Rattle.osthreads.specs.Working.{HasNoWork, IsSameWorker, IsTurn, IsWorked, MayTurn, UnlessTook};
+ghost use Rattle.osthreads.specs.Working.{HasNoWork, IsSameWorker, IsWorked, MayTake, Turns, UnlessTook};
 
 use crate::gates::Gate;
 use crate::run::Run;
@@ -36,11 +36,14 @@ impl<'a, M: Mail> Shift<'a, M> {
 
     // The turn at this place of the round.
     fn turn(&mut self) -> Turned
-        requires { MayTurn M.has_room self.old.worker }
-        ensures turn { IsTurn M.sent M.taken M.which (loads_at (length self.old.worker.run.now.cores.now) self.old.at) result self.old.worker self.new.worker }
+        requires room { MayTake self.old.worker }
+        requires mail { M.has_room self.old.worker.mail }
+        ensures turns { Turns M.sent M.taken (loads_at (length self.old.worker.run.now.cores.now) self.old.at) result self.old.worker self.new.worker }
+        ensures core { UnlessTook result (self.new.worker.core ≡ self.old.worker.core) }
         ensures stuck { self.old.at + 1 ≡ length self.old.worker.run.now.cores.now → UnlessTook result (HasNoWork self.old.worker) }
         ensures at { self.new.at ≡ self.old.at }
         ensures fruitless { self.new.fruitless ≡ self.old.fruitless }
+        ensures same { IsSameWorker M.which self.old.worker self.new.worker }
     {
         let cores = self.worker.run.cores.len();
         if self.at >= cores {
@@ -159,7 +162,6 @@ pub fn core_worker<'a, R: Wait, M: Mail, G: Gate>(
     mail: M,
     gate: &G,
 ) -> Worked<M>
-    requires limits { IsTrue (is_within_limits run.now.config.now) }
     requires cores { run.now.cores.now ≡ ids_of run.now.config.now }
     requires configured { IsSome (core_of run.now.config.now seats.board.core) }
     requires placed { AreAt (shared run.now.board.now run.now.bank.now) seats.board.core seats }
@@ -170,6 +172,7 @@ pub fn core_worker<'a, R: Wait, M: Mail, G: Gate>(
     ensures seats { AreAt (shared run.now.board.now run.now.bank.now) seats.board.core result.seats }
     ensures which { M.which result.mail ≡ M.which mail }
 {
+    let _plan = run.config.plan();
     let core = CoreRun::new(alloc, run.config, seats.board.core(), run.stimuli);
     let stamps = Stamps::new(alloc, run.clocks, core.items.capacity().saturating_mul(2));
     let mut shift = Shift {

@@ -21,19 +21,15 @@ loop-item-init c =
       refl,
     )
 
-pub returns-then-not-may_take : goal.returns-then-not-may_take
-returns-then-not-may_take c = record {
-  ok = tt;
-  fault = refuses c.args.config.now c.args.core c.args.items.now c.loop-item.item-index c.loop-item.core_run c.loop-item.invariant.0 _ (slice_get-get_or _ _ _ c.loop-item-test.true)
-      c.may_take.result c.may_take.ensures.reads c.if-not-may_take.true c.loop-item.taken c.loop-item.invariant.1 c.report.result c.report.ensures;
-}
+pub returns-then-not-may_take-clause-fault : goal.returns-then-not-may_take-clause-fault
+returns-then-not-may_take-clause-fault c =
+    refuses c.args.config.now c.args.core c.args.items.now c.loop-item.item-index c.loop-item.core_run c.loop-item.invariant.0 _ (slice_get-get_or _ _ _ c.loop-item-test.true)
+    c.may_take.result c.may_take.ensures.reads c.if-not-may_take.true c.loop-item.taken c.loop-item.invariant.1 c.report.result c.report.ensures
 
-pub returns-then-is_err : goal.returns-then-is_err
-returns-then-is_err c = record {
-  ok = tt;
-  fault = cut-short c.args.config.now c.args.core c.args.items.now c.loop-item.item-index c.loop-item-test.true c.loop-item.core_run c.make_room.new.self c.loop-item.invariant.0
-      c.make_room.ensures.keeps c.report-then-is_err.result c.report-then-is_err.ensures;
-}
+pub returns-then-is_err-clause-fault : goal.returns-then-is_err-clause-fault
+returns-then-is_err-clause-fault c =
+    cut-short c.args.config.now c.args.core c.args.items.now c.loop-item.item-index c.loop-item-test.true c.loop-item.core_run c.make_room.new.self c.loop-item.invariant.0
+    c.make_room.ensures.keeps c.report-then-is_err.result c.report-then-is_err.ensures
 
 pub loop-item-preserved : goal.loop-item-preserved
 loop-item-preserved c = (
@@ -44,11 +40,8 @@ loop-item-preserved c = (
   ap (λ (k : ℕ). k + 1) c.loop-item.invariant.1,
 )
 
-pub returns : goal.returns
-returns c =
+pub returns-clause-ok : goal.returns-clause-ok
+returns-clause-ok c =
     let items = c.args.items.now in
-    record {
-      ok = subst (λ (is : List Item). IsReplayed c.args.config.now c.args.core is c.report-2.result) (take_all c.loop-item.item-index items c.loop-item-test.false)
-          (reports c.args.config.now c.args.core _ c.loop-item.core_run c.report-2.result c.loop-item.invariant.0 c.report-2.ensures);
-      fault = tt;
-    }
+    subst (λ (is : List Item). IsReplayed c.args.config.now c.args.core is c.report-2.result) (take_all c.loop-item.item-index items c.loop-item-test.false)
+    (reports c.args.config.now c.args.core _ c.loop-item.core_run c.report-2.result c.loop-item.invariant.0 c.report-2.ensures)

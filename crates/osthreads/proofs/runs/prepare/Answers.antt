@@ -23,6 +23,20 @@ new-requires-clause-master c =
 pub new-requires-2 : goal.new-requires-2
 new-requires-2 c = subst AllApart (sym (c.from_vec-2.ensures ∙ c.in_ok-ids_of-2.ensures)) (ids-apart c.plan-plan.result.now)
 
+pub returns-clause-cores : goal.returns-clause-cores
+returns-clause-cores c = c.in_ok-cores.ensures ∙ ap ids_of c.plan-plan.ensures.value
+
+pub returns-clause-board : goal.returns-clause-board
+returns-clause-board c =
+    let ids = c.in_ok-board.ensures.cores ∙ c.from_vec.ensures ∙ c.in_ok-ids_of.ensures ∙ ap ids_of c.plan-plan.ensures.value in
+    let master = c.in_ok-board.ensures.master ∙ ap (λ (p : Plan). p.master) c.plan-plan.ensures.value in
+    (λ i. record { cores = ids i; about = master i })
+
+pub returns-clause-bank : goal.returns-clause-bank
+returns-clause-bank c =
+    let ids = c.in_ok-bank.ensures.cores ∙ c.from_vec-2.ensures ∙ c.in_ok-ids_of-2.ensures ∙ ap ids_of c.plan-plan.ensures.value in
+    (λ i. record { cores = ids i; about = tt })
+
 pub mail_of-requires-clause-cores : goal.mail_of-requires-clause-cores
 mail_of-requires-clause-cores c =
     subst AreCores (sym (c.as_slice.ensures.value ∙ c.in_ok-cores.ensures)) (chosen_cores (λ id. is_some (core_of c.plan-plan.result.now id)))
@@ -34,31 +48,17 @@ mail_of-requires-clause-room c =
     let cap = between 1 16 plan.cap (cap-within (sizes_of plan) (limit-parts plan limits).sizes) in
     omega (arith, c.from.ensures, cap)
 
-pub returns : goal.returns
-returns c =
+pub returns-clause-outfits : goal.returns-clause-outfits
+returns-clause-outfits c =
     let ids = c.from_vec.ensures ∙ c.in_ok-ids_of.ensures ∙ ap ids_of c.plan-plan.ensures.value in
     let ids_again = c.from_vec-2.ensures ∙ c.in_ok-ids_of-2.ensures ∙ ap ids_of c.plan-plan.ensures.value in
-    let master = c.in_ok-board.ensures.master ∙ ap (λ (p : Plan). p.master) c.plan-plan.ensures.value in
     let board = c.in_ok-board.ensures.seats ∙ ap (λ (cs : List CoreId). map (λ k. fresh {C = BoardCall} {R = BoardReply} c.in_ok-board.board k) cs) ids in
     let spins = c.in_ok-bank.ensures.seats ∙ ap (λ (cs : List CoreId). map (λ k. fresh {C = SpinCall} {R = SpinReply} c.in_ok-bank.bank k) cs) ids_again in
     let seats = c.in_ok-seats.ensures ∙ (λ i. paired (board i) (spins i)) ∙ new-paired (shared c.in_ok-board.board c.in_ok-bank.bank) (ids_of c.args.config.now) in
     record {
-      limits = c.plan-plan.ensures.limits;
-      cores = c.in_ok-cores.ensures ∙ ap ids_of c.plan-plan.ensures.value;
-      board = (λ i. record { cores = (c.in_ok-board.ensures.cores ∙ ids) i; about = master i });
-      bank = (λ i. record { cores = (c.in_ok-bank.ensures.cores ∙ ids_again) i; about = tt });
-      outfits = record {
-        ends = c.in_ok-mail.ends.items;
-        made = c.in_ok-outfits.ensures ∙ ap (λ (ss : List Seats). equipped ss c.in_ok-mail.ends.items) seats;
-        ends_for = subst (λ (cs : List CoreId). AreEndsFor c.args.kind cs c.in_ok-mail.ends.items) (c.as_slice.ensures.value ∙ c.in_ok-cores.ensures ∙ ap ids_of c.plan-plan.ensures.value) c.in_ok-mail.ensures.cores;
-        all = c.in_ok-mail.ensures.ends;
-        unused = c.in_ok-mail.ensures.unused;
-      };
-      endings = (c.in_ok-endings.ensures.items, omega (arith, c.in_ok-endings.ensures.capacity));
-      returned = record {
-        board = (c.in_ok-returned.ensures.board.0, omega (arith, c.in_ok-returned.ensures.board.1));
-        spins = (c.in_ok-returned.ensures.spins.0, omega (arith, c.in_ok-returned.ensures.spins.1));
-        ends = (c.in_ok-returned.ensures.ends.0, omega (arith, c.in_ok-returned.ensures.ends.1));
-        reports = (c.in_ok-returned.ensures.reports.0, omega (arith, c.in_ok-returned.ensures.reports.1));
-      };
+      ends = c.in_ok-mail.ends.items;
+      made = c.in_ok-outfits.ensures ∙ ap (λ (ss : List Seats). equipped ss c.in_ok-mail.ends.items) seats;
+      ends_for = subst (λ (cs : List CoreId). AreEndsFor c.args.kind cs c.in_ok-mail.ends.items) (c.as_slice.ensures.value ∙ c.in_ok-cores.ensures ∙ ap ids_of c.plan-plan.ensures.value) c.in_ok-mail.ensures.cores;
+      all = c.in_ok-mail.ensures.ends;
+      unused = c.in_ok-mail.ensures.unused;
     }

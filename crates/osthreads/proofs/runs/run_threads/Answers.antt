@@ -12,17 +12,7 @@ use Rattle.osthreads.proofs.runs.run_threads.Goals as goal
 
 pub run_all-joined-requires-clause-ready : goal.run_all-joined-requires-clause-ready
 run_all-joined-requires-clause-ready g c κs within =
-    all-ready c.args.config.now _ (shared c.in-Ok.prepared.board c.in-Ok.prepared.bank) c.in-Ok.ensures.limits (c.as_slice-2.ensures.value ∙ c.in-Ok.ensures.cores) c.args.kind c.in-Ok.prepared.mail.rings c.in-Ok.prepared.outfits.items c.in-Ok.ensures.outfits
-
-pub part-at_board-requires : goal.part-at_board-requires
-part-at_board-requires g c =
-    let room = c.in-Ok.ensures.returned in
-    record {
-      board = (room.board.0, omega (arith, room.board.1, c.run_all-joined.ensures.len));
-      spins = (room.spins.0, omega (arith, room.spins.1, c.run_all-joined.ensures.len));
-      ends = (room.ends.0, omega (arith, room.ends.1, c.run_all-joined.ensures.len));
-      reports = (room.reports.0, omega (arith, room.reports.1, c.run_all-joined.ensures.len));
-    }
+    all-ready c.args.config.now _ (shared c.in-Ok.prepared.board c.in-Ok.prepared.bank) (c.as_slice-2.ensures.value ∙ c.in-Ok.ensures.cores) c.args.kind c.in-Ok.prepared.mail.rings c.in-Ok.prepared.outfits.items c.in-Ok.ensures.outfits
 
 pub gather-requires-clause-places : goal.gather-requires-clause-places
 gather-requires-clause-places g c =
@@ -65,7 +55,7 @@ returns-in-None-clause-sound g c =
       board = subst (IsOneHistory one_board c.in-Ok.prepared.board.plan) c.part-at_board.ensures.board c.gather.ensures;
       spins = subst (IsOneHistory spinlocks c.in-Ok.prepared.bank.plan) c.part-at_board.ensures.spins c.gather-2.ensures;
     })
-    c.in-Ok.ensures.limits c.requires (c.if-not-is_whole.ensures.kept refl)
+    c.plan-plan.ensures.limits c.requires (c.if-not-is_whole.ensures.kept refl)
     (subst (λ (es : List RingEnd). AreDelivered (map past_of es)) c.part-at_board.ensures.ends c.gather-3.ensures)
     (c.if-not-is_whole.ensures.settled refl)
 
@@ -100,6 +90,6 @@ returns-clause-fault g c =
       board = subst (IsOneHistory one_board c.in-Ok.prepared.board.plan) c.part-at_board.ensures.board c.gather.ensures;
       spins = subst (IsOneHistory spinlocks c.in-Ok.prepared.bank.plan) c.part-at_board.ensures.spins c.gather-2.ensures;
     })
-    c.in-Ok.ensures.limits c.requires (c.if-not-is_whole.ensures.kept refl)
+    c.plan-plan.ensures.limits c.requires (c.if-not-is_whole.ensures.kept refl)
     (subst (λ (es : List RingEnd). AreDelivered (map past_of es)) c.part-at_board.ensures.ends c.gather-3.ensures)
     (c.if-not-is_whole.ensures.settled refl))

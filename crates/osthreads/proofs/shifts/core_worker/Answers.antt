@@ -8,7 +8,7 @@ use Rattle.osthreads.proofs.shifts.core_worker.Goals as goal
 
 pub new-core-requires-clause-number : goal.new-core-requires-clause-number
 new-core-requires-clause-number g c =
-    let low = known-low c.args.run.now.config.now c.requires.limits c.args.seats.board.core c.requires.configured in
+    let low = known-low c.args.run.now.config.now c.plan-plan.ensures.limits c.args.seats.board.core c.requires.configured in
     let is = ap (λ (k : _). k.number) c.core.ensures in
     omega (arith, low, is)
 
@@ -16,7 +16,7 @@ pub invariant_of-shift : goal.invariant_of-shift
 invariant_of-shift g c = record {
   same = sym (c.new-core.ensures.core ∙ c.core.ensures);
   placed = c.requires.placed.board;
-  low = known-low c.args.run.now.config.now c.requires.limits c.args.seats.board.core c.requires.configured;
+  low = known-low c.args.run.now.config.now c.plan-plan.ensures.limits c.args.seats.board.core c.requires.configured;
   same_spins = c.requires.placed.spins_core ∙ sym (c.new-core.ensures.core ∙ c.core.ensures);
   placed_spins = c.requires.placed.spins;
 }
@@ -42,7 +42,7 @@ returns-in-Some-play_turn-clause-worked g c =
     handed-back (g.M.Mail.sent) (g.M.Mail.taken) c.args.run.now c.in-Some-play_turn.stop c.play_turn.new.self c.hand_back.result c.play_turn.new.self.worker.stamps.clocks.items
     (ap (λ (r : Bor Run). r.now) c.play_turn.ensures.same.run ∙ c.loop.invariant.0) c.requires.cores
     (c.in-Some-play_turn.ensures.some c.args.run.now.stimuli.now c.loop.invariant.2)
-    (someone c.args.run.now.config.now c.requires.limits c.args.seats.board.core c.requires.configured)
+    (someone c.args.run.now.config.now c.plan-plan.ensures.limits c.args.seats.board.core c.requires.configured)
     c.hand_back.ensures.report c.hand_back.ensures.seats c.hand_back.ensures.mail c.hand_back.ensures.stop
 
 pub returns-in-Some-play_turn-clause-which : goal.returns-in-Some-play_turn-clause-which

@@ -1,29 +1,29 @@
 use Rattle.std.proofs.Common.{◌≤◌, ◌<◌, ℕ, length, subst, arith}
 use Rattle.std.proofs.lemmas.Bool.Decides.{nat_tests}
-use Rattle.osthreads.specs.Working.{IsTurn}
+use Rattle.osthreads.specs.Working.{Turns}
 use Rattle.osthreads.proofs.Shifting.{a-look, no-look}
 use Rattle.osthreads.proofs.worker.Shift.turn.Goals as goal
 
-pub returns-then-self-cores-clause-turn : goal.returns-then-self-cores-clause-turn
-returns-then-self-cores-clause-turn g c =
+pub returns-then-self-cores-clause-turns : goal.returns-then-self-cores-clause-turns
+returns-then-self-cores-clause-turns g c =
     let old = c.args.self.now in
     let last : length old.worker.run.now.cores.now ≤ old.at = omega (arith, c.if-self-cores.true) in
-    subst (λ (more : ℕ). IsTurn (g.M.Mail.sent) (g.M.Mail.taken) (g.M.Mail.which) more c.look.result old.worker c.look.new.self)
-    (a-look (length old.worker.run.now.cores.now) old.at last) c.look.ensures
+    subst (λ (more : ℕ). Turns (g.M.Mail.sent) (g.M.Mail.taken) more c.look.result old.worker c.look.new.self)
+    (a-look (length old.worker.run.now.cores.now) old.at last) c.look.ensures.turns
 
-pub returns-then-self-cores-2-clause-turn : goal.returns-then-self-cores-2-clause-turn
-returns-then-self-cores-2-clause-turn g c =
+pub returns-then-self-cores-2-clause-turns : goal.returns-then-self-cores-2-clause-turns
+returns-then-self-cores-2-clause-turns g c =
     let old = c.args.self.now in
     let before : old.at < length old.worker.run.now.cores.now = omega (arith, c.if-self-cores-2.true) in
-    subst (λ (more : ℕ). IsTurn (g.M.Mail.sent) (g.M.Mail.taken) (g.M.Mail.which) more c.own.result old.worker c.own.new.self)
-    (no-look (length old.worker.run.now.cores.now) old.at before) c.own.ensures.turn
+    subst (λ (more : ℕ). Turns (g.M.Mail.sent) (g.M.Mail.taken) more c.own.result old.worker c.own.new.self)
+    (no-look (length old.worker.run.now.cores.now) old.at before) c.own.ensures.turns
 
-pub returns-clause-turn : goal.returns-clause-turn
-returns-clause-turn g c =
+pub returns-clause-turns : goal.returns-clause-turns
+returns-clause-turns g c =
     let old = c.args.self.now in
     let before : old.at < length old.worker.run.now.cores.now = grind (arith, nat_tests, c.if-self-cores.false) in
-    subst (λ (more : ℕ). IsTurn (g.M.Mail.sent) (g.M.Mail.taken) (g.M.Mail.which) more c.serve.result old.worker c.serve.new.self)
-    (no-look (length old.worker.run.now.cores.now) old.at before) c.serve.ensures
+    subst (λ (more : ℕ). Turns (g.M.Mail.sent) (g.M.Mail.taken) more c.serve.result old.worker c.serve.new.self)
+    (no-look (length old.worker.run.now.cores.now) old.at before) c.serve.ensures.turns
 
 pub returns-then-self-cores-clause-stuck : goal.returns-then-self-cores-clause-stuck
 returns-then-self-cores-clause-stuck g c next =

@@ -7,7 +7,7 @@ use Rattle.oskernel.specs.{Wants.watch_in, Step.outbox_size}
 use Rattle.osrun.specs.{declared.requests.Request.TheVariants.OfSpins, declared.requests.Reply.TheVariants.Spun, Requests.spin_call_of, Requests.item_of_spinlock}
 use Rattle.osthreads.specs.Seats.{made_from}
 use Rattle.osthreads.proofs.Requests.{replied-by, spins-no-mail, spinlock-same, unspun, wish-fruitless}
-use Rattle.osthreads.proofs.Working.{spin-idle, spins-took, turn-idle, turn-took}
+use Rattle.osthreads.proofs.Working.{spin-idle, spins-took}
 use Rattle.osthreads.proofs.worker.Worker.call_spinlock.Goals as goal
 
 pub call-requires-clause-lock : goal.call-requires-clause-lock
@@ -19,29 +19,27 @@ take-requires-clause-taken g c =
     spinlock-same old.core.kernel c.args.wish c.call.result c.in-Some.item (sym c.item_for_reply.ensures ∙ c.in-Some.is)
     ∙ ap (takes_in outbox_size old.core.kernel) (sym c.item_of_wish.ensures) ∙ sym c.may_take.ensures.state ∙ c.if-not-may_take.false
 
-pub returns-clause-turn : goal.returns-clause-turn
-returns-clause-turn g c =
+pub returns-clause-turns : goal.returns-clause-turns
+returns-clause-turns g c stimuli loads done =
     let old = c.args.self.now in
     let names = sym c.item_for_reply.ensures ∙ c.in-Some.is in
     let may = spinlock-same old.core.kernel c.args.wish c.call.result c.in-Some.item names
     ∙ ap (takes_in outbox_size old.core.kernel) (sym c.item_of_wish.ensures) ∙ sym c.may_take.ensures.state ∙ c.if-not-may_take.false in
-    turn-took _ _ _ 0 old _ _ _ c.take.ensures refl refl refl (λ stimuli loads done.
-    spins-took old.run.now.config.now stimuli loads old.core c.take.new.self.core (made_from old.seats) _ _ _ _ _ done (OfSpins c.args.wish) (Spun c.call.result) c.in-Some.item
+    spins-took old.run.now.config.now stimuli loads old.core c.take.new.self (made_from old.seats) _ _ _ _ _ done (OfSpins c.args.wish) (Spun c.call.result) c.in-Some.item
     c.requires.asked names may
-    c.take.ensures.core
+    c.take.ensures
     c.args.wish c.call.result refl refl (spins-no-mail old.core.id (watch_in old.core.kernel) c.args.wish c.call.result c.in-Some.item names)
-    refl (c.call.ensures.mine ∙ (λ i. old.seats.spins.mine ++ entry (old.same_spins i) (c.spin_call_of.ensures i) c.call.result ∷ [])) (λ d. refl) (λ d. refl))
+    refl (c.call.ensures.mine ∙ (λ i. old.seats.spins.mine ++ entry (old.same_spins i) (c.spin_call_of.ensures i) c.call.result ∷ [])) (λ d. refl) (λ d. refl)
 
-pub returns-in_default-clause-turn : goal.returns-in_default-clause-turn
-returns-in_default-clause-turn g c =
+pub returns-in_default-clause-turns : goal.returns-in_default-clause-turns
+returns-in_default-clause-turns g c stimuli loads done =
     let old = c.args.self.now in
     let t = replied-by spinlocks old.seats.spins c.call.new.seat c.spin_call_of.result c.call.result c.call.ensures in
     let reply : c.call.result ≡ spin_reply old.core.id (spin_call_of c.args.wish) t.0 = t.1 ∙ (λ i. spin_reply (old.same_spins i) (c.spin_call_of.ensures i) t.0) in
     let none = unspun old.core.id c.args.wish t.0 (λ item names. c.in_default.not-Some item (c.item_for_reply.ensures ∙ ap (item_of_spinlock c.args.wish) reply ∙ names)) in
     let refused : c.call.result ≡ Answered false = reply ∙ none.refused in
-    turn-idle _ _ _ 0 old _ refl refl refl (λ stimuli loads done.
     spin-idle old.run.now.config.now stimuli loads old.core (made_from old.seats) _ _ done c.args.wish (entry old.seats.spins.core c.spin_call_of.result c.call.result) _
-    c.requires.asked none.waits (λ i. entry (old.same_spins i) (c.spin_call_of.ensures i) (refused i)) refl c.call.ensures.mine)
+    c.requires.asked none.waits (λ i. entry (old.same_spins i) (c.spin_call_of.ensures i) (refused i)) refl c.call.ensures.mine
 
 pub returns-in_default-clause-stuck : goal.returns-in_default-clause-stuck
 returns-in_default-clause-stuck g c =

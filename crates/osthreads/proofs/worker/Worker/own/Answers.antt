@@ -1,24 +1,20 @@
-use Rattle.std.proofs.Common.{◌≡◌, Option, Some, IfSome, IsTrue, inr, ap, sym, subst, ◌∙◌}
+use Rattle.std.proofs.Common.{Option, Some, IfSome, IsTrue, inr, ap, sym, subst, ◌∙◌}
 use Rattle.std.proofs.lemmas.Bool.{ltb-true}
-use Rattle.osbase.specs.{declared.limits.TheConstants.SPINLOCKS, declared.turns.Choice.Choice}
-use Rattle.osrun.specs.{Requests.is_request_known, Requests.request_by, Requests.spin_call_of, declared.requests.Request.Request, declared.requests.Reply.TheVariants.Unasked}
-use Rattle.osplan.specs.{declared.plans.Plan.Plan, Limits.is_within_limits, View.view_of}
+use Rattle.osbase.specs.declared.limits.TheConstants.{SPINLOCKS}
+use Rattle.osrun.specs.{Requests.is_request_known, Requests.spin_call_of, declared.requests.Request.Request, declared.requests.Reply.TheVariants.Unasked}
+use Rattle.osplan.specs.{declared.plans.Plan.Plan, Limits.is_within_limits}
 use Rattle.std.specs.List.{slice_get}
-use Rattle.oskernel.specs.Wants.{want_in, watch_in}
+use Rattle.oskernel.specs.Wants.{want_in}
 use Rattle.osrun.specs.declared.requests.Request.TheVariants.{OfBoard, OfSpins, StartUnknown, TakeStimulus}
 use Rattle.osthreads.specs.Working.{IsFruitless}
 use Rattle.osthreads.proofs.Requests.{none-asked, one-asked, own-board, start-fruitless, stimulus-fruitless, unless-weaker}
 use Rattle.osthreads.proofs.worker.Worker.own.Goals as goal
 
-pub write_board-requires-clause-request : goal.write_board-requires-clause-request
-write_board-requires-clause-request g c =
+pub write_board-requires-clause-place : goal.write_board-requires-clause-place
+write_board-requires-clause-place g c =
     let core = c.args.self.now.core in
-    let place = (own-board c.plan.result.now (subst (λ (p : Plan). IsTrue (is_within_limits p)) (sym c.plan.ensures.value) c.plan.ensures.limits) core.id (slice_get core.stimuli.now 0) (want_in core.kernel) c.in-OfBoard.call
-    (sym c.request_of_turn.ensures.value ∙ c.in-Some.is ∙ ap Some c.in-OfBoard.is)).1 in
-    let asks =
-    subst (λ (p : Plan). request_by (view_of p core.id) (want_in core.kernel) (watch_in core.kernel) (slice_get core.stimuli.now 0) Choice.Own ≡ Some (OfBoard c.in-OfBoard.call)) c.plan.ensures.value
-    (sym c.request_of_turn.ensures.value ∙ c.in-Some.is ∙ ap Some c.in-OfBoard.is) in
-    record { asked = (Choice.Own, asks); place = place }
+    (own-board c.plan.result.now (subst (λ (p : Plan). IsTrue (is_within_limits p)) (sym c.plan.ensures.value) c.plan.ensures.limits) core.id (slice_get core.stimuli.now 0) (want_in core.kernel) c.in-OfBoard.call
+    (sym c.request_of_turn.ensures.value ∙ c.in-Some.is ∙ ap Some c.in-OfBoard.is)).1
 
 pub call_spinlock-requires-clause-lock : goal.call_spinlock-requires-clause-lock
 call_spinlock-requires-clause-lock g c =

@@ -8,7 +8,7 @@ use Rattle.oskernel.specs.{Wants.watch_in, Step.outbox_size}
 use Rattle.osrun.specs.{declared.requests.Request.TheVariants.OfBoard, declared.requests.Reply.TheVariants.Replied, Requests.item_of_board}
 use Rattle.osthreads.specs.Seats.{made_from}
 use Rattle.osthreads.proofs.Requests.{board-no-mail, call-fruitless, replied-by, result-of}
-use Rattle.osthreads.proofs.Working.{board-took, turn-took}
+use Rattle.osthreads.proofs.Working.{board-took}
 use Rattle.osthreads.proofs.worker.Worker.write_board.Goals as goal
 
 pub unreachable-requires : goal.unreachable-requires
@@ -29,8 +29,8 @@ take-requires-clause-taken g c =
     subst (λ (i : Item). takes_in outbox_size old.core.kernel i ≡ true) same
     (results.same old.core.kernel ∙ ap (takes_in outbox_size old.core.kernel) (sym c.item_of_call.ensures) ∙ sym c.may_take.ensures.state ∙ c.if-not-may_take.false)
 
-pub returns-clause-turn : goal.returns-clause-turn
-returns-clause-turn g c =
+pub returns-clause-turns : goal.returns-clause-turns
+returns-clause-turns g c stimuli loads done =
     let old = c.args.self.now in
     let names = sym c.item_for_reply.ensures ∙ c.in-Some.is in
     let t = replied-by one_board old.seats.board c.call.new.seat c.args.call c.call.result c.call.ensures in
@@ -39,12 +39,11 @@ returns-clause-turn g c =
     let same : results.item ≡ c.in-Some.item = same_Some _ _ (sym results.names ∙ ap (λ (r : BoardReply). item_of_board old.core.id (watch_in old.core.kernel) c.args.call r) (sym reply) ∙ names) in
     let may = subst (λ (i : Item). takes_in outbox_size old.core.kernel i ≡ true) same
     (results.same old.core.kernel ∙ ap (takes_in outbox_size old.core.kernel) (sym c.item_of_call.ensures) ∙ sym c.may_take.ensures.state ∙ c.if-not-may_take.false) in
-    turn-took _ _ _ 0 old _ _ _ c.take.ensures refl refl refl (λ stimuli loads done.
-    board-took old.run.now.config.now stimuli loads old.core c.take.new.self.core (made_from old.seats) _ _ _ _ _ done (OfBoard c.args.call) (Replied c.call.result) c.in-Some.item
-    c.requires.request.asked names may
-    c.take.ensures.core
+    board-took old.run.now.config.now stimuli loads old.core c.take.new.self (made_from old.seats) _ _ _ _ _ done (OfBoard c.args.call) (Replied c.call.result) c.in-Some.item
+    c.requires.asked names may
+    c.take.ensures
     c.args.call c.call.result refl refl (board-no-mail old.core.id (watch_in old.core.kernel) c.args.call c.call.result c.in-Some.item names)
-    (c.call.ensures.mine ∙ ap (λ (id : CoreId). old.seats.board.mine ++ entry id c.args.call c.call.result ∷ []) old.same) refl (λ d. refl) (λ d. refl))
+    (c.call.ensures.mine ∙ ap (λ (id : CoreId). old.seats.board.mine ++ entry id c.args.call c.call.result ∷ []) old.same) refl (λ d. refl) (λ d. refl)
 
 pub returns-then-not-may_take-clause-stuck : goal.returns-then-not-may_take-clause-stuck
 returns-then-not-may_take-clause-stuck g c =
