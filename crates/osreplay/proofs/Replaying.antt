@@ -1,5 +1,5 @@
 -- A seat that took the first of some items.
-use Rattle.std.proofs.Common.{◌≡◌, ◌<◌, ◌+◌, ℕ, Bool, true, false, Some, List, [], ◌∷◌, ◌++◌, length, take, sym, ap, ◌∙◌}
+use Rattle.std.proofs.Common.{◌≡◌, ◌<◌, ◌+◌, ℕ, Bool, true, false, Some, List, [], length, take, sym, ap, ◌∙◌}
 use Rattle.std.specs.List.{slice_get}
 use Rattle.std.proofs.{lemmas.List.take_more, lemmas.Option.get_or_from_slice_get, lemmas.Option.slice_get_within}
 use Rattle.osbase.specs.{declared.items.Item.Item, declared.references.CoreId.CoreId, declared.turns.Report.Report}
@@ -19,7 +19,7 @@ pub record HasTaken (plan : Plan) (id : CoreId) (items : List Item) (core_run : 
 pub reports : (plan : Plan) (id : CoreId) (items : List Item) (core_run : CoreRun) (report : Report) → HasTaken plan id items core_run → report ≡ report_of core_run → IsReplayed plan id items report
 reports plan id items core_run report taken is = record {
   alone = rw (taken.id_is, taken.items_are) at taken.seated.alone;
-  report_is = is ∙ seated-own plan [] core_run taken.seated ∙ ap (λ (i : CoreId). report_by plan i core_run.items.items) taken.id_is ∙ ap (report_by plan id) taken.items_are;
+  report_is = is ∙ seated-own plan [] core_run taken.seated ∙ (λ i. report_by plan (taken.id_is i) (taken.items_are i));
 }
 
 -- There is no room for the next item.
@@ -35,31 +35,28 @@ cut-short plan id items n within core_run roomy taken keeps report is = record {
 }
 
 -- The seat before the next item.
-module _ (plan : Plan) (id : CoreId) (items : List Item) (n : ℕ) (core_run : CoreRun) (taken : HasTaken plan id (take n items) core_run) (item : Item) (next : slice_get items n ≡ Some item) where
+module _ (plan : Plan) (id : CoreId) (items : List Item) (n : ℕ) (core_run : CoreRun) (taken : HasTaken plan id (take n items) core_run) (item : Item) (next : slice_get items n ≡ Some item)
+    (may : Bool) (reads : Reads (λ v h. takes outbox_size v h item) core_run.kernel may) where
+  is-read : takes outbox_size (view_of plan core_run.id) (history_by plan core_run.id core_run.items.items) item ≡ may
+  is-read = sym (reads (view_of plan core_run.id) (history_by plan core_run.id core_run.items.items) taken.seated.tracks.stands)
+
   -- it may not take it
-  pub refuses : (may : Bool) → Reads (λ v h. takes outbox_size v h item) core_run.kernel may → may ≡ false → (number : ℕ) → number ≡ n → (report : Report) → report ≡ report_of core_run → IsRefused plan id items (number + 1) report
-  refuses may reads may_not number counted report is = record {
+  pub refuses : may ≡ false → (number : ℕ) → number ≡ n → (report : Report) → report ≡ report_of core_run → IsRefused plan id items (number + 1) report
+  refuses may_not number counted report is = record {
     before = n;
     item = item;
     number_is = ap (λ (k : ℕ). k + 1) counted;
     item_is = next;
     replayed = reports plan id (take n items) core_run report taken is;
-    refused =
-        ap (λ (i : CoreId). takes outbox_size (view_of plan i) (history_by plan i (take n items)) item) (sym taken.id_is)
-        ∙ ap (λ (is : List Item). takes outbox_size (view_of plan core_run.id) (history_by plan core_run.id is) item) (sym taken.items_are)
-        ∙ sym (reads (view_of plan core_run.id) (history_by plan core_run.id core_run.items.items) taken.seated.tracks.stands)
-        ∙ may_not;
+    refused = rw (← taken.id_is, ← taken.items_are) (is-read ∙ may_not);
   }
 
   -- it takes it
-  pub takes-on : (may : Bool) → Reads (λ v h. takes outbox_size v h item) core_run.kernel may → may ≡ true → (roomy new : CoreRun) → Keeps core_run roomy → Took roomy new item → HasTaken plan id (take (n + 1) items) new
-  takes-on may reads may_take roomy new keeps took =
+  pub takes-on : may ≡ true → (roomy new : CoreRun) → Keeps core_run roomy → Took roomy new item → HasTaken plan id (take (n + 1) items) new
+  takes-on may_take roomy new keeps took =
       let on : Took core_run new item = took-kept core_run roomy new item keeps took in
       record {
-        seated = seated-on plan [] core_run new item taken.seated (sym (reads (view_of plan core_run.id) (history_by plan core_run.id core_run.items.items) taken.seated.tracks.stands) ∙ may_take) on;
+        seated = seated-on plan [] core_run new item taken.seated (is-read ∙ may_take) on;
         id_is = on.id ∙ taken.id_is;
-        items_are = on.items
-            ∙ ap (λ (is : List Item). is ++ item ∷ []) taken.items_are
-            ∙ ap (λ (i : Item). take n items ++ i ∷ []) (sym (get_or_from_slice_get items n item item next))
-            ∙ sym (take_more items n item (slice_get_within items n item next));
+        items_are = rw (on.items, taken.items_are, take_more items n item (slice_get_within items n item next), get_or_from_slice_get items n item item next);
       }

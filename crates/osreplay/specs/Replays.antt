@@ -1,5 +1,5 @@
 -- A core alone with the items that another run gave it. [own]
-use Rattle.std.specs.Prelude.{◌≡◌, ◌<◌, ℕ, ◌+◌, false, Some, List, length, slice_get, take}
+use Rattle.std.specs.Prelude.{◌≡◌, ◌<◌, ℕ, ◌+◌, false, Some, IfErr, IfOk, List, Result, length, slice_get, take}
 use Rattle.osbase.specs.{declared.items.Item.Item, declared.references.CoreId.CoreId, declared.turns.Report.Report}
 use Rattle.osplan.specs.{View.view_of, declared.plans.Plan.Plan}
 use Rattle.oskernel.specs.Step.{outbox_size, solo, takes}
@@ -30,3 +30,8 @@ pub record IsCutShort (plan : Plan) (id : CoreId) (items : List Item) (report : 
 abbrev pub IsReplayFault : Plan → CoreId → List Item → ReplayFault → Type 0
 IsReplayFault plan id items (NoMemory report) = IsCutShort plan id items report
 IsReplayFault plan id items (ItemRefused number report) = IsRefused plan id items number report
+
+-- Either the core took all items, or this is why it did not. [own]
+pub record IsReplayResult (plan : Plan) (id : CoreId) (items : List Item) (result : Result Report ReplayFault) : Type 0 where
+  pub ok : IfOk result (IsReplayed plan id items)
+  pub fault : IfErr result (IsReplayFault plan id items)

@@ -1,8 +1,8 @@
 //! A core by itself, item by item.
 
-ghost use Rattle.std.specs.Prelude.{IfErr, IfOk, IsSome};
+ghost use Rattle.std.specs.Prelude.{IsSome};
 ghost use Rattle.osplan.specs.View.{core_of};
-ghost use Rattle.osreplay.specs.Replays.{IsReplayFault, IsReplayed};
+ghost use Rattle.osreplay.specs.Replays.{IsReplayResult};
 
 use osbase::{CoreId, Item, Report};
 use osplan::Config;
@@ -30,8 +30,7 @@ pub fn replay(
     items: &[Item],
 ) -> Result<Report, ReplayFault>
     requires { IsSome (core_of config.now core) }
-    ensures ok { IfOk result (IsReplayed config.now core items.now) }
-    ensures fault { IfErr result (IsReplayFault config.now core items.now) }
+    ensures { IsReplayResult config.now core items.now result }
 {
     // The configuration is within the limits, so a seat fits the core.
     let _plan = config.plan();

@@ -1,10 +1,8 @@
 -- What a thread gives back, whatever the kind of mail: it is an ending of its core's worker.
-use Rattle.std.proofs.Common.{◌≡◌, subst}
+use Rattle.std.proofs.Common.{◌≡◌}
 use Rattle.osbase.specs.declared.references.CoreId.{CoreId}
-use Rattle.osplan.specs.View.{view_of}
 use Rattle.osmail.specs.Ends.{Streams}
-use Rattle.osrun.specs.Fits.{history_by}
-use Rattle.osthreads.specs.{declared.ending.Ending.Ending, declared.ending.Kept.Kept, declared.run.Run.Run, declared.worker.Worked.Worked, Seats.AreAt, Seats.shared, Threads.IsEnded, Threads.sent_of, Threads.taken_of, Working.IsMailed, Working.IsWorked, Working.refusal_at}
+use Rattle.osthreads.specs.{declared.ending.Ending.Ending, declared.ending.Kept.Kept, declared.run.Run.Run, declared.worker.Worked.Worked, Seats.AreAt, Seats.shared, Threads.IsEnded, Threads.sent_of, Threads.taken_of, Working.IsWorked}
 use Rattle.osthreads.proofs.{Shifting.worked-finished, Working.spins-thin, Working.thin}
 
 -- What the worker of a core gave back, whatever its end of the mail left behind that says what it sent and took.
@@ -22,7 +20,6 @@ ended-by sent taken run id w kept worked core at same_sent same_taken = record {
   };
   board = thin _ _ _ _ worked.calls;
   spins = spins-thin _ _ _ _ worked.calls;
-  mail = subst (λ (s : Streams). IsMailed (view_of run.config.now w.report.core) (history_by run.config.now w.report.core w.report.items) s (taken_of kept) (refusal_at w.stop)) same_sent
-      (subst (λ (t : Streams). IsMailed (view_of run.config.now w.report.core) (history_by run.config.now w.report.core w.report.items) (sent w.mail) t (refusal_at w.stop)) same_taken worked.mail);
+  mail = rw (← same_sent, ← same_taken) worked.mail;
   finished = worked-finished sent taken run w worked;
 }

@@ -1,29 +1,16 @@
 -- What the cores' threads start with; and of the ends of rings, that those which come back are those which were given, and what they
 -- show together.
-use mathlib.Core.List.{IsPrefix}
-use Rattle.std.proofs.Common.{◌≡◌, ◌⊎◌, inl, inr, ℕ, IsTrue, Bool, true, false, Option, Some, None, is_some, List, [], ◌∷◌, ◌++◌, drop, length, map, refl, sym, ap, subst, ◌∙◌, append_assoc, append-nil, arith}
+use Rattle.std.proofs.Common.{◌≡◌, ◌⊎◌, inl, inr, ℕ, IsTrue, true, Option, Some, None, IfSome, is_some, List, [], ◌∷◌, ◌++◌, drop, length, map, refl, sym, ap, subst, ◌∙◌, append_assoc, append-nil, arith}
 use Rattle.std.specs.{Option.option_to_list, List.AllByRecursion}
-use Rattle.std.proofs.{lemmas.Option.same_Some, lemmas.Bool.false≢true}
-use Rattle.osbase.specs.{declared.references.CoreId.CoreId, declared.messages.Letter.Letter, declared.turns.Report.Report, declared.messages.MailKind.MailKind, declared.messages.MailKind.TheVariants.Locked, declared.messages.MailKind.TheVariants.Ring, declared.turns.CoreStimuli.CoreStimuli}
+use Rattle.std.proofs.{lemmas.List.Elements.filter_passes, lemmas.List.Elements.recursion_from_All, lemmas.Option.same_Some}
+use Rattle.osbase.specs.{declared.references.CoreId.CoreId, declared.messages.Letter.Letter, declared.turns.Report.Report, declared.messages.MailKind.MailKind, declared.messages.MailKind.TheVariants.Locked, declared.messages.MailKind.TheVariants.Ring, declared.turns.CoreStimuli.CoreStimuli, Sets.core_ids}
 use Rattle.osplan.specs.{declared.plans.Plan.Plan, View.core_of, Limits.is_within_limits, Stimuli.AreKnown}
-use Rattle.osmail.specs.{declared.ends.MailStep.MailStep, declared.rings.RingEnd.RingEnd, Ends.Streams, Ends.sent_to, Ends.taken_from}
-use Rattle.osmail.specs.Rings.{AreDelivered, EndId, EndPast, IsDelivered, IsUnused, core_of_end, end_id, past_of, ring_sent, ring_taken}
+use Rattle.osmail.specs.{declared.ends.MailStep.MailStep, declared.rings.RingEnd.RingEnd, Ends.sent_to, Ends.taken_from}
+use Rattle.osmail.specs.Rings.{AreDelivered, EndId, IsDelivered, IsUnused, core_of_end, end_id, past_of}
 use Rattle.osrun.specs.{Fits.ids_of, Sound.AreSound}
-use Rattle.osthreads.specs.{declared.ending.Ending.Ending, declared.ending.Kept.Kept, declared.ending.Kept.TheVariants.Rings, declared.ending.Kept.TheVariants.Steps, declared.ending.Outfit.Outfit, declared.seats.Seats.Seats, Seats.Shared, Seats.first_seats, declared.runs.ThreadReason.ThreadReason, declared.runs.ThreadReason.TheVariants.NoMemory, declared.runs.ThreadReason.TheVariants.NoThread, Runs.IsOneCore}
+use Rattle.osthreads.specs.{declared.ending.Ending.Ending, declared.ending.Kept.Kept, declared.ending.Kept.TheVariants.Rings, declared.ending.Kept.TheVariants.Steps, declared.ending.Outfit.Outfit, declared.seats.Seats.Seats, Seats.Shared, Seats.first_seats, declared.runs.ThreadReason.ThreadReason, declared.runs.ThreadReason.TheVariants.NoMemory, declared.runs.ThreadReason.TheVariants.NoThread}
 use Rattle.osthreads.specs.Threads.{AreAllKept, AreEnded, AreEndsFor, AreEquipped, AreReady, AreSettled, IsReady, IsSameEnd, IsSettled, IsThreadFault, end_kept, end_of, ends_kept, equipped, kept_in, outfit_cores, sent_of, taken_of, which_kept}
-use Rattle.osthreads.proofs.Gathering.{AreOneEach, all-configured, reports-alone, reports-cores, reports_of, seats-sound}
-
-pub outfit_cores-push : (os : List Outfit) (o : Outfit) → outfit_cores (os ++ o ∷ []) ≡ outfit_cores os ++ o.seats.board.core ∷ []
-outfit_cores-push [] o = refl
-outfit_cores-push (p ∷ os) o = ap (λ (cs : List CoreId). p.seats.board.core ∷ cs) (outfit_cores-push os o)
-
-pub kept-push : (es : List Ending) (e : Ending) → map end_kept (es ++ e ∷ []) ≡ map end_kept es ++ end_kept e ∷ []
-kept-push [] e = refl
-kept-push (x ∷ es) e = ap (λ (is : List (Option EndId)). end_kept x ∷ is) (kept-push es e)
-
-pub given-push : (os : List Outfit) (o : Outfit) → map end_of (os ++ o ∷ []) ≡ map end_of os ++ end_of o ∷ []
-given-push [] o = refl
-given-push (p ∷ os) o = ap (λ (is : List (Option EndId)). end_of p ∷ is) (given-push os o)
+use Rattle.osthreads.proofs.Gathering.{AreGathered, AreOneEach, gathered, reports_of, seats-sound}
 
 -- ---- before the threads
 
@@ -46,30 +33,22 @@ equipped_more done s ends left rest outfits outfits' end items dropped pushed so
     ∙ sym (append_assoc outfits (outfit s end ∷ []) (equipped more rest))
     ∙ ap (λ (os : List Outfit). os ++ equipped more rest) (sym pushed)
 
-pub equipped_whole : (done seats : List Seats) (ends left : List RingEnd) (outfits : List Outfit) → done ≡ seats → ((more : List Seats) → equipped (done ++ more) ends ≡ outfits ++ equipped more left) → outfits ≡ equipped seats ends
-equipped_whole done seats ends left outfits all so =
-    sym (append-nil outfits) ∙ sym (so []) ∙ ap (λ (ss : List Seats). equipped ss ends) (append-nil done ∙ all)
-
 -- ---- by kind
 
-abbrev is_ring : MailKind → Bool
-is_ring Ring = true
-is_ring Locked = false
-
 pub not_locked : (kind : MailKind) (es : List Ending) → kind ≡ Ring → kind ≡ Locked → AreSettled es
-not_locked kind es ring locked = absurd (false≢true (sym (ap is_ring (sym ring ∙ locked))))
+not_locked kind es ring locked = absurd (cc)
 
 pub ring_ends : (kind : MailKind) (cores : List CoreId) (ends : List RingEnd) → kind ≡ Ring → map core_of_end ends ≡ cores → AreEndsFor kind cores ends
-ring_ends kind cores ends is all = subst (λ (k : MailKind). AreEndsFor k cores ends) (sym is) all
+ring_ends kind cores ends is all = rw is all
 
 pub no_ends : (kind : MailKind) (cores : List CoreId) (ends : List RingEnd) → kind ≡ Locked → ends ≡ [] → AreEndsFor kind cores ends
-no_ends kind cores ends is none = subst (λ (k : MailKind). AreEndsFor k cores ends) (sym is) none
+no_ends kind cores ends is none = rw is none
 
 pub none_linked : (ends : List RingEnd) (rings : List EndId) → ends ≡ [] → rings ≡ [] → map end_id ends ≡ rings
 none_linked ends rings none none' = ap (map end_id) none ∙ sym none'
 
 pub none_unused : (ends : List RingEnd) → ends ≡ [] → AllByRecursion IsUnused ends
-none_unused ends none = subst (AllByRecursion IsUnused) (sym none) tt
+none_unused ends none = rw none tt
 
 equipped-cores : (shared : Shared) (cs : List CoreId) (ends : List RingEnd) → outfit_cores (equipped (map (first_seats shared) cs) ends) ≡ cs
 equipped-cores shared [] ends = refl
@@ -77,27 +56,24 @@ equipped-cores shared (c ∷ cs) [] = ap (λ (ds : List CoreId). c ∷ ds) (equi
 equipped-cores shared (c ∷ cs) (e ∷ ends) = ap (λ (ds : List CoreId). c ∷ ds) (equipped-cores shared cs ends)
 
 module _ (plan : Plan) (cores : List CoreId) (shared : Shared) (listed : cores ≡ ids_of plan) where
+  ready-one : (c : CoreId) (end : Option RingEnd) → is_some (core_of plan c) ≡ true → IfSome end IsUnused → IsReady plan cores shared (outfit (first_seats shared c) end)
+  ready-one c end there unused = record { listed = listed; configured = there; placed = record { board = refl; spins = refl; board_core = refl; spins_core = refl }; fresh = refl; unused = unused }
+
   ready-each : (cs : List CoreId) (ends : List RingEnd) → AllByRecursion (λ c. is_some (core_of plan c) ≡ true) cs → AllByRecursion IsUnused ends → AreReady plan cores shared (equipped (map (first_seats shared) cs) ends)
   ready-each [] ends all unused = tt
-  ready-each (c ∷ cs) [] all unused = (
-    record { listed = listed; configured = all.0; placed = record { board = refl; spins = refl; board_core = refl; spins_core = refl }; fresh = refl; unused = tt },
-    ready-each cs [] all.1 tt,
-  )
-  ready-each (c ∷ cs) (e ∷ ends) all unused = (
-    record { listed = listed; configured = all.0; placed = record { board = refl; spins = refl; board_core = refl; spins_core = refl }; fresh = refl; unused = unused.0 },
-    ready-each cs ends all.1 unused.1,
-  )
+  ready-each (c ∷ cs) [] all unused = (ready-one c None all.0 tt, ready-each cs [] all.1 tt)
+  ready-each (c ∷ cs) (e ∷ ends) all unused = (ready-one c (Some e) all.0 unused.0, ready-each cs ends all.1 unused.1)
 
   -- Each configured core's outfit is ready.
   pub all-ready : (kind : MailKind) (rings : List EndId) (outfits : List Outfit) → AreEquipped kind (ids_of plan) shared rings outfits → AreReady plan cores shared outfits
-  all-ready kind rings outfits are = subst (AreReady plan cores shared) (sym are.made) (ready-each (ids_of plan) are.ends (all-configured plan) are.unused)
+  all-ready kind rings outfits are = rw are.made (ready-each (ids_of plan) are.ends (recursion_from_All _ _ (filter_passes (λ c. is_some (core_of plan c)) core_ids)) are.unused)
 
 -- An outfit with an end of the rings, or without one.
 pub ready_with : (plan : Plan) (cores : List CoreId) (shared : Shared) (outfit : Outfit) (end : Option RingEnd) → outfit.end ≡ end → IsReady plan cores shared outfit → IsReady plan cores shared (record { seats = outfit.seats; end = end })
-ready_with plan cores shared outfit end is ready = subst (λ (e : Option RingEnd). IsReady plan cores shared (record { seats = outfit.seats; end = e })) is ready
+ready_with plan cores shared outfit end is ready = rw (← is) ready
 
 pub same_given : (given end : Option RingEnd) (kept : Kept) → given ≡ end → IsSameEnd end kept → IsSameEnd given kept
-same_given given end kept is same = subst (λ (e : Option RingEnd). IsSameEnd e kept) (sym is) same
+same_given given end kept is same = rw is same
 
 -- ---- after them
 
@@ -111,36 +87,13 @@ kept_more es e ends ends' are more = more ∙ ap (λ (xs : List RingEnd). xs ++ 
 
 -- What two records of mailboxes under locks show.
 pub settled_by : (a b : Ending) (sent taken : List MailStep) (left : List Letter) → (sent_of a.kept ≡ sent_to sent) × (taken_of a.kept ≡ taken_from sent) → (sent_of b.kept ≡ sent_to taken) × (taken_of b.kept ≡ taken_from taken) → taken_from taken a.report.core ++ left ≡ sent_to sent b.report.core → IsSettled a b
-settled_by a b sent taken left from to same =
-    subst (λ (s : Streams). IsPrefix (taken_of b.kept a.report.core) (s b.report.core)) (sym from.0)
-    (subst (λ (s : Streams). IsPrefix (s a.report.core) (sent_to sent b.report.core)) (sym to.1) (left, same))
+settled_by a b sent taken left from to same = rw (from.0, to.1) (left, same)
 
 -- Those that are there.
 abbrev somes : {X : Type 0} → List (Option X) → List X
 somes [] = []
 somes (None ∷ os) = somes os
 somes (Some x ∷ os) = x ∷ somes os
-
-abbrev first-of : {X : Type 0} → List X → Option X
-first-of [] = None
-first-of (x ∷ xs) = Some x
-
-abbrev rest-of : {X : Type 0} → List X → List X
-rest-of [] = []
-rest-of (x ∷ xs) = xs
-
-abbrev is_cons : {X : Type 0} → List X → Bool
-is_cons [] = false
-is_cons (x ∷ xs) = true
-
-some-none : {X : Type 0} (x : X) (xs : List X) → x ∷ xs ≡ [] → ⊥
-some-none x xs same = false≢true (sym (ap is_cons same))
-
-same-first : {X : Type 0} (x y : X) (xs ys : List X) → x ∷ xs ≡ y ∷ ys → x ≡ y
-same-first x y xs ys same = same_Some _ _ (ap first-of same)
-
-same-rest : {X : Type 0} (x y : X) (xs ys : List X) → x ∷ xs ≡ y ∷ ys → xs ≡ ys
-same-rest x y xs ys same = ap rest-of same
 
 ids-back : (es : List Ending) → map end_id (ends_kept es) ≡ somes (map end_kept es)
 ids-back [] = refl
@@ -152,9 +105,8 @@ ids-back (e ∷ es) = by e.kept (ids-back es)
 
 given-each : (shared : Shared) (cs : List CoreId) (ends : List RingEnd) → map core_of_end ends ≡ cs → somes (map end_of (equipped (map (first_seats shared) cs) ends)) ≡ map end_id ends
 given-each shared [] [] cores = refl
-given-each shared [] (e ∷ ends) cores = absurd (some-none _ _ cores)
-given-each shared (c ∷ cs) [] cores = absurd (some-none _ _ (sym cores))
-given-each shared (c ∷ cs) (e ∷ ends) cores = ap (λ (is : List EndId). end_id e ∷ is) (given-each shared cs ends (same-rest _ _ _ _ cores))
+given-each shared (c ∷ cs) (e ∷ ends) cores = ap (λ (is : List EndId). end_id e ∷ is) (given-each shared cs ends (cc))
+given-each shared cs ends cores = absurd (cc)
 
 given-none : (ss : List Seats) → somes (map end_of (equipped ss [])) ≡ []
 given-none [] = refl
@@ -162,7 +114,7 @@ given-none (s ∷ ss) = given-none ss
 
 given-all : (kind : MailKind) (shared : Shared) (cs : List CoreId) (ends : List RingEnd) → AreEndsFor kind cs ends → somes (map end_of (equipped (map (first_seats shared) cs) ends)) ≡ map end_id ends
 given-all Ring shared cs ends cores = given-each shared cs ends cores
-given-all Locked shared cs ends none = subst (λ (es : List RingEnd). somes (map end_of (equipped (map (first_seats shared) cs) es)) ≡ map end_id es) (sym none) (given-none (map (first_seats shared) cs))
+given-all Locked shared cs ends none = rw none (given-none (map (first_seats shared) cs))
 
 -- It left an end of the rings behind, of its core.
 record HasEnd (e : Ending) : Type 0 where
@@ -174,7 +126,7 @@ end-by : (e : Ending) (given : RingEnd) → end_kept e ≡ Some (end_id given) �
 end-by e given same core = by e.kept refl same
   where
     by : (kept : Kept) → e.kept ≡ kept → which_kept kept ≡ Some (end_id given) → HasEnd e
-    by (Steps steps) is same = absurd (false≢true (ap is_some same))
+    by (Steps steps) is same = absurd (cc)
     by (Rings end) is same = record { end = end; kept = is; core = ap (λ (i : EndId). i.core) (same_Some _ _ same) ∙ core }
 
 abbrev report_cores : List Ending → List CoreId
@@ -182,81 +134,53 @@ report_cores es = map (λ (r : Report). r.core) (map (λ (e : Ending). e.report)
 
 ends-by : (shared : Shared) (cs : List CoreId) (ends : List RingEnd) (es : List Ending) → map core_of_end ends ≡ cs → map end_kept es ≡ map end_of (equipped (map (first_seats shared) cs) ends) → report_cores es ≡ cs → AllByRecursion HasEnd es
 ends-by shared cs ends [] cores same reports = tt
-ends-by shared [] ends (e ∷ es) cores same reports = absurd (some-none _ _ reports)
-ends-by shared (c ∷ cs) [] (e ∷ es) cores same reports = absurd (some-none _ _ (sym cores))
-ends-by shared (c ∷ cs) (g ∷ ends) (e ∷ es) cores same reports = (
-  end-by e g (same-first _ _ _ _ same) (same-first _ _ _ _ cores ∙ sym (same-first _ _ _ _ reports)),
-  ends-by shared cs ends es (same-rest _ _ _ _ cores) (same-rest _ _ _ _ same) (same-rest _ _ _ _ reports),
-)
-
-abbrev pasts : (es : List Ending) → AllByRecursion HasEnd es → List EndPast
-pasts [] has = []
-pasts (e ∷ es) has = past_of has.0.end ∷ pasts es has.1
-
-pasts-are : (es : List Ending) (has : AllByRecursion HasEnd es) → map past_of (ends_kept es) ≡ pasts es has
-pasts-are [] has = refl
-pasts-are (e ∷ es) has =
-    ap (λ (kept : Kept). map past_of (kept_in kept ++ ends_kept es)) has.0.kept ∙ ap (λ (ps : List EndPast). past_of has.0.end ∷ ps) (pasts-are es has.1)
+ends-by shared (c ∷ cs) (g ∷ ends) (e ∷ es) cores same reports = (end-by e g (cc) (cc), ends-by shared cs ends es (cc) (cc) (cc))
+ends-by shared cs ends es cores same reports = absurd (cc)
 
 settled-one : (a b : Ending) (from : HasEnd a) (to : HasEnd b) → IsDelivered (past_of from.end) (past_of to.end) → IsSettled a b
-settled-one a b from to delivered =
-    subst (λ (k : Kept). IsPrefix (taken_of k a.report.core) (sent_of a.kept b.report.core)) (sym to.kept)
-    (subst (λ (k : Kept). IsPrefix (ring_taken to.end a.report.core) (sent_of k b.report.core)) (sym from.kept)
-    (subst (λ (c : CoreId). IsPrefix (ring_taken to.end c) (ring_sent from.end b.report.core)) from.core
-    (subst (λ (c : CoreId). IsPrefix (ring_taken to.end (core_of_end from.end)) (ring_sent from.end c)) to.core delivered)))
+settled-one a b from to delivered = rw (to.kept, from.kept, ← from.core, ← to.core) delivered
 
-settled-row : (a : Ending) (from : HasEnd a) (bs : List Ending) (has : AllByRecursion HasEnd bs) → AllByRecursion (IsDelivered (past_of from.end)) (pasts bs has) → AllByRecursion (IsSettled a) bs
+-- what the ends that were left behind show is so of each two that left them
+settled-row : (a : Ending) (from : HasEnd a) (bs : List Ending) → AllByRecursion HasEnd bs → AllByRecursion (IsDelivered (past_of from.end)) (map past_of (ends_kept bs)) → AllByRecursion (IsSettled a) bs
 settled-row a from [] has all = tt
-settled-row a from (b ∷ bs) has all = (settled-one a b from has.0 all.0, settled-row a from bs has.1 all.1)
+settled-row a from (b ∷ bs) has all =
+    let each = rw has.0.kept at all in
+    (settled-one a b from has.0 each.0, settled-row a from bs has.1 each.1)
 
-settled-rows : (es : List Ending) (to : AllByRecursion HasEnd es) (xs : List Ending) (from : AllByRecursion HasEnd xs) → AllByRecursion (λ a. AllByRecursion (IsDelivered a) (pasts es to)) (pasts xs from) → AllByRecursion (λ (a : Ending). AllByRecursion (IsSettled a) es) xs
+settled-rows : (es : List Ending) → AllByRecursion HasEnd es → (xs : List Ending) → AllByRecursion HasEnd xs → AllByRecursion (λ a. AllByRecursion (IsDelivered a) (map past_of (ends_kept es))) (map past_of (ends_kept xs)) → AllByRecursion (λ (a : Ending). AllByRecursion (IsSettled a) es) xs
 settled-rows es to [] from all = tt
-settled-rows es to (x ∷ xs) from all = (settled-row x from.0 es to all.0, settled-rows es to xs from.1 all.1)
+settled-rows es to (x ∷ xs) from all =
+    let each = rw from.0.kept at all in
+    (settled-row x from.0 es to each.0, settled-rows es to xs from.1 each.1)
 
-rings-settled : (es : List Ending) → AllByRecursion HasEnd es → AreDelivered (map past_of (ends_kept es)) → AreSettled es
-rings-settled es has delivered = settled-rows es has es has (subst AreDelivered (pasts-are es has) delivered)
+-- ---- what the reports of all cores are
 
-module _ (kind : MailKind) (cs : List CoreId) (shared : Shared) (rings : List EndId) (outfits : List Outfit) (are : AreEquipped kind cs shared rings outfits) where
-  pub all-cores : outfit_cores outfits ≡ cs
-  all-cores = ap outfit_cores are.made ∙ equipped-cores shared cs are.ends
+module _ (plan : Plan) (stimuli : List CoreStimuli) (turns : ℕ) (kind : MailKind) (shared : Shared) (rings : List EndId) (outfits : List Outfit) (es : List Ending)
+    (are : AreEquipped kind (ids_of plan) shared rings outfits) (ended : AreEnded plan stimuli turns shared (outfit_cores outfits) es) where
+  pub all-gathered : AreGathered plan stimuli turns shared (ids_of plan) es
+  all-gathered =
+      subst (λ (ids : List CoreId). AreGathered plan stimuli turns shared ids es) (ap outfit_cores are.made ∙ equipped-cores shared (ids_of plan) are.ends) (gathered plan stimuli turns shared (outfit_cores outfits) es ended)
 
-  module _ (es : List Ending) (same : map end_kept es ≡ map end_of outfits) where
+  module _ (same : map end_kept es ≡ map end_of outfits) where
     -- All ends of the rings came back, and no others.
     pub all-back : map end_id (ends_kept es) ≡ rings
-    all-back = ids-back es ∙ ap somes (same ∙ ap (map end_of) are.made) ∙ given-all kind shared cs are.ends are.ends_for ∙ are.all
+    all-back = ids-back es ∙ ap somes (same ∙ ap (map end_of) are.made) ∙ given-all kind shared (ids_of plan) are.ends are.ends_for ∙ are.all
 
     -- What the ends of rings show together is what the comparison of mailboxes under locks shows.
-    pub all-settled : report_cores es ≡ cs → AreDelivered (map past_of (ends_kept es)) → (kind ≡ Locked → AreSettled es) → AreSettled es
-    all-settled reports delivered compared = by kind refl
+    all-settled : AreDelivered (map past_of (ends_kept es)) → (kind ≡ Locked → AreSettled es) → AreSettled es
+    all-settled delivered compared = by kind refl
       where
         by : (k : MailKind) → kind ≡ k → AreSettled es
         by Locked is = compared is
         by Ring is =
-            let cores : map core_of_end are.ends ≡ cs = subst (λ (k : MailKind). AreEndsFor k cs are.ends) is are.ends_for in
-            rings-settled es (ends-by shared cs are.ends es cores (same ∙ ap (map end_of) are.made) reports) delivered
+            let has = ends-by shared (ids_of plan) are.ends es (rw is at are.ends_for) (same ∙ ap (map end_of) are.made) all-gathered.cores in
+            settled-rows es has es has delivered
 
--- ---- what the reports of all cores are
-
-module _ (plan : Plan) (ss stimuli : List CoreStimuli) (turns : ℕ) (shared : Shared) (kind : MailKind) (rings : List EndId) (outfits : List Outfit) (are : AreEquipped kind (ids_of plan) shared rings outfits)
-    (es : List Ending) (reports : List Report) (ended : AreEnded plan ss turns shared (outfit_cores outfits) es) (same : map end_kept es ≡ map end_of outfits) (come : reports ≡ reports_of es) (listed : ss ≡ stimuli) where
-  -- Where the mail is whole, they are sound.
-  pub whole-sound : AreOneEach plan ss turns shared es → IsTrue (is_within_limits plan) → AreKnown plan stimuli → AreAllKept es → AreDelivered (map past_of (ends_kept es)) → (kind ≡ Locked → AreSettled es) → AreSound plan stimuli reports
-  whole-sound one limits known kept delivered compared =
-      let cores = all-cores kind (ids_of plan) shared rings outfits are in
-      subst (AreSound plan stimuli) (sym come)
-      (subst (λ (xs : List CoreStimuli). AreSound plan xs (reports_of es)) listed
-      (seats-sound plan ss turns shared (outfit_cores outfits) es cores ended one limits (subst (AreKnown plan) (sym listed) known) kept
-      (all-settled kind (ids_of plan) shared rings outfits are es same (reports-cores plan ss turns shared (outfit_cores outfits) es ended ∙ cores) delivered compared)))
-
-  -- There is one for each configured core, and it says what its own items say.
-  pub each-alone : (map (λ (r : Report). r.core) reports ≡ ids_of plan) × AllByRecursion (IsOneCore plan stimuli) reports
-  each-alone = (
-    ap (map (λ (r : Report). r.core)) come ∙ reports-cores plan ss turns shared (outfit_cores outfits) es ended ∙ all-cores kind (ids_of plan) shared rings outfits are,
-    subst (AllByRecursion (IsOneCore plan stimuli)) (sym come)
-        (subst (λ (xs : List CoreStimuli). AllByRecursion (IsOneCore plan xs) (reports_of es)) listed (reports-alone plan ss turns shared (outfit_cores outfits) es ended)),
-  )
+    -- Where the mail is whole, they are sound.
+    pub whole-sound : AreOneEach plan stimuli turns shared es → IsTrue (is_within_limits plan) → AreKnown plan stimuli → AreAllKept es → AreDelivered (map past_of (ends_kept es)) → (kind ≡ Locked → AreSettled es) → AreSound plan stimuli (reports_of es)
+    whole-sound one limits known kept delivered compared = seats-sound plan stimuli turns shared es all-gathered one limits known kept (all-settled delivered compared)
 
 -- The reports are sound also if a thread was refused or memory ran out.
 pub fault-sound : (plan : Plan) (stimuli : List CoreStimuli) (reason : ThreadReason) (reports : List Report) → (reason ≡ NoThread) ⊎ (reason ≡ NoMemory) → AreSound plan stimuli reports → IsThreadFault plan stimuli reason reports
-fault-sound plan stimuli reason reports (inl is) sound = subst (λ (r : ThreadReason). IsThreadFault plan stimuli r reports) (sym is) sound
-fault-sound plan stimuli reason reports (inr is) sound = subst (λ (r : ThreadReason). IsThreadFault plan stimuli r reports) (sym is) sound
+fault-sound plan stimuli reason reports (inl is) sound = rw is sound
+fault-sound plan stimuli reason reports (inr is) sound = rw is sound

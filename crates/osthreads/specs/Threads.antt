@@ -1,17 +1,18 @@
 -- What the workers' threads give back. [own]
 use mathlib.Core.List.{IsPrefix}
-use Rattle.std.specs.Prelude.{◌≡◌, ℕ, true, Option, Some, None, IfSome, IsSome, List, [], ◌∷◌, ◌++◌, map, option_map}
+use Rattle.std.specs.Prelude.{◌≡◌, ◌≤◌, ℕ, true, Option, Some, None, IfSome, IsSome, IsTrue, List, [], ◌∷◌, ◌++◌, map, option_map, vec_len, vec_capacity}
 use Rattle.std.specs.List.{AllByRecursion}
 use Rattle.osbase.specs.{declared.references.CoreId.CoreId, declared.turns.CoreStimuli.CoreStimuli, declared.messages.MailKind.MailKind, declared.messages.MailKind.TheVariants.Locked, declared.messages.MailKind.TheVariants.Ring, declared.turns.Report.Report}
-use Rattle.osplan.specs.{declared.plans.Plan.Plan, View.core_of, View.view_of}
+use Rattle.osplan.specs.{declared.plans.Plan.Plan, Limits.is_within_limits, View.core_of, View.view_of}
 use Rattle.osshared.specs.Histories.{Thinned}
 use Rattle.osmail.specs.{declared.rings.RingEnd.RingEnd, Ends.Streams, Ends.sent_to, Ends.taken_from}
 use Rattle.osmail.specs.Rings.{EndId, IsUnused, core_of_end, end_id, ring_sent, ring_taken}
 use Rattle.osboard.specs.Boards.{IsLook}
 use Rattle.osspin.specs.Spins.{IsRefusedCall}
 use Rattle.osrun.specs.{Requests.Calls, Requests.no_calls, Fits.history_by, Fits.ids_of, Sound.AreSound}
-use Rattle.osthreads.specs.{declared.ending.Ending.Ending, declared.ending.Kept.Kept, declared.ending.Kept.TheVariants.Rings, declared.ending.Kept.TheVariants.Steps, declared.ending.Outfit.Outfit, declared.seats.Seats.Seats, Runs.IsOneCore, Runs.IsRun, declared.runs.ThreadReason.ThreadReason}
-use Rattle.osthreads.specs.Seats.{AreAt, Shared, first_seats, made_from}
+use Rattle.osthreads.specs.{declared.ending.Ending.Ending, declared.ending.Kept.Kept, declared.ending.Kept.TheVariants.Rings, declared.ending.Kept.TheVariants.Steps, declared.ending.Outfit.Outfit, declared.seats.Seats.Seats, declared.runs.Prepared.Prepared, declared.runs.Returned.Returned, declared.runs.ThreadReason.ThreadReason}
+use Rattle.osthreads.specs.Runs.{IsOneCore, IsRun, new_board, new_spins}
+use Rattle.osthreads.specs.Seats.{AreAt, Shared, first_seats, made_from, shared}
 use Rattle.osthreads.specs.Working.{IsFinished, IsMailed, is_finished_by, is_kept_by, refusal_at}
 use Rattle.osthreads.specs.declared.runs.ThreadReason.TheVariants.{NotBegun, NoMemory, NoThread, MailBreak}
 
@@ -61,6 +62,24 @@ pub record AreEquipped (kind : MailKind) (cores : List CoreId) (shared : Shared)
   pub all : map end_id ends ≡ rings
   pub unused : AllByRecursion IsUnused ends
 
+-- Nothing is in any of them, and each has room for so many.
+pub record HasRoomFor (count : ℕ) (returned : Returned) : Type 0 where
+  pub board : (returned.board.items ≡ []) × (count ≤ vec_capacity returned.board)
+  pub spins : (returned.spins.items ≡ []) × (count ≤ vec_capacity returned.spins)
+  pub ends : (returned.ends.items ≡ []) × (count ≤ vec_capacity returned.ends)
+  pub reports : (returned.reports.items ≡ []) × (count ≤ vec_capacity returned.reports)
+
+-- What a run of this configuration by mail of this kind needs before its threads start: the configured cores, what they share, an outfit
+-- for each, and room for what its thread gives back.
+pub record IsPrepared (plan : Plan) (kind : MailKind) (p : Prepared) : Type 0 where
+  pub limits : IsTrue (is_within_limits plan)
+  pub cores : p.cores.items ≡ ids_of plan
+  pub board : p.board.plan ≡ new_board plan
+  pub bank : p.bank.plan ≡ new_spins plan
+  pub outfits : AreEquipped kind (ids_of plan) (shared p.board p.bank) p.mail.rings p.outfits.items
+  pub endings : (p.endings.items ≡ []) × (vec_len p.outfits ≤ vec_capacity p.endings)
+  pub returned : HasRoomFor (vec_len p.outfits) p.returned
+
 -- The ends of the rings that came back.
 abbrev pub kept_in : Kept → List RingEnd
 kept_in (Steps steps) = []
@@ -69,6 +88,13 @@ kept_in (Rings end) = end ∷ []
 abbrev pub ends_kept : List Ending → List RingEnd
 ends_kept [] = []
 ends_kept (e ∷ es) = kept_in e.kept ++ ends_kept es
+
+-- The endings, parted.
+pub record AreParts (endings : List Ending) (returned : Returned) : Type 0 where
+  pub board : returned.board.items ≡ map (λ (e : Ending). e.seats.board) endings
+  pub spins : returned.spins.items ≡ map (λ (e : Ending). e.seats.spins) endings
+  pub ends : returned.ends.items ≡ ends_kept endings
+  pub reports : returned.reports.items ≡ map (λ (e : Ending). e.report) endings
 
 -- A configured core's seats there, from which nothing was called yet, and an end of the mail that was not used; and these are the
 -- configured cores.

@@ -9,13 +9,15 @@ use Rattle.osadmit.specs.Admission.{takes_in}
 use Rattle.oskernel.specs.Step.{after, history_from, outbox_size, serves, takes}
 use Rattle.oskernel.specs.{Wants.want_in, Wants.want_of, Wants.watch_in, declared.wants.SpinWish.SpinWish, declared.wants.Want.Want}
 use Rattle.osshared.specs.Histories.{Thinned, entry}
-use Rattle.osboard.specs.{declared.calls.BoardState.BoardState, Boards.BoardEntry, Boards.IsLook, Boards.board_reply}
+use Rattle.osboard.specs.{declared.calls.BoardCall.BoardCall, declared.calls.BoardState.BoardState}
+use Rattle.osboard.specs.Boards.{BoardEntry, HasPlace, IsLook, board_reply}
 use Rattle.osspin.specs.{declared.calls.SpinReply.TheVariants.Answered, Spins.SpinEntry, Spins.spin_reply}
 use Rattle.osmail.specs.Ends.{Streams}
-use Rattle.osrun.specs.{declared.requests.Reply.Reply, declared.requests.Reply.TheVariants.Replied, declared.requests.Reply.TheVariants.Spun, declared.requests.Request.Request, declared.requests.Request.TheVariants.OfBoard, declared.requests.Request.TheVariants.OfSpins, declared.requests.Request.TheVariants.Room, declared.core_runs.CoreRun.CoreRun, CoreRuns.HasRoomForItem, CoreRuns.IsCoreRun, Sound.IsOwn}
+use Rattle.osrun.specs.{declared.requests.Reply.Reply, declared.requests.Reply.TheVariants.Replied, declared.requests.Reply.TheVariants.Spun, declared.requests.Request.Request, declared.requests.Request.TheVariants.OfBoard, declared.requests.Request.TheVariants.OfSpins, declared.requests.Request.TheVariants.Room, declared.core_runs.CoreRun.CoreRun, Sound.IsOwn}
 use Rattle.oskernel.specs.declared.wants.SpinWish.TheVariants as Wish
 use Rattle.osrun.specs.Requests.{Calls, request_by, call_of_item, item_by, spin_call_of}
 use Rattle.osrun.specs.Fits.{AreAnswered, FitsCore, history_by, ids_of, stimuli_in}
+use Rattle.osrun.specs.CoreRuns.{HasRoomForItem, IsCoreRun, Keeps, Took as TookItem}
 use Rattle.osthreads.specs.{declared.run.Run.Run, Seats.made_from, declared.turns.Stop.Stop, declared.turns.Turned.Turned, declared.turns.Turned.TheVariants.Took, declared.turns.Turned.TheVariants.Nothing, declared.turns.Turned.TheVariants.Refused, declared.worker.Worker.Worker, declared.worker.Worked.Worked}
 
 -- ---- what a turn requests
@@ -23,6 +25,11 @@ use Rattle.osthreads.specs.{declared.run.Run.Run, Seats.made_from, declared.turn
 -- Some turn of the core makes this request.
 abbrev pub IsAsked : Plan → CoreRun → Request → Type 0
 IsAsked plan core request = (choice : Choice) × (request_by (view_of plan core.id) (want_in core.kernel) (watch_in core.kernel) (slice_get core.stimuli.now 0) choice ≡ Some request)
+
+-- Some turn of the worker's core makes this call of the board, and the core that the call names has a place there.
+pub record AsksBoard {M : Type 0} (w : Worker M) (call : BoardCall) : Type 0 where
+  pub asked : IsAsked w.run.now.config.now w.core (OfBoard call)
+  pub place : HasPlace call
 
 -- In this state of its core, the reply to a request results in no item that the core takes.
 abbrev pub IsFruitless : CoreId → KernelState → Request → Reply → Type 0
@@ -123,6 +130,11 @@ pub record MayTake {M : Type 0} (w : Worker M) : Type 0 where
   pub core : HasRoomForItem w.core
   pub clocks : vec_len w.stamps.clocks < vec_capacity w.stamps.clocks
 
+-- There is room for a turn: for what it may take, and for the record of an envelope.
+pub record MayTurn {M : Type 0} (has_room : M → Type 0) (w : Worker M) : Type 0 where
+  pub room : MayTake w
+  pub mail : has_room w.mail
+
 -- The worker is of the same run and the same core, and has the same end of the mail.
 pub record IsSameWorker {M E : Type 0} (which : M → E) (old new : Worker M) : Type 0 where
   pub run : new.run ≡ old.run
@@ -149,6 +161,26 @@ Turns sent taken more turned old new =
 abbrev pub UnlessTook : Turned → Type 0 → Type 0
 UnlessTook Took P = Unit {0}
 UnlessTook turned P = P
+
+-- What a turn does: this to what the worker has done, whose run, core and end of the mail stay. Unless the turn took an item, its core is
+-- as it was.
+pub record IsTurn {M E : Type 0} (sent taken : M → Streams) (which : M → E) (more : ℕ) (turned : Turned) (old new : Worker M) : Type 0 where
+  pub turns : Turns sent taken more turned old new
+  pub core : UnlessTook turned (new.core ≡ old.core)
+  pub same : IsSameWorker which old new
+
+-- The worker is as it was, but for the room that it has.
+pub record IsUnchanged {M E : Type 0} (sent taken : M → Streams) (which : M → E) (old new : Worker M) : Type 0 where
+  pub turns : Turns sent taken 0 Nothing old new
+  pub core : Keeps old.core new.core
+  pub same : IsSameWorker which old new
+
+-- The worker's core took this item, and nothing else changed but the clocks.
+pub record HasTaken {M : Type 0} (old new : Worker M) (item : Item) : Type 0 where
+  pub core : TookItem old.core new.core item
+  pub run : new.run ≡ old.run
+  pub seats : new.seats ≡ old.seats
+  pub mail : new.mail ≡ old.mail
 
 -- The worker's core can do nothing alone.
 abbrev pub HasNoWork : {M : Type 0} → Worker M → Type 0

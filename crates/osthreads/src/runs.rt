@@ -1,13 +1,13 @@
 //! Runs of a configuration by threads.
 
-ghost use Rattle.std.specs.Prelude.{◌≡◌, ◌≤◌, [], ◌⊎◌, IsTrue, IfOk, IfErr, IfNone, IfSome, map, vec_len, vec_capacity};
+ghost use Rattle.std.specs.Prelude.{◌≡◌, ◌≤◌, ◌⊎◌, IsTrue, IfOk, IfErr, IfNone, IfSome, map, vec_len};
 ghost use Rattle.osmail.specs.Rings.{AreCores, IsUnused, end_id};
 ghost use Rattle.osbase.specs.{declared.limits.TheConstants.MAILBOX, declared.messages.MailKind.TheVariants.Locked};
 ghost use Rattle.std.specs.List.{AllByRecursion, list_all, list_any};
 ghost use Rattle.osplan.specs.Stimuli.{AreKnown};
-ghost use Rattle.osrun.specs.{Fits.ids_of, Sound.AreSound};
-ghost use Rattle.osthreads.specs.{declared.ending.Ending.Ending as EndingValue, Runs.AreFinished, Runs.new_board, Runs.new_spins, declared.runs.ThreadReason.TheVariants.NoMemory, declared.runs.ThreadReason.TheVariants.NoThread, Seats.first_seats, Seats.paired, Seats.shared, Working.is_kept_by, Working.was_stopped_by};
-ghost use Rattle.osthreads.specs.Threads.{AreAllFinished, AreAllKept, AreEndsFor, AreEquipped, AreSettled, IsSettled, IsThreadFault, ends_kept, equipped};
+ghost use Rattle.osrun.specs.Sound.{AreSound};
+ghost use Rattle.osthreads.specs.{declared.ending.Ending.Ending as EndingValue, Runs.AreFinished, declared.runs.ThreadReason.TheVariants.NoMemory, declared.runs.ThreadReason.TheVariants.NoThread, Seats.paired, Working.is_kept_by, Working.was_stopped_by};
+ghost use Rattle.osthreads.specs.Threads.{AreAllFinished, AreAllKept, AreEndsFor, AreParts, AreSettled, HasRoomFor, IsPrepared, IsSettled, IsThreadFault, equipped};
 
 use crate::ending::{Ending, Outfit};
 use crate::gates::Gate;
@@ -90,10 +90,7 @@ struct Returned {
 impl Returned {
     // Room for so many of each.
     fn new(alloc: Global, count: usize) -> Result<Self, AllocError>
-        ensures board { IfOk result (λ r. (r.board.items ≡ []) × (count ≤ vec_capacity r.board)) }
-        ensures spins { IfOk result (λ r. (r.spins.items ≡ []) × (count ≤ vec_capacity r.spins)) }
-        ensures ends { IfOk result (λ r. (r.ends.items ≡ []) × (count ≤ vec_capacity r.ends)) }
-        ensures reports { IfOk result (λ r. (r.reports.items ≡ []) × (count ≤ vec_capacity r.reports)) }
+        ensures { IfOk result (HasRoomFor count) }
     {
         Ok(Returned {
             board: Vec::with_capacity(alloc, count)?,
@@ -165,15 +162,7 @@ fn mail_of(
 }
 
 fn prepare(alloc: Global, config: &Config, kind: MailKind) -> Result<Prepared, AllocError>
-    ensures cores { IfOk result (λ p. p.cores.items ≡ ids_of config.now) }
-    ensures board { IfOk result (λ p. p.board.plan ≡ new_board config.now) }
-    ensures bank { IfOk result (λ p. p.bank.plan ≡ new_spins config.now) }
-    ensures outfits { IfOk result (λ p. AreEquipped kind (ids_of config.now) (shared p.board p.bank) p.mail.rings p.outfits.items) }
-    ensures endings { IfOk result (λ p. (p.endings.items ≡ []) × (vec_len p.outfits ≤ vec_capacity p.endings)) }
-    ensures returned_board { IfOk result (λ p. (p.returned.board.items ≡ []) × (vec_len p.outfits ≤ vec_capacity p.returned.board)) }
-    ensures returned_spins { IfOk result (λ p. (p.returned.spins.items ≡ []) × (vec_len p.outfits ≤ vec_capacity p.returned.spins)) }
-    ensures returned_ends { IfOk result (λ p. (p.returned.ends.items ≡ []) × (vec_len p.outfits ≤ vec_capacity p.returned.ends)) }
-    ensures returned_reports { IfOk result (λ p. (p.returned.reports.items ≡ []) × (vec_len p.outfits ≤ vec_capacity p.returned.reports)) }
+    ensures { IfOk result (IsPrepared config.now kind) }
 {
     let plan = config.plan();
     let cores = ids_of(alloc, plan)?;
@@ -216,7 +205,6 @@ pub fn run_threads<R: Threads + Wait + Sync, G: Gate + Sync>(
     ensures finished { IfOk result (λ reports. AreFinished config.now stimuli.now turns reports.items) }
     ensures fault { IfErr result (λ f. IsThreadFault config.now stimuli.now f.reason f.reports.items) }
 {
-    let _plan = config.plan();
     let Ok(prepared) = prepare(alloc, config, kind) else {
         return Err(ThreadFault {
             reason: ThreadReason::NotBegun,
@@ -365,14 +353,8 @@ fn settles_one(mail: &mut LockedMail<MAILBOX>, sender: &Ending, receiver: &Endin
 // The seats, the ends of the rings and the reports, in vectors that have room for them.
 #[tactic(auto, using(crate::proofs::Outfits::kept_more))]
 fn part(endings: Vec<Ending>, returned: Returned) -> Returned
-    requires board { (returned.board.items ≡ []) × (vec_len endings ≤ vec_capacity returned.board) }
-    requires spins { (returned.spins.items ≡ []) × (vec_len endings ≤ vec_capacity returned.spins) }
-    requires ends { (returned.ends.items ≡ []) × (vec_len endings ≤ vec_capacity returned.ends) }
-    requires reports { (returned.reports.items ≡ []) × (vec_len endings ≤ vec_capacity returned.reports) }
-    ensures board { result.board.items ≡ map (λ (e : EndingValue). e.seats.board) endings.items }
-    ensures spins { result.spins.items ≡ map (λ (e : EndingValue). e.seats.spins) endings.items }
-    ensures ends { result.ends.items ≡ ends_kept endings.items }
-    ensures reports { result.reports.items ≡ map (λ (e : EndingValue). e.report) endings.items }
+    requires { HasRoomFor (vec_len endings) returned }
+    ensures { AreParts endings.items result }
 {
     let Returned {
         mut board,

@@ -6,7 +6,7 @@ ghost use Rattle.osplan.specs.View.{core_of};
 ghost use Rattle.osrun.specs.{Fits.ids_of, CoreRuns.report_of, Requests.no_calls};
 ghost use Rattle.osthreads.specs.Seats.{AreAt, made_from, shared};
 ghost use Rattle.osthreads.specs.Rounds.{IsGoing, IsStopped, loads_at, next_at};
-ghost use Rattle.osthreads.specs.Working.{HasNoWork, IsSameWorker, IsWorked, MayTake, Turns, UnlessTook};
+ghost use Rattle.osthreads.specs.Working.{HasNoWork, IsSameWorker, IsTurn, IsWorked, MayTurn, UnlessTook};
 
 use crate::gates::Gate;
 use crate::run::Run;
@@ -36,14 +36,11 @@ impl<'a, M: Mail> Shift<'a, M> {
 
     // The turn at this place of the round.
     fn turn(&mut self) -> Turned
-        requires room { MayTake self.old.worker }
-        requires mail { M.has_room self.old.worker.mail }
-        ensures turns { Turns M.sent M.taken (loads_at (length self.old.worker.run.now.cores.now) self.old.at) result self.old.worker self.new.worker }
-        ensures core { UnlessTook result (self.new.worker.core ≡ self.old.worker.core) }
+        requires { MayTurn M.has_room self.old.worker }
+        ensures turn { IsTurn M.sent M.taken M.which (loads_at (length self.old.worker.run.now.cores.now) self.old.at) result self.old.worker self.new.worker }
         ensures stuck { self.old.at + 1 ≡ length self.old.worker.run.now.cores.now → UnlessTook result (HasNoWork self.old.worker) }
         ensures at { self.new.at ≡ self.old.at }
         ensures fruitless { self.new.fruitless ≡ self.old.fruitless }
-        ensures same { IsSameWorker M.which self.old.worker self.new.worker }
     {
         let cores = self.worker.run.cores.len();
         if self.at >= cores {

@@ -1,16 +1,15 @@
 //! A worker's turns. Each makes at most one call of the board, of one spinlock or of one mailbox, and none allocates. What others
 //! can find changed by the call has its clock raised before; what the item stands on has its clock heard after.
 
-ghost use Rattle.std.specs.Prelude.{false, ◌≡◌, ◌<◌, ◌⊎◌, OnOk};
+ghost use Rattle.std.specs.Prelude.{false, ◌≡◌, ◌<◌, ◌⊎◌, IsTrue, OnOk};
 ghost use Rattle.osadmit.specs.Admission.{takes_in};
 ghost use Rattle.oskernel.specs.Step.{outbox_size};
 ghost use Rattle.osshared.specs.{Histories.entry, Seats.Extends};
 ghost use Rattle.osspin.specs.{declared.calls.SpinReply.TheVariants.Answered, Spins.spinlocks};
-ghost use Rattle.osrun.specs.{declared.requests.Reply.Reply as ReplyValue, declared.requests.Reply.TheVariants.Unasked, declared.requests.Request.TheVariants.OfBoard, declared.requests.Request.TheVariants.OfSpins, declared.requests.Request.TheVariants.Room, CoreRuns.Keeps, Requests.spin_call_of};
-ghost use Rattle.osboard.specs.Boards.{HasPlace};
+ghost use Rattle.osrun.specs.{declared.requests.Reply.Reply as ReplyValue, declared.requests.Reply.TheVariants.Unasked, declared.requests.Request.TheVariants.OfBoard, declared.requests.Request.TheVariants.OfSpins, declared.requests.Request.TheVariants.Room, Requests.spin_call_of};
 ghost use Rattle.osbase.specs.declared.limits.TheConstants.{SPINLOCKS};
 ghost use Rattle.osthreads.specs.Calling.{ChangesBoard, LoadsBoard, item_of_call, item_of_wish};
-ghost use Rattle.osthreads.specs.Working.{HasNoWork, IsAsked, IsFruitless, IsSameWorker, MayAnswer, MayTake, MayWait, Turns, UnlessTook};
+ghost use Rattle.osthreads.specs.Working.{AsksBoard, HasNoWork, HasTaken, IsAsked, IsFruitless, IsTurn, IsUnchanged, MayAnswer, MayTake, MayTurn, MayWait, UnlessTook};
 
 use crate::turns::Turned;
 use crate::worker::Worker;
@@ -24,11 +23,8 @@ use std::alloc::AllocError;
 impl<'a, M: Mail> Worker<'a, M> {
     /// Makes room for what a turn may add: an item, its lines, its clock, and the record of an envelope.
     pub fn make_room(&mut self) -> Result<(), AllocError>
-        ensures room { OnOk result (MayTake self.new) }
-        ensures mail { OnOk result (M.has_room self.new.mail) }
-        ensures turns { Turns M.sent M.taken 0 Turned.Nothing self.old self.new }
-        ensures core { Keeps self.old.core self.new.core }
-        ensures same { IsSameWorker M.which self.old self.new }
+        ensures room { OnOk result (MayTurn M.has_room self.new) }
+        ensures keeps { IsUnchanged M.sent M.taken M.which self.old self.new }
     {
         self.core.make_room()?;
         self.stamps.make_room()?;
@@ -37,11 +33,8 @@ impl<'a, M: Mail> Worker<'a, M> {
 
     /// Serves another core: the oldest envelope from it, if one came and this core may serve.
     pub fn serve(&mut self, from: CoreId) -> Turned
-        requires room { MayTake self.old }
-        requires mail { M.has_room self.old.mail }
-        ensures turns { Turns M.sent M.taken 0 result self.old self.new }
-        ensures core { UnlessTook result (self.new.core ≡ self.old.core) }
-        ensures same { IsSameWorker M.which self.old self.new }
+        requires { MayTurn M.has_room self.old }
+        ensures { IsTurn M.sent M.taken M.which 0 result self.old self.new }
     {
         if !self.core.kernel.may_serve() {
             return Turned::Nothing;
@@ -58,19 +51,15 @@ impl<'a, M: Mail> Worker<'a, M> {
             return Turned::Refused(from, envelope.letter);
         }
         self.stamps.hear(envelope.clock);
-        self.stamps.stamp();
-        self.core.take(item);
+        self.take(item);
         Turned::Took
     }
 
     /// Does the core's own work.
     pub fn own(&mut self) -> Turned
-        requires room { MayTake self.old }
-        requires mail { M.has_room self.old.mail }
-        ensures turns { Turns M.sent M.taken 0 result self.old self.new }
-        ensures core { UnlessTook result (self.new.core ≡ self.old.core) }
+        requires { MayTurn M.has_room self.old }
+        ensures turn { IsTurn M.sent M.taken M.which 0 result self.old self.new }
         ensures stuck { UnlessTook result (HasNoWork self.old) }
-        ensures same { IsSameWorker M.which self.old self.new }
     {
         let Some(request) = self
             .core
@@ -90,10 +79,8 @@ impl<'a, M: Mail> Worker<'a, M> {
 
     /// Looks at the board: it loads one of its words, also where the core waits for nothing there.
     pub fn look(&mut self) -> Turned
-        requires room { MayTake self.old }
-        ensures turns { Turns M.sent M.taken 1 result self.old self.new }
-        ensures core { UnlessTook result (self.new.core ≡ self.old.core) }
-        ensures same { IsSameWorker M.which self.old self.new }
+        requires { MayTake self.old }
+        ensures { IsTurn M.sent M.taken M.which 1 result self.old self.new }
     {
         match look_request(self.core.kernel.watch()) {
             Request::OfBoard(call) => self.load_board(call),
@@ -105,11 +92,8 @@ impl<'a, M: Mail> Worker<'a, M> {
     fn load_board(&mut self, call: BoardCall) -> Turned
         requires room { MayTake self.old }
         requires loads { LoadsBoard call }
-        requires place { HasPlace call }
-        requires asked { IsAsked self.old.run.now.config.now self.old.core (OfBoard call) }
-        ensures turns { Turns M.sent M.taken 1 result self.old self.new }
-        ensures core { UnlessTook result (self.new.core ≡ self.old.core) }
-        ensures same { IsSameWorker M.which self.old self.new }
+        requires request { AsksBoard self.old call }
+        ensures { IsTurn M.sent M.taken M.which 1 result self.old self.new }
     {
         let answer = Reply::Replied(self.run.board.call(&mut self.seats.board, call));
         let Some(item) = self.core.item_for_reply(Request::OfBoard(call), &answer) else {
@@ -119,8 +103,7 @@ impl<'a, M: Mail> Worker<'a, M> {
             return Turned::Nothing;
         }
         self.stamps.read(Clocked::Board);
-        self.stamps.stamp();
-        self.core.take(item);
+        self.take(item);
         Turned::Took
     }
 
@@ -128,12 +111,9 @@ impl<'a, M: Mail> Worker<'a, M> {
     fn write_board(&mut self, call: BoardCall) -> Turned
         requires room { MayTake self.old }
         requires changes { ChangesBoard call }
-        requires place { HasPlace call }
-        requires asked { IsAsked self.old.run.now.config.now self.old.core (OfBoard call) }
-        ensures turns { Turns M.sent M.taken 0 result self.old self.new }
-        ensures core { UnlessTook result (self.new.core ≡ self.old.core) }
+        requires request { AsksBoard self.old call }
+        ensures turn { IsTurn M.sent M.taken M.which 0 result self.old self.new }
         ensures stuck { UnlessTook result ((answer : ReplyValue) → MayAnswer self.old.core.id (OfBoard call) answer → IsFruitless self.old.core.id self.old.core.kernel (OfBoard call) answer) }
-        ensures same { IsSameWorker M.which self.old self.new }
     {
         if !self.core.kernel.may_take(&item_of_call(self.core.id, call)) {
             return Turned::Nothing;
@@ -144,8 +124,7 @@ impl<'a, M: Mail> Worker<'a, M> {
             unreachable!()
         };
         self.stamps.after_board(call);
-        self.stamps.stamp();
-        self.core.take(item);
+        self.take(item);
         Turned::Took
     }
 
@@ -154,12 +133,10 @@ impl<'a, M: Mail> Worker<'a, M> {
         requires room { MayTake self.old }
         requires lock { (spin_call_of wish).lock.index < SPINLOCKS }
         requires asked { IsAsked self.old.run.now.config.now self.old.core (OfSpins wish) }
-        ensures turns { Turns M.sent M.taken 0 result self.old self.new }
-        ensures core { UnlessTook result (self.new.core ≡ self.old.core) }
+        ensures turn { IsTurn M.sent M.taken M.which 0 result self.old self.new }
         ensures stuck { UnlessTook result (MayWait (OfSpins wish) ⊎ ((answer : ReplyValue) → MayAnswer self.old.core.id (OfSpins wish) answer → IsFruitless self.old.core.id self.old.core.kernel (OfSpins wish) answer)) }
         // A turn that took nothing made the call, and was refused.
         ensures called { UnlessTook result ((takes_in outbox_size self.old.core.kernel (item_of_wish wish) ≡ false) ⊎ Extends spinlocks self.old.seats.spins (entry self.old.core.id (spin_call_of wish) (Answered false)) self.new.seats.spins) }
-        ensures same { IsSameWorker M.which self.old self.new }
     {
         if !self.core.kernel.may_take(&item_of_wish(wish)) {
             return Turned::Nothing;
@@ -174,19 +151,15 @@ impl<'a, M: Mail> Worker<'a, M> {
             return Turned::Nothing;
         };
         self.stamps.after_spinlock(wish, &item);
-        self.stamps.stamp();
-        self.core.take(item);
+        self.take(item);
         Turned::Took
     }
 
     // Sends the front of the outbox, if its mailbox has room.
     fn post(&mut self, to: CoreId) -> Turned
-        requires room { MayTake self.old }
-        requires mail { M.has_room self.old.mail }
+        requires room { MayTurn M.has_room self.old }
         requires asked { IsAsked self.old.run.now.config.now self.old.core (Room to) }
-        ensures turns { Turns M.sent M.taken 0 result self.old self.new }
-        ensures core { UnlessTook result (self.new.core ≡ self.old.core) }
-        ensures same { IsSameWorker M.which self.old self.new }
+        ensures { IsTurn M.sent M.taken M.which 0 result self.old self.new }
     {
         let posted = Item::Posted(to);
         if !self.core.kernel.may_take(&posted) {
@@ -198,22 +171,30 @@ impl<'a, M: Mail> Worker<'a, M> {
         envelope.clock = self.stamps.next();
         match self.mail.send(to, envelope) {
             Ok(()) => {
-                self.stamps.stamp();
-                self.core.take(posted);
+                self.take(posted);
                 Turned::Took
             }
             Err(_) => Turned::Nothing,
         }
     }
 
+    // The core takes an item, which gets its clock.
+    #[inline(always)]
+    fn take(&mut self, item: Item)
+        requires room { MayTake self.old }
+        requires taken { IsTrue (takes_in outbox_size self.old.core.kernel item) }
+        ensures { HasTaken self.old self.new item }
+    {
+        self.stamps.stamp();
+        self.core.take(item);
+    }
+
     // Does what takes no call: the core's next stimulus, or the start of a core that is not configured.
     fn take_without_call(&mut self, request: Request) -> Turned
         requires room { MayTake self.old }
         requires asked { IsAsked self.old.run.now.config.now self.old.core request }
-        ensures turns { Turns M.sent M.taken 0 result self.old self.new }
-        ensures core { UnlessTook result (self.new.core ≡ self.old.core) }
+        ensures turn { IsTurn M.sent M.taken M.which 0 result self.old self.new }
         ensures stuck { UnlessTook result (IsFruitless self.old.core.id self.old.core.kernel request Unasked) }
-        ensures same { IsSameWorker M.which self.old self.new }
     {
         let Some(item) = self.core.item_for_reply(request, &Reply::Unasked) else {
             return Turned::Nothing;
@@ -221,8 +202,7 @@ impl<'a, M: Mail> Worker<'a, M> {
         if !self.core.kernel.may_take(&item) {
             return Turned::Nothing;
         }
-        self.stamps.stamp();
-        self.core.take(item);
+        self.take(item);
         Turned::Took
     }
 }

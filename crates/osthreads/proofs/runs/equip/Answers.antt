@@ -1,5 +1,5 @@
-use Rattle.std.proofs.{Common.◌≡◌, Common.sym, Common.◌∙◌, lemmas.Iterator.Adapters.YieldsList-from_vec, lemmas.Iterator.Consumers.YieldsList-end, lemmas.List.map-id}
-use Rattle.osthreads.proofs.Outfits.{equipped_whole}
+use Rattle.std.proofs.Common.{◌≡◌, [], sym, ◌∙◌, append-nil}
+use Rattle.std.proofs.{lemmas.Iterator.Adapters.YieldsList-from_vec, lemmas.Iterator.Consumers.YieldsList-end, lemmas.List.map-id}
 use Rattle.osthreads.proofs.runs.equip.Goals as goal
 
 pub returns : goal.returns
@@ -7,4 +7,4 @@ returns c =
     let gives = c.into_iter-seats-iterator.ensures.into_iter_gives in
     let ends = YieldsList-end (YieldsList-from_vec {s = c.into_iter-seats-iterator.result} c.args.seats.items gives.0 (gives.1 ∙ c.args.seats.ok.0)) c.loop-seats.yielded c.loop-seats.seats-iterator c.loop-seats.yielded_by c.next.result c.next.new.self c.in-None.is c.next.ensures.steps in
     let all : c.loop-seats.yielded ≡ c.args.seats.items = sym (map-id c.loop-seats.yielded) ∙ ends.0 in
-    equipped_whole c.loop-seats.yielded c.args.seats.items c.args.ends.items c.loop-seats.left.items c.loop-seats.outfits.items all c.loop-seats.invariant
+    sym (rw (append-nil c.loop-seats.yielded, all, append-nil c.loop-seats.outfits.items) at (c.loop-seats.invariant []))

@@ -1,22 +1,19 @@
 use Rattle.std.proofs.Common.{Bor, length, refl, ap, sym, ◌∙◌, arith}
 use Rattle.osthreads.specs.{declared.run.Run.Run, Seats.made_from}
-use Rattle.osstate.specs.State.{KernelState}
-use Rattle.osrun.specs.CoreRuns.{is_ended_phase}
-use Rattle.osthreads.proofs.{Requests.known-low, Senders.someone}
+use Rattle.osplan.proofs.Numbered.{configured-low}
+use Rattle.osthreads.proofs.Senders.{someone}
 use Rattle.osthreads.proofs.Shifting.{begun, first-running, handed-back, own-before}
 use Rattle.osthreads.proofs.shifts.core_worker.Goals as goal
 
 pub new-core-requires-clause-number : goal.new-core-requires-clause-number
 new-core-requires-clause-number g c =
-    let low = known-low c.args.run.now.config.now c.plan-plan.ensures.limits c.args.seats.board.core c.requires.configured in
-    let is = ap (λ (k : _). k.number) c.core.ensures in
-    omega (arith, low, is)
+    rw c.core.ensures (configured-low c.args.run.now.config.now c.args.seats.board.core c.plan-plan.ensures.limits c.requires.configured)
 
 pub invariant_of-shift : goal.invariant_of-shift
 invariant_of-shift g c = record {
   same = sym (c.new-core.ensures.core ∙ c.core.ensures);
   placed = c.requires.placed.board;
-  low = known-low c.args.run.now.config.now c.plan-plan.ensures.limits c.args.seats.board.core c.requires.configured;
+  low = configured-low c.args.run.now.config.now c.args.seats.board.core c.plan-plan.ensures.limits c.requires.configured;
   same_spins = c.requires.placed.spins_core ∙ sym (c.new-core.ensures.core ∙ c.core.ensures);
   placed_spins = c.requires.placed.spins;
 }
@@ -31,8 +28,8 @@ loop-init g c = (
         c.new-core.ensures.core c.new-core.ensures.kernel c.new-core.ensures.stimuli c.new-core.ensures.items c.new-core.ensures.marks c.requires.fresh c.requires.unused;
     count = omega arith;
     place = omega arith;
-    running = ap (λ (k : KernelState). is_ended_phase k.progress.phase) c.new-core.ensures.kernel ∙ first-running _;
-    stuck = λ some own. let before = own-before (length c.args.run.now.cores.now) 0 in absurd (omega (arith, own, before));
+    running = rw c.new-core.ensures.kernel (first-running _);
+    stuck = λ some own. absurd (omega (arith, own, own-before (length c.args.run.now.cores.now) 0));
   },
   refl,
 )
@@ -44,6 +41,3 @@ returns-in-Some-play_turn-clause-worked g c =
     (c.in-Some-play_turn.ensures.some c.args.run.now.stimuli.now c.loop.invariant.2)
     (someone c.args.run.now.config.now c.plan-plan.ensures.limits c.args.seats.board.core c.requires.configured)
     c.hand_back.ensures.report c.hand_back.ensures.seats c.hand_back.ensures.mail c.hand_back.ensures.stop
-
-pub returns-in-Some-play_turn-clause-which : goal.returns-in-Some-play_turn-clause-which
-returns-in-Some-play_turn-clause-which g c = ap (g.M.Mail.which) c.hand_back.ensures.mail ∙ c.play_turn.ensures.same.end ∙ c.loop.invariant.3
