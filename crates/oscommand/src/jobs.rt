@@ -1,8 +1,9 @@
 //! What the program is asked to do.
 
-ghost use Rattle.std.specs.Prelude.{◌≡◌, IfOk, IfSome, IsSome, IsSomeAnd, Some, codes, false, is_none, map};
+ghost use Rattle.std.specs.Prelude.{◌≡◌, IfOk, IfSome, IsSome, IsSomeAnd, Some, codes, false, is_none, map, option_map};
+ghost use Rattle.std.specs.Str.{bytes_eq};
 ghost use Rattle.std.specs.Str.Parse.{digits_value, without_leading_plus};
-ghost use Rattle.clap.specs.Words.{IsUnsignedIn, app_of, first_of, found_of, kind_of, rows_of, rule_of, subcommand_rows_of};
+ghost use Rattle.clap.specs.Words.{IsUnsignedIn, app_of, first_of, found_of, kind_of, new_app, rows_of, rule_of, subcommand_rows_of, with_rule};
 ghost use Rattle.clap.specs.declared.error.kind.ErrorKind.TheVariants.{ArgumentConflict};
 ghost use Rattle.oscommand.specs.CommandLine.{AsksFor, FailsByWords, HasEntries, IsMailName, SaysCore, SaysMail, SaysNumber, SaysPrint, SaysTurns, check_command, command_line, config_rule, core_rule, cut_command, group_command, groups_command, has_items_and_order, is_set, items_rule, mail_name, mail_rule, order_rule, replay_command, run_command, schedule_rule, stimuli_rule, subcommand_name, threads_command, turns_rule};
 ghost use Rattle.oscommand.specs.Entries.{AreChecked, HasConfig, HasConfigAndCore, HasReplay, HasRun, HasThreads, SaysJob};
@@ -210,28 +211,29 @@ fn job_in<'a>(matches: &ArgMatches<'a>) -> Option<Job<'a>>
     requires { IsSomeAnd (subcommand_rows_of matches.now) AreChecked }
     ensures { SaysJob (subcommand_rows_of matches.now) result }
 {
-    if let Some(run) = matches.subcommand_matches("run") {
-        return Some(run_job(run));
-    }
-    if let Some(check) = matches.subcommand_matches("check") {
-        return Some(check_job(check));
-    }
-    if let Some(cut) = matches.subcommand_matches("cut") {
-        return Some(cut_job(cut));
-    }
-    if let Some(groups) = matches.subcommand_matches("groups") {
-        return Some(groups_job(groups));
-    }
-    if let Some(group) = matches.subcommand_matches("group") {
-        return Some(group_job(group));
-    }
-    if let Some(replay) = matches.subcommand_matches("replay") {
-        return Some(replay_job(replay));
-    }
-    let Some(threads) = matches.subcommand_matches("threads") else {
+    let Some((name, entries)) = matches.subcommand() else {
         unreachable!();
     };
-    threads_job(threads)
+    match name {
+        "threads" => threads_job(entries),
+        _ => Some(job_named(name, entries)),
+    }
+}
+
+// The job of a subcommand other than `threads`, with its entries.
+fn job_named<'a>(name: &str, entries: &ArgMatches<'a>) -> Job<'a>
+    requires checked { AreChecked (name.now, rows_of (found_of entries.now)) }
+    requires other { bytes_eq name.now (codes "threads") ≡ false }
+    ensures { HasEntries (rows_of (found_of entries.now)) result × (subcommand_name result ≡ name.now) }
+{
+    match name {
+        "run" => run_job(entries),
+        "check" => check_job(entries),
+        "cut" => cut_job(entries),
+        "groups" => groups_job(entries),
+        "group" => group_job(entries),
+        _ => replay_job(entries),
+    }
 }
 
 // The core of a number that a byte can hold.
@@ -245,12 +247,19 @@ fn core_in(word: &str) -> CoreId
     CoreId { number }
 }
 
+// The text of an argument, if that is there.
+fn entry_of<'a>(entries: &ArgMatches<'a>, id: &'static str) -> Option<&'a str>
+    ensures { option_map (λ text. text.now) result ≡ first_of id.now (rows_of (found_of entries.now)) }
+{
+    entries.get_str(id)
+}
+
 // The text of a required argument.
 fn text_in<'a>(entries: &ArgMatches<'a>, id: &'static str) -> &'a str
     requires { IsSome (first_of id.now (rows_of (found_of entries.now))) }
     ensures { first_of id.now (rows_of (found_of entries.now)) ≡ Some result.now }
 {
-    let Some(text) = entries.get_str(id) else {
+    let Some(text) = entry_of(entries, id) else {
         unreachable!();
     };
     text
@@ -287,7 +296,7 @@ fn run_job<'a>(run: &ArgMatches<'a>) -> Job<'a>
     Job::Run {
         config: config_of(run),
         stimuli: stimuli_of(run),
-        schedule: run.get_str("schedule"),
+        schedule: entry_of(run, "schedule"),
         items: items_core(run),
     }
 }
@@ -297,7 +306,7 @@ fn items_core(run: &ArgMatches) -> Option<CoreId>
     requires { IfSome (first_of (codes "items") (rows_of (found_of run.now))) (IsUnsignedIn 0 255) }
     ensures { SaysCore (first_of (codes "items") (rows_of (found_of run.now))) result }
 {
-    match run.get_str("items") {
+    match entry_of(run, "items") {
         Some(core) => Some(core_in(core)),
         None => None,
     }
@@ -397,7 +406,7 @@ fn print_of(threads: &ArgMatches) -> Option<Print>
 fn has_order(threads: &ArgMatches) -> bool
     ensures { result ≡ is_set (first_of (codes "order") (rows_of (found_of threads.now))) }
 {
-    match threads.get_str("order") {
+    match entry_of(threads, "order") {
         Some(text) => text == "true",
         None => false,
     }
@@ -408,7 +417,7 @@ fn turns_of(threads: &ArgMatches) -> u64
     requires { IfSome (first_of (codes "turns") (rows_of (found_of threads.now))) (IsUnsignedIn 1 MOST_TURNS) }
     ensures { SaysTurns (first_of (codes "turns") (rows_of (found_of threads.now))) result }
 {
-    match threads.get_str("turns") {
+    match entry_of(threads, "turns") {
         Some(turns) => turns_in(turns),
         None => DEFAULT_TURNS,
     }
@@ -429,7 +438,7 @@ fn mail_of(threads: &ArgMatches) -> MailKind
     requires { IfSome (first_of (codes "mail") (rows_of (found_of threads.now))) IsMailName }
     ensures { SaysMail (first_of (codes "mail") (rows_of (found_of threads.now))) result }
 {
-    match threads.get_str("mail") {
+    match entry_of(threads, "mail") {
         Some(mail) => mail_in(mail),
         None => MailKind::Ring,
     }
@@ -463,13 +472,26 @@ fn command<'a>(alloc: Global, kinds: &'a [&'a str]) -> Result<Command<'a>, Alloc
         .subcommand(threads_command(alloc, kinds)?)
 }
 
+// A subcommand that reads a configuration.
+fn config_command<'a>(
+    alloc: Global,
+    name: &'a str,
+    about: &'a str,
+    help: &'a str,
+) -> Result<Command<'a>, AllocError>
+    ensures { IfOk result (λ command. app_of command ≡ with_rule (new_app name.now) config_rule) }
+{
+    Command::new(alloc, name)
+        .about(about)
+        .after_help(help)
+        .arg(config_arg(alloc))
+}
+
 fn run_command<'a>(alloc: Global) -> Result<Command<'a>, AllocError>
     ensures { IfOk result (λ command. app_of command ≡ run_command) }
 {
-    Command::new(alloc, "run")
-        .about("Runs the cores turn by turn, and prints each core's trace")
-        .after_help(RUN_HELP)
-        .arg(config_arg(alloc))?
+    let about = "Runs the cores turn by turn, and prints each core's trace";
+    config_command(alloc, "run", about, RUN_HELP)?
         .arg(stimuli_arg(alloc))?
         .arg(schedule_arg(alloc))?
         .arg(items_arg(alloc))
@@ -510,51 +532,39 @@ fn items_arg<'a>(alloc: Global) -> Arg<'a>
 fn check_command<'a>(alloc: Global) -> Result<Command<'a>, AllocError>
     ensures { IfOk result (λ command. app_of command ≡ check_command) }
 {
-    Command::new(alloc, "check")
-        .about("Prints for each core whether it is separate, bound to others or off")
-        .after_help(CHECK_HELP)
-        .arg(config_arg(alloc))
+    let about = "Prints for each core whether it is separate, bound to others or off";
+    config_command(alloc, "check", about, CHECK_HELP)
 }
 
 fn cut_command<'a>(alloc: Global) -> Result<Command<'a>, AllocError>
     ensures { IfOk result (λ command. app_of command ≡ cut_command) }
 {
-    Command::new(alloc, "cut")
-        .about("Prints the configuration of a separate core alone")
-        .after_help(CUT_HELP)
-        .arg(config_arg(alloc))?
-        .arg(core_arg(alloc))
+    let about = "Prints the configuration of a separate core alone";
+    config_command(alloc, "cut", about, CUT_HELP)?.arg(core_arg(alloc))
 }
 
 fn groups_command<'a>(alloc: Global) -> Result<Command<'a>, AllocError>
     ensures { IfOk result (λ command. app_of command ≡ groups_command) }
 {
-    Command::new(alloc, "groups")
-        .about("Prints the cores of each core's least group")
-        .after_help(GROUPS_HELP)
-        .arg(config_arg(alloc))
+    let about = "Prints the cores of each core's least group";
+    config_command(alloc, "groups", about, GROUPS_HELP)
 }
 
 fn group_command<'a>(alloc: Global) -> Result<Command<'a>, AllocError>
     ensures { IfOk result (λ command. app_of command ≡ group_command) }
 {
-    Command::new(alloc, "group")
-        .about("Prints the configuration of a core's least group by itself")
-        .after_help(GROUP_HELP)
-        .arg(config_arg(alloc))?
-        .arg(core_arg(alloc))
+    let about = "Prints the configuration of a core's least group by itself";
+    config_command(alloc, "group", about, GROUP_HELP)?.arg(core_arg(alloc))
 }
 
 fn replay_command<'a>(alloc: Global) -> Result<Command<'a>, AllocError>
     ensures { IfOk result (λ command. app_of command ≡ replay_command) }
 {
+    let about = "Plays a core by itself with the items of its log, and prints its trace";
     let log = Arg::new(alloc, "LOG")
         .required(true)
         .help("the core's log, a text file");
-    Command::new(alloc, "replay")
-        .about("Plays a core by itself with the items of its log, and prints its trace")
-        .after_help(REPLAY_HELP)
-        .arg(config_arg(alloc))?
+    config_command(alloc, "replay", about, REPLAY_HELP)?
         .arg(core_arg(alloc))?
         .arg(log)
 }
@@ -562,10 +572,8 @@ fn replay_command<'a>(alloc: Global) -> Result<Command<'a>, AllocError>
 fn threads_command<'a>(alloc: Global, kinds: &'a [&'a str]) -> Result<Command<'a>, AllocError>
     ensures { IfOk result (λ command. app_of command ≡ threads_command kinds.entry) }
 {
-    Command::new(alloc, "threads")
-        .about("Runs each core on a thread of its own, and prints each core's trace")
-        .after_help(THREADS_HELP)
-        .arg(config_arg(alloc))?
+    let about = "Runs each core on a thread of its own, and prints each core's trace";
+    config_command(alloc, "threads", about, THREADS_HELP)?
         .arg(stimuli_arg(alloc))?
         .arg(turns_arg(alloc))?
         .arg(mail_arg(alloc, kinds))?

@@ -1,19 +1,11 @@
 -- A run whose reports are printed.
-use Rattle.std.proofs.Common.{◌≡◌, ◌≢◌, ◌∙◌, ℕ, true, List, Option, None, Result, Ok, Err, refl, sym}
-use Rattle.std.specs.Prelude.{IfErr}
+use Rattle.std.proofs.Common.{◌≡◌, ◌∙◌, ℕ, true, List, Option, None, Result, refl, sym}
 use Rattle.osbase.specs.{declared.references.CoreId.CoreId, declared.turns.Choice.Choice, declared.turns.CoreStimuli.CoreStimuli, declared.turns.Report.Report}
 use Rattle.osplan.specs.declared.plans.Plan.{Plan}
 use Rattle.oscommand.specs.declared.jobs.Print.TheVariants.{Order}
-use Rattle.ostrace.specs.declared.sinks.WriteFailed.{WriteFailed as SinkFailed}
-use Rattle.osjob.specs.{declared.faults.Fault.Fault, declared.faults.Fault.TheVariants.NoMemoryToRun, declared.faults.Fault.TheVariants.Unreadable, declared.outcomes.Outcome.Outcome, Runs.IsInput, Runs.IsThreaded, Runs.are_items_known, Texts.File, Texts.IsAsked}
-use Rattle.osjob.specs.Performs.{BreaksThreads, PrintsOrFaults, HasNoReports, IsOrderPrinted, IsReportOutput, IsReported, IsThreadsOutput, NoFault, PrintsFrom, broken_off, fails, prints, unless_refused}
-
--- A text that was printed up to a refused write names no file, and no more does what was to come.
-pub written-asked : (written : Result Unit SinkFailed) (ending result : Result Outcome Fault) (count : ℕ) (files : List File) → IfErr ending (λ fault. fault ≢ Unreadable)
-    → result ≡ unless_refused written ending → IfErr result (IsAsked count files)
-written-asked (Ok done) (Ok outcome) result count files apart e = rw e tt
-written-asked (Ok done) (Err fault) result count files apart e = rw e (λ same. absurd (apart same))
-written-asked (Err refused) ending result count files apart e = rw e (λ same. cc)
+use Rattle.osjob.specs.{declared.faults.Fault.Fault, declared.faults.Fault.TheVariants.NoMemoryToRun, declared.outcomes.Outcome.Outcome, Runs.IsInput, Runs.IsThreaded, Runs.are_items_known, Texts.File}
+use Rattle.osjob.specs.Performs.{BreaksThreads, PrintsOrFaults, HasNoReports, IsOrderPrinted, IsReportOutput, IsReported, IsThreadsOutput, NoFault, PrintsFrom, broken_off, fails, prints}
+use Rattle.osjob.proofs.Printing.{written-asked}
 
 -- What is printed of the reports of a run is what its job prints.
 pub reports-come : {O : Type 0} (taken : O → Option (List ℕ)) (failed : O → ℕ) (old new : O) (Played : Plan → List Report → Type 0) (Breaks : Fault → Type 0) (schedule : Option (List ℕ)) (items : Option CoreId) (files : List File) (plan : Plan) (stimuli : List CoreStimuli) (turns : Option (List (CoreId × Choice))) (reports : List Report) (count : ℕ) (result : Result Outcome Fault)

@@ -1,13 +1,13 @@
 -- What was read of a job's files, and what stays of it.
-use Rattle.std.proofs.Common.{◌≡◌, ◌≢◌, ◌⊎◌, ◌+◌, ◌<◌, ◌≤◌, ◌∙◌, inl, inr, ap, arith, refl, ℕ, List, Option, Some, None, Result, Ok, Vec, length, get_or, option_map, option_and_then, slice_get}
-use Rattle.std.specs.{List.Contains, declared.alloc.Global.Global}
-use Rattle.std.proofs.{lemmas.Bool.cases_lt, lemmas.Option.slice_get-get_or, lemmas.Option.slice_get_within}
-use Rattle.osbase.specs.declared.turns.CoreStimuli.{CoreStimuli}
+use Rattle.std.proofs.Common.{◌≡◌, ◌≢◌, ◌⊎◌, ◌+◌, ◌<◌, ◌≤◌, ◌∙◌, inl, inr, ap, arith, refl, ℕ, List, Option, Some, None, Result, Ok, Vec, length, max, get_or, option_map, option_and_then, slice_get}
+use Rattle.std.specs.{List.Contains, Prelude.IsErrAnd, declared.alloc.Global.Global}
+use Rattle.std.proofs.{lemmas.Bool.cases_lt, lemmas.Option.slice_get-get_or, lemmas.Option.slice_get_within, lemmas.Result.err_from_is_err_and}
+use Rattle.osbase.specs.{declared.references.CoreId.CoreId, declared.turns.Choice.Choice, declared.turns.CoreStimuli.CoreStimuli}
 use Rattle.osplan.specs.{declared.plans.Plan.Plan, declared.faults.ConfFault.ConfFault, declared.faults.ConfFault.TheVariants.NoMemory, Fault.IsLeast}
 use Rattle.osinput.specs.Given.{stimuli_of_text}
 use Rattle.osload.specs.Meaning.{config_of}
-use Rattle.osjob.specs.{declared.faults.Fault.Fault, declared.faults.Fault.TheVariants.Text, Runs.IsGiven}
-use Rattle.osjob.specs.Texts.{File, IsFaultOf, KeepsBelow, Means, bytes_at, text_at, text_in}
+use Rattle.osjob.specs.{declared.faults.Fault.Fault, declared.faults.Fault.TheVariants.Text, Performs.IsInputFault, Performs.IsRead, Runs.Consumes, Runs.IsGiven, Runs.at_config, Runs.at_schedule, Runs.at_stimuli}
+use Rattle.osjob.specs.Texts.{File, IsAsked, IsFaultOf, KeepsBelow, Means, bytes_at, text_at, text_in}
 
 -- a reader's fault is the fault of the file
 pub IsFaultOf-read : (faults : List ℕ → List ConfFault) (file : Result (List ℕ) Fault) (text : List ℕ) (read : ConfFault) (fault : Fault)
@@ -55,3 +55,28 @@ absent-asked count files at read next absent = elim (cases_lt at (length files))
     by : (file : File) → get_or files at None ≡ file → None ≡ option_map (λ (bytes : Vec ℕ Global). bytes.items) file → get_or files at None ≡ None
     by None is e = is
     by (Some bytes) is e = cc
+
+-- ---- what comes of files
+
+module _ {S : Type 0} (files : S → List File) (known : S → Option (List File)) where
+  -- what comes of the same files
+  pub Consumes-as : (source : S) (most : ℕ) (P Q : List File → Type 0) (used : Consumes files known source most P) → (P (files used.last) → Q (files used.last)) → Consumes files known source most Q
+  Consumes-as source most P Q used f = record { last = used.last; comes = f used.comes; stops = used.stops; named = used.named; known_is = used.known_is }
+
+  -- where one, two or three files were read
+  pub Consumes-one : (source last : S) (most : ℕ) (P : List File → Type 0) → 1 ≤ most → length (files last) ≤ max (length (files source)) 1 → known last ≡ known source → P (files last)
+      → Consumes files known source most P
+  Consumes-one source last most P some ahead same comes = record { last = last; comes = comes; stops = at_config ahead; named = omega (arith, ahead); known_is = same }
+
+  pub Consumes-two : (source last : S) (most : ℕ) (P : List File → Type 0) (plan : Plan) → Means config_of (text_at (files last) 0) plan → 2 ≤ most → length (files last) ≤ max (length (files source)) 2
+      → known last ≡ known source → P (files last) → Consumes files known source most P
+  Consumes-two source last most P plan config some ahead same comes = record { last = last; comes = comes; stops = at_stimuli plan config ahead; named = omega (arith, ahead); known_is = same }
+
+  pub Consumes-three : (source last : S) (most : ℕ) (P : List File → Type 0) (plan : Plan) (stimuli : List CoreStimuli) → IsGiven (files last) plan stimuli → 3 ≤ most
+      → length (files last) ≤ max (length (files source)) 3 → known last ≡ known source → P (files last) → Consumes files known source most P
+  Consumes-three source last most P plan stimuli given some ahead same comes = record { last = last; comes = comes; stops = at_schedule plan stimuli given ahead; named = omega (arith, ahead); known_is = same }
+
+-- where a fault was passed up, that is what comes of them
+pub IsRead-faulty : (schedule : Option (List ℕ)) (items : Option CoreId) (files : List File) (count : ℕ) (result : Result (Plan × List CoreStimuli × Option (List (CoreId × Choice))) Fault) (Passed : Fault → Type 0)
+    → IsErrAnd result Passed → ((fault : Fault) → Passed fault → (fault ≢ Text NoMemory → IsInputFault schedule items files fault) × IsAsked count files fault) → IsRead schedule items files count result
+IsRead-faulty schedule items files count result Passed is why = let p = err_from_is_err_and result is in rw p.1 (why p.0 p.2)

@@ -5,7 +5,7 @@ use Rattle.std.specs.Borrow.{Bor}
 use Rattle.osplan.specs.declared.faults.ConfFault.TheVariants.{NoMemory}
 use Rattle.osjob.specs.{declared.faults.Fault.TheVariants.Text, declared.faults.Fault.TheVariants.Unreadable, Performs.HasNoOutput, Performs.fails, Program.PrintsJob, Runs.at_config, Texts.File}
 use Rattle.oscommand.specs.{declared.jobs.Job.Job, Jobs.paths_of}
-use Rattle.oscommand.specs.declared.jobs.Job.TheVariants.{Run, Check, Cut, Groups, Group, Replay, Threads}
+use Rattle.oscommand.specs.declared.jobs.Job.TheVariants.{Run}
 
 -- a job has as many paths as it lists
 pub listed_paths : (paths : List (Bor (List ℕ))) (job : Job) → map (λ (path : Bor (List ℕ)). path.now) paths ≡ paths_of job → length paths ≡ length (paths_of job)
@@ -13,12 +13,7 @@ listed_paths paths job are = sym (length-map paths (λ (path : Bor (List ℕ)). 
 
 no_memory-output : (job : Job) (files : List File) → HasNoOutput job files (Text NoMemory)
 no_memory-output (Run config stimuli schedule items) files = λ apart. absurd (apart refl)
-no_memory-output (Check config) files = λ apart. absurd (apart refl)
-no_memory-output (Cut config core) files = λ apart. absurd (apart refl)
-no_memory-output (Groups config) files = λ apart. absurd (apart refl)
-no_memory-output (Group config core) files = λ apart. absurd (apart refl)
-no_memory-output (Replay config core log) files = λ apart. absurd (apart refl)
-no_memory-output (Threads config stimuli turns mail print) files = λ apart. absurd (apart refl)
+no_memory-output job files = λ apart. absurd (apart refl)
 
 readable : Text NoMemory ≡ Unreadable → ⊥
 readable e = cc

@@ -6,9 +6,9 @@ ghost use Rattle.std.specs.List.{flat_map};
 ghost use Rattle.ostrace.specs.Taken.{Writes};
 ghost use Rattle.osrun.specs.Fits.{ids_of};
 ghost use Rattle.osjob.specs.Checks.{check_text, core_text, line_at, standing_line, standing_word};
-ghost use Rattle.osjob.specs.Performs.{PrintsOrFaults, HasNoConfig, HasNoCut, IsCheckOutput, IsCutOf, IsCutOutput, IsNotCut, NoFault};
-ghost use Rattle.osjob.specs.Texts.{IsAsked};
+ghost use Rattle.osjob.specs.Performs.{PrintsFrom, HasNoConfig, HasNoCut, IsCheckOutput, IsCutOf, IsCutOutput, IsNotCut, NoFault};
 
+use crate::endings::written;
 use crate::faults::Fault;
 use crate::outcomes::Outcome;
 use crate::readings::config_in;
@@ -25,16 +25,14 @@ pub fn check<S: Source, O: Sink>(
     out: &mut O,
 ) -> Result<Outcome, Fault>
     requires { O.failed out.old < 2 ^ 48 }
-    ensures comes { PrintsOrFaults O.taken O.failed out.old out.new (NoFault (IsCheckOutput (S.files source.new)))
-        (HasNoConfig (S.files source.new)) result }
+    ensures comes { PrintsFrom O.taken O.failed out.old out.new (NoFault (IsCheckOutput (S.files source.new)))
+        (HasNoConfig (S.files source.new)) (S.files source.new) (S.count source.new) result }
     ensures ahead { length (S.files source.new) ≤ max (length (S.files source.old)) 1 }
-    ensures asked { IfErr result (IsAsked (S.count source.new) (S.files source.new)) }
     ensures count { S.count source.new ≡ S.count source.old }
     ensures known { S.known source.new ≡ S.known source.old }
 {
     let config = config_in(alloc, source)?;
-    write_check(&config, out)?;
-    Ok(Outcome::Done)
+    written(write_check(&config, out), Ok(Outcome::Done))
 }
 
 fn write_check<O: Sink>(config: &Config, out: &mut O) -> Result<(), WriteFailed>
@@ -92,17 +90,15 @@ pub fn cut_out<S: Source, O: Sink>(
     out: &mut O,
 ) -> Result<Outcome, Fault>
     requires { O.failed out.old < 2 ^ 48 }
-    ensures comes { PrintsOrFaults O.taken O.failed out.old out.new (NoFault (IsCutOutput core (S.files source.new)))
-        (HasNoCut core (S.files source.new)) result }
+    ensures comes { PrintsFrom O.taken O.failed out.old out.new (NoFault (IsCutOutput core (S.files source.new)))
+        (HasNoCut core (S.files source.new)) (S.files source.new) (S.count source.new) result }
     ensures ahead { length (S.files source.new) ≤ max (length (S.files source.old)) 1 }
-    ensures asked { IfErr result (IsAsked (S.count source.new) (S.files source.new)) }
     ensures count { S.count source.new ≡ S.count source.old }
     ensures known { S.known source.new ≡ S.known source.old }
 {
     let config = config_in(alloc, source)?;
     let text = text_of_cut(alloc, &config, core)?;
-    write_line(out, text.as_str())?;
-    Ok(Outcome::Done)
+    written(write_line(out, text.as_str()), Ok(Outcome::Done))
 }
 
 // The text of the core's own configuration.

@@ -2,7 +2,7 @@
 
 ghost use Rattle.std.specs.Prelude.{◌≡◌, ◌<◌, ◌≤◌, ◌^◌};
 ghost use Rattle.ostrace.specs.Taken.{Writes};
-ghost use Rattle.osjob.specs.{Faults.fault_text, Performs.Tells, Performs.status_of, Program.Closes, Program.SendsOff};
+ghost use Rattle.osjob.specs.{Faults.fault_text, Performs.Tells, Performs.status_of, Performs.unless_refused, Program.Closes, Program.SendsOff};
 
 use crate::faults::Fault;
 use crate::outcomes::{FAULT, Outcome};
@@ -25,6 +25,17 @@ fn send_off<O: Output>(ending: Result<Outcome, Fault>, out: &mut O) -> Result<Ou
     ensures { SendsOff O.taken O.sent O.failed out.old out.new ending result }
 {
     out.flush()?;
+    ending
+}
+
+/// The ending, unless a write of what was printed was refused.
+pub fn written(
+    writes: Result<(), WriteFailed>,
+    ending: Result<Outcome, Fault>,
+) -> Result<Outcome, Fault>
+    ensures { result ≡ unless_refused writes ending }
+{
+    writes?;
     ending
 }
 

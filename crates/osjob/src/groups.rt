@@ -6,10 +6,10 @@ ghost use Rattle.osbase.specs.Sets.{core_ids, has_core};
 ghost use Rattle.osplan.specs.declared.faults.ConfFault.TheVariants.{NoMemory};
 ghost use Rattle.ostrace.specs.Taken.{Writes};
 ghost use Rattle.osjob.specs.Groups.{group_at, group_head, group_line, groups_text, number_at, number_word};
-ghost use Rattle.osjob.specs.Performs.{PrintsOrFaults, HasNoConfig, HasNoGroup, IsGroupOf, IsGroupOutput, IsGroupsOutput, NoFault};
-ghost use Rattle.osjob.specs.Texts.{IsAsked};
+ghost use Rattle.osjob.specs.Performs.{PrintsFrom, HasNoConfig, HasNoGroup, IsGroupOf, IsGroupOutput, IsGroupsOutput, NoFault};
 
 use crate::checks::write_line;
+use crate::endings::written;
 use crate::faults::Fault;
 use crate::outcomes::Outcome;
 use crate::readings::{config_in, known_core};
@@ -28,16 +28,14 @@ pub fn groups_out<S: Source, O: Sink>(
     out: &mut O,
 ) -> Result<Outcome, Fault>
     requires { O.failed out.old < 2 ^ 48 }
-    ensures comes { PrintsOrFaults O.taken O.failed out.old out.new (NoFault (IsGroupsOutput (S.files source.new)))
-        (HasNoConfig (S.files source.new)) result }
+    ensures comes { PrintsFrom O.taken O.failed out.old out.new (NoFault (IsGroupsOutput (S.files source.new)))
+        (HasNoConfig (S.files source.new)) (S.files source.new) (S.count source.new) result }
     ensures ahead { length (S.files source.new) ≤ max (length (S.files source.old)) 1 }
-    ensures asked { IfErr result (IsAsked (S.count source.new) (S.files source.new)) }
     ensures count { S.count source.new ≡ S.count source.old }
     ensures known { S.known source.new ≡ S.known source.old }
 {
     let config = config_in(alloc, source)?;
-    write_groups(&config, out)?;
-    Ok(Outcome::Done)
+    written(write_groups(&config, out), Ok(Outcome::Done))
 }
 
 fn write_groups<O: Sink>(config: &Config, out: &mut O) -> Result<(), WriteFailed>
@@ -118,18 +116,16 @@ pub fn group_out<S: Source, O: Sink>(
     out: &mut O,
 ) -> Result<Outcome, Fault>
     requires { O.failed out.old < 2 ^ 48 }
-    ensures comes { PrintsOrFaults O.taken O.failed out.old out.new (NoFault (IsGroupOutput core (S.files source.new)))
-        (HasNoGroup core (S.files source.new)) result }
+    ensures comes { PrintsFrom O.taken O.failed out.old out.new (NoFault (IsGroupOutput core (S.files source.new)))
+        (HasNoGroup core (S.files source.new)) (S.files source.new) (S.count source.new) result }
     ensures ahead { length (S.files source.new) ≤ max (length (S.files source.old)) 1 }
-    ensures asked { IfErr result (IsAsked (S.count source.new) (S.files source.new)) }
     ensures count { S.count source.new ≡ S.count source.old }
     ensures known { S.known source.new ≡ S.known source.old }
 {
     let config = config_in(alloc, source)?;
     known_core(&config, core)?;
     let text = text_of_group(alloc, &config, core)?;
-    write_line(out, text.as_str())?;
-    Ok(Outcome::Done)
+    written(write_line(out, text.as_str()), Ok(Outcome::Done))
 }
 
 // The text of the group's own configuration.

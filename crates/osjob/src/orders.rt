@@ -6,6 +6,7 @@ ghost use Rattle.osplan.specs.Stimuli.{AreKnown};
 ghost use Rattle.osrun.specs.Sound.{IsOwn};
 ghost use Rattle.osjob.specs.{Performs.PrintsOrFaults, Performs.IsOrderPrinted, Runs.order_line};
 
+use crate::endings::written;
 use crate::faults::Fault;
 use crate::outcomes::Outcome;
 use osbase::Report;
@@ -32,8 +33,10 @@ pub fn print_order<O: Sink>(
     let Ok(line) = order_line(alloc, order(alloc, config, stimuli, reports)) else {
         return Err(Fault::NoMemoryToRun);
     };
-    write_all(out, line.as_bytes())?;
-    Ok(Outcome::of_run(have_all_ended(config.plan(), reports)))
+    written(
+        write_all(out, line.as_bytes()),
+        Ok(Outcome::of_run(have_all_ended(config.plan(), reports))),
+    )
 }
 
 fn order_line(alloc: Global, turns: Option<Schedule>) -> Result<String, AllocError>

@@ -8,7 +8,7 @@ ghost use Rattle.osjob.specs.{declared.outcomes.Outcome.TheVariants.Done, Perfor
 ghost use Rattle.osjob.specs.declared.program.NoWords.TheVariants as no_words;
 ghost use Rattle.osjob.specs.Program.{Answers, DoesJob, IsMistaken, PrintsJob, Refuses, is_request};
 
-use crate::endings::close;
+use crate::endings::{close, written};
 use crate::faults::Fault;
 use crate::files::Paths;
 use crate::outcomes::{Outcome, USAGE};
@@ -135,8 +135,7 @@ fn show<O: Sink>(text: &str, out: &mut O) -> Result<Outcome, Fault>
     requires { O.failed out.old < 2 ^ 48 }
     ensures { Prints O.taken O.failed out.old out.new text.now (Ok Done) result }
 {
-    write_all(out, text.as_bytes())?;
-    Ok(Outcome::Done)
+    written(write_all(out, text.as_bytes()), Ok(Outcome::Done))
 }
 
 // Tells a mistake in the words; answers the exit status.

@@ -1,10 +1,11 @@
 //! Replaying a log: one core alone, and its block.
 
-ghost use Rattle.std.specs.Prelude.{◌≡◌, ◌<◌, ◌≤◌, ◌^◌, IfErr, IsSome, Ok, Result, length, max};
+ghost use Rattle.std.specs.Prelude.{◌≡◌, ◌<◌, ◌≤◌, ◌^◌, IsSome, Ok, Result, length, max};
 ghost use Rattle.ostrace_text.specs.Trace.{block_of};
 ghost use Rattle.osplan.specs.View.{core_of};
-ghost use Rattle.osjob.specs.{Performs.PrintsOrFaults, Performs.Prints, Replays.HasNoReplay, Replays.IsReplayOutput, Replays.Replays, Runs.StopsAtFaults, Texts.IsAsked};
+ghost use Rattle.osjob.specs.{Performs.Prints, Performs.PrintsFrom, Performs.PrintsOrFaults, Replays.HasNoReplay, Replays.IsReplayOutput, Replays.Replays, Runs.StopsAtFaults};
 
+use crate::endings::written;
 use crate::faults::Fault;
 use crate::outcomes::Outcome;
 use crate::readings::{config_in, known_core, log_in};
@@ -25,11 +26,10 @@ pub fn replay_out<S: Source, O: Sink>(
     out: &mut O,
 ) -> Result<Outcome, Fault>
     requires { O.failed out.old < 2 ^ 48 }
-    ensures comes { PrintsOrFaults O.taken O.failed out.old out.new (IsReplayOutput core (S.files source.new))
-        (HasNoReplay core (S.files source.new)) result }
+    ensures comes { PrintsFrom O.taken O.failed out.old out.new (IsReplayOutput core (S.files source.new))
+        (HasNoReplay core (S.files source.new)) (S.files source.new) (S.count source.new) result }
     ensures stops { StopsAtFaults (length (S.files source.old)) (S.files source.new) }
     ensures ahead { length (S.files source.new) ≤ max (length (S.files source.old)) 2 }
-    ensures asked { IfErr result (IsAsked (S.count source.new) (S.files source.new)) }
     ensures count { S.count source.new ≡ S.count source.old }
     ensures known { S.known source.new ≡ S.known source.old }
 {
@@ -71,6 +71,5 @@ fn print<O: Sink>(
     requires { O.failed out.old < 2 ^ 48 }
     ensures { Prints O.taken O.failed out.old out.new (block_of config.now report.now) ending result }
 {
-    write_reports(config, out, slice::from_ref(report))?;
-    ending
+    written(write_reports(config, out, slice::from_ref(report)), ending)
 }

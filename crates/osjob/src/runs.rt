@@ -10,6 +10,7 @@ ghost use Rattle.oscommand.specs.Jobs.{listed, path_in};
 ghost use Rattle.osjob.specs.Performs.{PrintsOrFaults, HasNoItems, IsReported, IsRunPrinted, IsRead, Prints, outcome_of};
 ghost use Rattle.osjob.specs.Runs.{AreOfTurns, Consumes, are_items_known, items_in, last_line, run_text};
 
+use crate::endings::written;
 use crate::faults::Fault;
 use crate::outcomes::Outcome;
 use crate::readings::{config_in, known_core, schedule_in, stimuli_in};
@@ -118,8 +119,10 @@ fn print<O: Sink>(config: &Config, out: &mut O, reports: &[Report]) -> Result<Ou
         (Ok (outcome_of (have_all_ended config.now reports.now))) result }
 {
     let ended = have_all_ended(config.plan(), reports);
-    write_run(config, out, reports, ended)?;
-    Ok(Outcome::of_run(ended))
+    written(
+        write_run(config, out, reports, ended),
+        Ok(Outcome::of_run(ended)),
+    )
 }
 
 // Prints the log of a core alone, and answers whether the run ended or stalled.
@@ -135,8 +138,10 @@ fn print_log<O: Sink>(
         (λ fault. fault ≡ Fault.NoMemoryToRun) result }
 {
     let text = items_text(alloc, config, items_of(reports, core))?;
-    write_all(out, text.as_bytes())?;
-    Ok(Outcome::of_run(have_all_ended(config.plan(), reports)))
+    written(
+        write_all(out, text.as_bytes()),
+        Ok(Outcome::of_run(have_all_ended(config.plan(), reports))),
+    )
 }
 
 // The items of a core: none of one without a report.

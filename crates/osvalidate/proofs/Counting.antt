@@ -8,7 +8,7 @@ use Rattle.osvalidate.specs.Check.{are_scripts_short, alarm_sizes, bare_sizes, c
 use Rattle.osschema.specs.{Declarations.declarations, Shape.objects_in, Shape.unnumbered}
 use Rattle.osschema.proofs.Lists.{all-split, list_all-every}
 use Rattle.osvalidate.specs.{Operation.operations_of, Posted.most_posts_per_tick, Few.are_objects_few, Few.is_core_few}
-use Rattle.std.proofs.lemmas.Bool.{and_from, and_parts, false_from_ne_true, false≢true}
+use Rattle.std.proofs.lemmas.Bool.{and_from, and_parts}
 use Rattle.osplan.specs.{declared.faults.ConfFault.TheVariants.Limit, declared.plans.TheConstants.KINDS, Fault.failing, Fault.first_fault}
 use Rattle.osplan.proofs.{Tests.all-weaker, Within.few-of}
 
@@ -27,15 +27,12 @@ core-split objects core =
 
 -- none of a core's scripts is too long: none of a task, and none of an ISR
 pub core_shorts : (core : CoreText) → is_core_short core ≡ (list_all (λ (task : TaskText). is_script_short task.script) core.tasks && list_all (λ (isr : IsrText). is_script_short isr.script) core.isrs)
-core_shorts core =
-    list_all-append is_script_short (map (λ (task : TaskText). task.script) core.tasks) (map (λ (isr : IsrText). isr.script) core.isrs)
-    ∙ rw (list_all-map is_script_short (λ (task : TaskText). task.script) core.tasks, list_all-map is_script_short (λ (isr : IsrText). isr.script) core.isrs) refl
+core_shorts core = simp (list_all-append, list_all-map)
 
 cores-split : (objects : List Declaration) (cores : List CoreText) → list_all is_core_within (map (core_sizes objects) cores) ≡ (list_all is_core_numbered (map (core_sizes objects) cores) && list_all is_core_short cores)
 cores-split objects cores =
-    list_all-map is_core_within (core_sizes objects) cores
-    ∙ all-split (λ core. is_core_within (core_sizes objects core)) (λ core. is_core_numbered (core_sizes objects core)) is_core_short (core-split objects) cores
-    ∙ ap (λ b. b && list_all is_core_short cores) (sym (list_all-map is_core_numbered (core_sizes objects) cores))
+    rw (list_all-map is_core_within (core_sizes objects) cores, list_all-map is_core_numbered (core_sizes objects) cores)
+    (all-split (λ core. is_core_within (core_sizes objects core)) (λ core. is_core_numbered (core_sizes objects core)) is_core_short (core-split objects) cores)
 
 -- a last test of several is a test apart
 last-apart : (versioned others numbered short : Bool) → (versioned && (others && (numbered && short))) ≡ ((versioned && (others && numbered)) && short)
@@ -79,11 +76,11 @@ by-few t h =
     and_from _ _ (and_from _ _ (and_from _ _ modes (and_from _ true spinlocks refl)) (ap (λ n. nat_le n 16) (sym (length-map t.cores (core_sizes objects))) ∙ grind arith))
     (all-weaker (λ core. is_core_numbered (core_sizes objects core)) is_core_few (core-few objects) t.cores (sym (list_all-map is_core_numbered (core_sizes objects) t.cores) ∙ grind arith))
 
-numbered-few : (t : ConfigText) → is_text_numbered t ≡ true → are_objects_few t ≡ true
-numbered-few t h = by-few t (and_parts (is_versioned (sizes_of t)) (is_by is_core_numbered (sizes_of t)) h).1
+-- Where the numbers are within their limits there are few objects; where there are many, no text is within them.
+past-limits : (within numbered short few : Bool) → within ≡ (numbered && short) → (numbered ≡ true → few ≡ true) → few ≡ false → within ≡ false
+past-limits within numbered short few split imply many = grind arith
 
 pub too_many : (t : ConfigText) → are_objects_few t ≡ false → first_fault (failing (tests_of t)) ≡ Some Limit
 too_many t many =
-    let numbered = λ (h : is_text_within t ≡ true). (and_parts (is_text_numbered t) (are_scripts_short t) (sym (within_split t) ∙ h)).0 in
-    let within : is_text_within t ≡ false = false_from_ne_true (is_text_within t) (λ h. absurd (false≢true (sym many ∙ numbered-few t (numbered h)))) in
-    rw (within) refl
+    let few = λ (h : is_text_numbered t ≡ true). by-few t (and_parts (is_versioned (sizes_of t)) (is_by is_core_numbered (sizes_of t)) h).1 in
+    rw (past-limits (is_text_within t) (is_text_numbered t) (are_scripts_short t) (are_objects_few t) (within_split t) few many) refl

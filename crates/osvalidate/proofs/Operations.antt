@@ -14,25 +14,24 @@ each-made : {X Y : Type 0} (f : X → Y) (xs : List X) → each (λ x. Some (f x
 each-made f [] = refl
 each-made f (x ∷ xs) = rw (each-made f xs) refl
 
+some-few : {X : Type 0} (few : Bool) (x y : X) → cond few (Some x) None ≡ Some y → (few ≡ true) × (y ≡ x)
+some-few few x y e = grind arith
+
+none-few : {X : Type 0} (few : Bool) (x : X) → cond few (Some x) None ≡ None → few ≡ false
+none-few few x e = grind arith
+
 module _ (objects : List Declaration) (id : CoreId) where
   -- ---- each operation of any script
 
   abbrev pub judged : List (List ℕ) → List (Judged Op)
   judged texts = map (judged_op objects id) texts
 
-  -- Each text is judged, where there are few,
+  -- Each text is judged, where there are few, and none where there are too many.
   pub judged-some : (texts : List (List ℕ)) (parts : List (Judged Op)) → each_of_few 256 (λ text. Some (judged_op objects id text)) texts ≡ Some parts → (nat_le (length texts) 256 ≡ true) × (parts ≡ judged texts)
-  judged-some texts parts e =
-      let few = cond-some (nat_le (length texts) 256) _ parts e in
-      let are : Some (judged texts) ≡ Some parts = sym (each-made (judged_op objects id) texts) ∙ few.1 in
-      (few.0, cc)
+  judged-some texts parts e = some-few (nat_le (length texts) 256) (judged texts) parts (rw (each-made (judged_op objects id) texts) at e)
 
-  none-few : {X : Type 0} (few : Bool) (x : X) → cond few (Some x) None ≡ None → few ≡ false
-  none-few few x e = grind arith
-
-  -- and none where there are too many.
   pub judged-none : (texts : List (List ℕ)) → each_of_few 256 (λ text. Some (judged_op objects id text)) texts ≡ None → nat_le (length texts) 256 ≡ false
-  judged-none texts e = none-few (nat_le (length texts) 256) (judged texts) (ap (λ o. cond (nat_le (length texts) 256) o None) (sym (each-made (judged_op objects id) texts)) ∙ e)
+  judged-none texts e = none-few (nat_le (length texts) 256) (judged texts) (rw (each-made (judged_op objects id) texts) at e)
 
   -- ---- texts that mean operations
 

@@ -7,8 +7,8 @@ ghost use Rattle.ossyntax.specs.Operation.{op_of_text, place_of_any};
 ghost use Rattle.osplan.specs.Representable.{goes_within, is_jumping_within};
 ghost use Rattle.osplan.specs.Limits as limits;
 ghost use Rattle.osschema.specs.Declarations.{counter_ref, place_of};
-ghost use Rattle.osvalidate.specs.{declared.verdicts.Judged.Judged as JudgedValue, declared.verdicts.Verdict.Verdict as VerdictValue, Action.action_of, Action.is_action_known, Action.is_action_masked, Check.is_operation_local, Operation.is_operation, Operation.op_of, Operation.operations_of};
-ghost use Rattle.osvalidate.specs.Verdict.{Judges, action_verdict, counter_verdict, isr_verdict, judged_op, script_verdict};
+ghost use Rattle.osvalidate.specs.{declared.verdicts.Judged.Judged as JudgedValue, Action.action_of, Action.is_action_known, Action.is_action_masked, Check.is_operation_local, Operation.is_operation, Operation.op_of, Operation.operations_of};
+ghost use Rattle.osvalidate.specs.Verdict.{Judges, action_verdict, counter_verdict, each, isr_verdict, judged_op, script_verdict};
 
 use crate::verdicts::{Judged, Verdict};
 use osbase::{
@@ -132,28 +132,15 @@ fn ops_of(alloc: Global, parts: &[Judged<Op>]) -> Result<Vec<Op>, AllocError>
     Ok(ops)
 }
 
-fn are_parts_known(parts: &[Judged<Op>]) -> bool
-    ensures { result ≡ list_all (λ (part : JudgedValue OpValue). part.verdict.known) parts.now }
+// What is right of all parts.
+fn verdict_of_parts(parts: &[Judged<Op>]) -> Verdict
+    ensures { result ≡ each (λ (part : JudgedValue OpValue). part.verdict) parts.now }
 {
-    parts.iter().all(|part| part.verdict.known)
-}
-
-fn are_parts_near(parts: &[Judged<Op>]) -> bool
-    ensures { result ≡ list_all (λ (part : JudgedValue OpValue). part.verdict.near) parts.now }
-{
-    parts.iter().all(|part| part.verdict.near)
-}
-
-fn are_parts_masked(parts: &[Judged<Op>]) -> bool
-    ensures { result ≡ list_all (λ (part : JudgedValue OpValue). part.verdict.masked) parts.now }
-{
-    parts.iter().all(|part| part.verdict.masked)
-}
-
-fn are_parts_formed(parts: &[Judged<Op>]) -> bool
-    ensures { result ≡ list_all (λ (part : JudgedValue OpValue). part.verdict.formed) parts.now }
-{
-    parts.iter().all(|part| part.verdict.formed)
+    let mut verdict = Verdict::all_right();
+    for part in parts {
+        verdict = verdict.and(part.verdict);
+    }
+    verdict
 }
 
 // The operations of a script that has too many, or not all of which mean one.
@@ -168,15 +155,11 @@ fn judge_parts(
     match read_parts(alloc, &OpJudge { objects, core }, script, ';', OPERATIONS) {
         Ok(parts) => {
             let ops = List::from_vec(ops_of(alloc, parts.as_slice())?);
-            let verdict = Verdict {
-                known: are_parts_known(parts.as_slice()),
-                near: are_parts_near(parts.as_slice()),
-                masked: are_parts_masked(parts.as_slice()),
-                formed: are_parts_formed(parts.as_slice()) & is_jumping_within(ops.as_slice()),
-            };
+            let verdict = verdict_of_parts(parts.as_slice());
+            let formed = verdict.formed & is_jumping_within(ops.as_slice());
             Ok(Judged {
                 value: ops,
-                verdict,
+                verdict: Verdict { formed, ..verdict },
             })
         }
         Err(Refusal::OutOfMemory) => Err(ConfFault::NoMemory),

@@ -1,13 +1,11 @@
-use Rattle.std.proofs.Common.{ap, ap₂, codes, ◌≡◌, ◌∙◌}
+use Rattle.std.proofs.Common.{ap₂, ◌∙◌}
 use Rattle.std.proofs.lemmas.Result.{IfOk-weaker}
-use Rattle.clap.specs.{Simple.app_of_fields, Words.app_of, Words.new_app, Words.with_rule}
+use Rattle.clap.specs.Words.{with_rule}
 use Rattle.oscommand.proofs.jobs.run_command.Goals as goal
 
 pub returns : goal.returns
 returns c =
-    let new_run : app_of c.after_help.result ≡ new_app (codes "run") = ap app_of_fields c.after_help.ensures ∙ ap app_of_fields c.about.ensures ∙ c.new.ensures.app in
-    IfOk-weaker c.arg-4.result _ _ (λ r h. h.shape c.items_arg.ensures.own
-    ∙ ap₂ with_rule (c.in_ok-arg-3.ensures.shape c.schedule_arg.ensures.own
-    ∙ ap₂ with_rule (c.in_ok-arg-2.ensures.shape c.stimuli_arg.ensures.own
-    ∙ ap₂ with_rule (c.in_ok-arg.ensures.shape c.config_arg.ensures.own
-    ∙ ap₂ with_rule new_run c.config_arg.ensures.rule) c.stimuli_arg.ensures.rule) c.schedule_arg.ensures.rule) c.items_arg.ensures.rule) c.arg-4.ensures
+    IfOk-weaker c.arg-3.result _ _ (λ r h. h.shape c.items_arg.ensures.own
+    ∙ ap₂ with_rule (c.in_ok-arg-2.ensures.shape c.schedule_arg.ensures.own
+    ∙ ap₂ with_rule (c.in_ok-arg.ensures.shape c.stimuli_arg.ensures.own
+    ∙ ap₂ with_rule c.in_ok-config_command.ensures c.stimuli_arg.ensures.rule) c.schedule_arg.ensures.rule) c.items_arg.ensures.rule) c.arg-3.ensures

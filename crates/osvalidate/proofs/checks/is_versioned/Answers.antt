@@ -1,9 +1,6 @@
-use Rattle.std.proofs.Common.{◌≡◌, true, rules, ◌∙◌}
-use Rattle.osplan.specs.Limits.{is_between}
+use Rattle.std.proofs.Common.{rules, ◌∙◌}
 use Rattle.osvalidate.proofs.Counting.{cores-versioned}
 use Rattle.osvalidate.proofs.checks.is_versioned.Goals as goal
 
 pub returns-then-is_between : goal.returns-then-is_between
-returns-then-is_between c =
-    let version : is_between 1 2 c.args.text.now.version ≡ true = search rules in
-    c.are_cores_below.ensures ∙ rw (c.as_slice.ensures, c.cores_by-most.ensures.count) (cores-versioned c.args.text.now version)
+returns-then-is_between c = c.are_cores_below.ensures ∙ rw (c.as_slice.ensures, c.cores_by-most.ensures.count) (cores-versioned c.args.text.now (search rules))

@@ -10,8 +10,7 @@ returns-in_ok-ops_of-in-Ok c =
     let value : c.from_vec-ops.result ≡ map (op_of c.args.objects.now.declared) (operations_of c.args.script.now) = rw (c.from_vec-ops.ensures, c.in_ok-ops_of-in-Ok.ensures, c.as_slice.ensures, j.1) (simp map-map refl) in (
       j.0,
       value,
-      rw (c.are_parts_known.ensures, c.are_parts_near.ensures, c.are_parts_masked.ensures, c.are_parts_formed.ensures, c.is_jumping_within.ensures)
-          (rw (c.as_slice-in-Ok.ensures, c.as_slice-in-Ok-2.ensures, c.as_slice-in-Ok-3.ensures, c.as_slice-in-Ok-4.ensures, c.as_slice-in-Ok-5.ensures) (rw (value, j.1) (simp list_all-map refl))),
+      rw (c.verdict_of_parts-verdict.ensures, c.is_jumping_within.ensures, c.as_slice-in-Ok.ensures, c.as_slice-in-Ok-2.ensures, value, j.1) (simp list_all-map refl),
     )
 
 pub returns-in-Err-Unfit : goal.returns-in-Err-Unfit

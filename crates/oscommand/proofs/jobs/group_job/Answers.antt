@@ -1,5 +1,0 @@
-use Rattle.std.proofs.Common.{refl}
-use Rattle.oscommand.proofs.jobs.group_job.Goals as goal
-
-pub returns : goal.returns
-returns c = ((c.config_of.ensures, c.core_of.ensures), refl)
