@@ -78,6 +78,7 @@ impl Shared {
 
     /// The request of a turn of this core, with the reply; `None` if it requests nothing, serves a core from which there is
     /// no envelope, or looks at a board that shows it nothing new, as most turns do.
+    #[inline(always)]
     pub fn request_and_reply(
         &self,
         plan: &Plan,
@@ -107,6 +108,7 @@ impl Shared {
     }
 
     // The same of any turn, without that test.
+    #[inline(always)]
     fn request_and_reply_always(
         &self,
         plan: &Plan,
