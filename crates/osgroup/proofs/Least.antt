@@ -1,14 +1,15 @@
 -- The least group of a core is a group, and lies in every group of the core. As many rounds as there are cores are enough.
 use Rattle.std.proofs.Common.{◌≡◌, ℕ, zero, suc, ◌+◌, ◌<◌, Bool, true, false, ◌&&◌, ◌||◌, List, [], ◌∷◌, Some, is_some, length, replicate, slice_get, IsTrue, inl, inr, refl, sym, ap, subst, ◌∙◌, add-one, arith}
-use Rattle.std.specs.List.{AllByRecursion, list_any}
-use Rattle.std.proofs.lemmas.Bool.{and_parts, and_from, cases_lt, ltb-true, or_cases, or_left, or_right, false≢true}
+use Rattle.std.proofs.{Math.Path.fun_ext, lemmas.Map.Keys.any_passes_from_place}
+use Rattle.std.specs.{Cmp.both_ways, List.AllByRecursion, List.list_any}
+use Rattle.std.proofs.lemmas.Bool.{and_parts, and_from, cases_lt, false≢true, false_from_ne_true, ltb-true, or_cases, or_left, or_right}
 use Rattle.osbase.specs.{declared.references.CoreId.CoreId, declared.items.CoreSet.CoreSet, History.same_core, Sets.has_core}
 use Rattle.osbase.proofs.{Places.passes-at, Same.same_core-refl, Same.same_core-true, Sets.has_core-flag, Sets.no-flag}
 use Rattle.osplan.specs.{declared.plans.Plan.Plan, declared.plans.Core.Core, Limits.is_within_limits, View.core_of}
 use Rattle.osplan.proofs.{Numbered.configured-low, Numbered.numbers-low, Rounds.Stays, Rounds.settled, Tests.any-find}
 use Rattle.osgroup.specs.Groups.{belongs_within, has_say, is_group, is_heard, is_in_least_group}
-use Rattle.osgroup.specs.Least.{AreRows, IsLeast, is_in_one_row, is_in_row, is_next, has_say_in}
-use Rattle.osgroup.proofs.Among.{any-equal, any-one, both-ways, one-any, recursion-at}
+use Rattle.osgroup.specs.Least.{AreRows, IsLeast, is_in_one_row, is_next, has_say_in}
+use Rattle.osgroup.proofs.Among.{any-one, recursion-at}
 use Rattle.osgroup.proofs.Members.{GroupParts, core-low, group-from, group-parts}
 
 -- two tests that agree on all elements, beside a third
@@ -33,20 +34,14 @@ module _ (plan : Plan) where
 
   heard-one : (cores : CoreId → Bool) (id : CoreId) → is_heard plan cores id ≡ true → Heard cores id
   heard-one cores id e =
-      let other = any-one (λ (o : Core). same_core o.id id && list_any (λ (c : Core). cores c.id && has_say plan o c) plan.cores) plan.cores e in
-      let parts = and_parts (same_core other.one.id id) (list_any (λ (c : Core). cores c.id && has_say plan other.one c) plan.cores) other.passes in
-      let core = any-one (λ (c : Core). cores c.id && has_say plan other.one c) plan.cores parts.1 in
-      let both = and_parts (cores core.one.id) (has_say plan other.one core.one) core.passes in
+      let other = any-one _ plan.cores e in
+      let parts = and_parts _ _ other.passes in
+      let core = any-one _ plan.cores parts.1 in
+      let both = and_parts _ _ core.passes in
       record { other = other.one; core = core.one; i = core.at; j = other.at; here = core.there; there = other.there; same = parts.0; inside = both.0; says = both.1 }
 
   one-heard : (cores : CoreId → Bool) (id : CoreId) → Heard cores id → is_heard plan cores id ≡ true
-  one-heard cores id h =
-      one-any (λ (o : Core). same_core o.id id && list_any (λ (c : Core). cores c.id && has_say plan o c) plan.cores) plan.cores h.j h.other h.there
-      (and_from _ _ h.same (one-any (λ (c : Core). cores c.id && has_say plan h.other c) plan.cores h.i h.core h.here (and_from _ _ h.inside h.says)))
-
-  heard-same : (p q : CoreId → Bool) → ((id : CoreId) → p id ≡ q id) → (id : CoreId) → is_heard plan p id ≡ is_heard plan q id
-  heard-same p q same id =
-      any-equal _ _ (λ (o : Core). ap (λ b. same_core o.id id && b) (any-equal _ _ (λ (c : Core). ap (λ b. b && has_say plan o c) (same c.id)) plan.cores)) plan.cores
+  one-heard cores id h = any_passes_from_place _ plan.cores h.j h.other h.there (and_from _ _ h.same (any_passes_from_place _ plan.cores h.i h.core h.here (and_from _ _ h.inside h.says)))
 
 -- ---- rounds
 
@@ -62,7 +57,7 @@ module _ (plan : Plan) (core : CoreId) where
 
   heard-stays : (n : ℕ) → Stays test plan.cores n → (id : CoreId) → is_heard plan (within (suc n)) id ≡ is_heard plan (within n) id
   heard-stays n stays id =
-      any-equal _ _ (λ (o : Core). ap (λ b. same_core o.id id && b) (any-beside (test (suc n)) (test n) (has_say plan o) plan.cores stays)) plan.cores
+      ap (λ (says : Core → Bool). list_any (λ (o : Core). same_core o.id id && says o) plan.cores) (fun_ext (λ (o : Core). any-beside (test (suc n)) (test n) (has_say plan o) plan.cores stays))
 
   stays-on : (n : ℕ) → Stays test plan.cores n → (c : Core) → test (suc n) c ≡ test n c → test (suc (suc n)) c ≡ test (suc n) c
   stays-on n stays c same =
@@ -74,13 +69,13 @@ module _ (plan : Plan) (core : CoreId) where
   -- ---- what belongs
 
   within-configured : (n : ℕ) (id : CoreId) → within n id ≡ true → is_some (core_of plan id) ≡ true
-  within-configured zero id e = (and_parts (same_core id core) (is_some (core_of plan id)) e).1
+  within-configured zero id e = (and_parts _ _ e).1
   within-configured (suc n) id e =
       elim (or_cases (within n id) (is_heard plan (within n) id) e) as (λ _. is_some (core_of plan id) ≡ true) [
         | inl before ↦ within-configured n id before
         | inr heard ↦
             let h = heard-one plan (within n) id heard in
-            sym (any-find (λ (c : Core). same_core c.id id) plan.cores) ∙ one-any (λ (c : Core). same_core c.id id) plan.cores h.j h.other h.there h.same
+            sym (any-find (λ (c : Core). same_core c.id id) plan.cores) ∙ any_passes_from_place _ plan.cores h.j h.other h.there h.same
       ]
 
   within-later : (n : ℕ) → within zero core ≡ true → within n core ≡ true
@@ -88,7 +83,7 @@ module _ (plan : Plan) (core : CoreId) where
   within-later (suc n) e = or_left _ _ (within-later n e)
 
   within-group : (group : CoreSet) → GroupParts plan group → has_core group core ≡ true → (n : ℕ) (id : CoreId) → within n id ≡ true → has_core group id ≡ true
-  within-group group parts own zero id e = ap (has_core group) (same_core-true id core (and_parts (same_core id core) (is_some (core_of plan id)) e).0) ∙ own
+  within-group group parts own zero id e = ap (has_core group) (same_core-true id core (and_parts _ _ e).0) ∙ own
   within-group group parts own (suc n) id e =
       elim (or_cases (within n id) (is_heard plan (within n) id) e) as (λ _. has_core group id ≡ true) [
         | inl before ↦ within-group group parts own n id before
@@ -135,68 +130,53 @@ module _ (plan : Plan) (limits : IsTrue (is_within_limits plan)) where
   low-same core n cores same id =
       elim (cases_lt id.number 16) as (λ _. has_core cores id ≡ belongs_within plan core n id) [
         | inl lt ↦ same id lt
-        | inr ge ↦ both-ways _ _
+        | inr ge ↦ both_ways _ _
             (λ inside. absurd (omega (arith, ge, core-low cores id inside)))
             (λ belongs. absurd (omega (arith, ge, configured-low plan id limits (within-configured plan core n id belongs))))
       ]
 
-  one-first : (core id : CoreId) → is_some (core_of plan core) ≡ true → same_core id core ≡ (same_core id core && is_some (core_of plan id))
-  one-first core id found =
-      both-ways _ _
-      (λ same. and_from _ _ same (ap (λ k. is_some (core_of plan k)) (same_core-true id core same) ∙ found))
-      (λ both. (and_parts (same_core id core) _ both).0)
+  -- the number is the core's, which is configured or not
+  configured-same : (core id : CoreId) → same_core id core ≡ true → is_some (core_of plan id) ≡ is_some (core_of plan core)
+  configured-same core id same = ap (λ k. is_some (core_of plan k)) (same_core-true id core same)
 
   pub first-found : (core : CoreId) (cores : CoreSet) → ((id : CoreId) → id.number < 16 → has_core cores id ≡ same_core id core) → is_some (core_of plan core) ≡ true → IsWithin plan core 0 cores
-  first-found core cores is found = low-same core 0 cores (λ id lt. is id lt ∙ one-first core id found)
+  first-found core cores is found =
+      low-same core 0 cores (λ id lt. is id lt ∙ both_ways _ _ (λ same. and_from _ _ same (configured-same core id same ∙ found)) (λ both. (and_parts _ _ both).0))
 
   pub first-none : (core : CoreId) (cores : CoreSet) → cores.members ≡ replicate 16 false → is_some (core_of plan core) ≡ false → IsWithin plan core 0 cores
   first-none core cores is none =
       low-same core 0 cores (λ id lt.
-      both-ways _ _
-      (λ inside. absurd (false≢true (sym (has_core-flag cores id lt ∙ rw is (no-flag 16 id.number)) ∙ inside)))
-      (λ both.
-      let parts = and_parts (same_core id core) (is_some (core_of plan id)) both in
-      absurd (false≢true (sym none ∙ ap (λ k. is_some (core_of plan k)) (sym (same_core-true id core parts.0)) ∙ parts.1))))
+      has_core-flag cores id lt ∙ rw is (no-flag 16 id.number)
+      ∙ sym (false_from_ne_true _ (λ both. let parts = and_parts _ _ both in false≢true (sym none ∙ sym (configured-same core id parts.0) ∙ parts.1))))
 
   -- A core of the set has this one in its row where this one has a say in what one of them does.
   in-rows : (rows : List CoreSet) → AreRows plan rows → (cores : CoreSet) (id : CoreId) → id.number < 16 → is_in_one_row plan.cores rows cores id ≡ is_heard plan (has_core cores) id
-  in-rows rows are cores id lt = both-ways _ _ to from
+  in-rows rows are cores id lt = both_ways _ _ to from
     where
       to : is_in_one_row plan.cores rows cores id ≡ true → is_heard plan (has_core cores) id ≡ true
       to e =
-          let first = any-one (λ (c : Core). has_core cores c.id && is_in_row rows c.id id) plan.cores e in
-          let parts = and_parts (has_core cores first.one.id) (is_in_row rows first.one.id id) first.passes in
-          let said = any-one (λ (c : Core). same_core c.id first.one.id && has_say_in plan c id) plan.cores (sym (are first.one.id id (low first.at first.one first.there) lt) ∙ parts.1) in
-          let both = and_parts (same_core said.one.id first.one.id) (has_say_in plan said.one id) said.passes in
-          let told = any-one (λ (o : Core). same_core o.id id && has_say plan o said.one) plan.cores both.1 in
-          let last = and_parts (same_core told.one.id id) (has_say plan told.one said.one) told.passes in
-          one-heard plan (has_core cores) id (record {
-            other = told.one;
-            core = said.one;
-            i = said.at;
-            j = told.at;
-            here = said.there;
-            there = told.there;
-            same = last.0;
-            says = last.1;
-            inside = ap (has_core cores) (same_core-true said.one.id first.one.id both.0) ∙ parts.0;
-          })
+          let first = any-one _ plan.cores e in
+          let parts = and_parts _ _ first.passes in
+          let core = any-one _ plan.cores (sym (are first.one.id id (low first.at first.one first.there) lt) ∙ parts.1) in
+          let both = and_parts _ _ core.passes in
+          let other = any-one _ plan.cores both.1 in
+          let last = and_parts _ _ other.passes in
+          let inside = ap (has_core cores) (same_core-true core.one.id first.one.id both.0) ∙ parts.0 in
+          one-heard plan (has_core cores) id (record { other = other.one; core = core.one; i = core.at; j = other.at; here = core.there; there = other.there; same = last.0; inside = inside; says = last.1 })
 
       from : is_heard plan (has_core cores) id ≡ true → is_in_one_row plan.cores rows cores id ≡ true
       from e =
           let h = heard-one plan (has_core cores) id e in
-          let told = one-any (λ (o : Core). same_core o.id id && has_say plan o h.core) plan.cores h.j h.other h.there (and_from _ _ h.same h.says) in
-          let said = one-any (λ (c : Core). same_core c.id h.core.id && has_say_in plan c id) plan.cores h.i h.core h.here (and_from _ _ (same_core-refl h.core.id) told) in
-          one-any (λ (c : Core). has_core cores c.id && is_in_row rows c.id id) plan.cores h.i h.core h.here
-          (and_from _ _ h.inside (are h.core.id id (low h.i h.core h.here) lt ∙ said))
+          let says : has_say_in plan h.core id ≡ true = any_passes_from_place _ plan.cores h.j h.other h.there (and_from _ _ h.same h.says) in
+          let row = are h.core.id id (low h.i h.core h.here) lt ∙ any_passes_from_place _ plan.cores h.i h.core h.here (and_from _ _ (same_core-refl h.core.id) says) in
+          any_passes_from_place _ plan.cores h.i h.core h.here (and_from _ _ h.inside row)
 
   pub within-next : (core : CoreId) (n : ℕ) (rows : List CoreSet) (before after : CoreSet) → AreRows plan rows → IsWithin plan core n before
       → ((id : CoreId) → id.number < 16 → has_core after id ≡ is_next plan.cores rows before id) → IsWithin plan core (n + 1) after
   within-next core n rows before after are within flags =
       rw add-one
       (low-same core (suc n) after (λ id lt.
-      flags id lt ∙ ap (λ b. has_core before id || b) (in-rows rows are before id lt ∙ heard-same plan (has_core before) (belongs_within plan core n) within id)
-      ∙ ap (λ b. b || is_heard plan (belongs_within plan core n) id) (within id)))
+      flags id lt ∙ ap (λ b. has_core before id || b) (in-rows rows are before id lt) ∙ ap (λ (test : CoreId → Bool). test id || is_heard plan test id) (fun_ext within)))
 
 pub within-all : (plan : Plan) (core : CoreId) (n : ℕ) (cores : CoreSet) → n ≡ length plan.cores → IsWithin plan core n cores → (id : CoreId) → has_core cores id ≡ is_in_least_group plan core id
 within-all plan core n cores all within id = subst (λ (m : ℕ). has_core cores id ≡ belongs_within plan core m id) all (within id)

@@ -2,7 +2,6 @@ pub mod Seeing
 pub mod Among
 pub mod Members
 pub mod Least
-pub mod Sharing
 pub mod Rows
 pub mod Named
 pub mod Apart

@@ -5,26 +5,23 @@ use Rattle.std.proofs.{lemmas.Option.slice_get-get_or, lemmas.List.length-set, l
 use Rattle.osbase.specs.{declared.references.CoreId.CoreId, declared.items.CoreSet.CoreSet, Sets.has_core}
 use Rattle.osplan.specs.declared.plans.Plan.{Plan}
 use Rattle.osgroup.specs.Least.{IsRow, is_in_row, has_say_at}
-
-abbrev core_at : ℕ → CoreId
-core_at n = record { number = n }
+use Rattle.osgroup.proofs.Members.{id_of}
 
 -- The rows below a number.
 abbrev pub AreRowsBelow : Plan → ℕ → List CoreSet → Type 0
-AreRowsBelow plan n rows = (k : ℕ) → k < n → (id : CoreId) → id.number < 16 → is_in_row rows (core_at k) id ≡ has_say_at plan (core_at k) id
+AreRowsBelow plan n rows = (k : ℕ) → k < n → (id : CoreId) → id.number < 16 → is_in_row rows (id_of k) id ≡ has_say_at plan (id_of k) id
 
-in-row : (rows : List CoreSet) (row : CoreSet) (k : ℕ) (id : CoreId) → k < length rows → is_in_row rows (core_at k) id ≡ has_core (get_or rows k row) id
+in-row : (rows : List CoreSet) (row : CoreSet) (k : ℕ) (id : CoreId) → k < length rows → is_in_row rows (id_of k) id ≡ has_core (get_or rows k row) id
 in-row rows row k id lt = ap (λ (o : Option CoreSet). option_map_or (λ (r : CoreSet). has_core r id) o false) (slice_get-get_or rows k row lt)
 
-pub rows-more : (plan : Plan) (rows : List CoreSet) (n : ℕ) (row : CoreSet) → length rows ≡ 16 → n < 16 → IsRow plan (core_at n) row → AreRowsBelow plan n rows → AreRowsBelow plan (n + 1) (set rows n row)
+pub rows-more : (plan : Plan) (rows : List CoreSet) (n : ℕ) (row : CoreSet) → length rows ≡ 16 → n < 16 → IsRow plan (id_of n) row → AreRowsBelow plan n rows → AreRowsBelow plan (n + 1) (set rows n row)
 rows-more plan rows n row len lt here below =
-    below_more (λ k. (id : CoreId) → id.number < 16 → is_in_row (set rows n row) (core_at k) id ≡ has_say_at plan (core_at k) id) n
+    below_more (λ k. (id : CoreId) → id.number < 16 → is_in_row (set rows n row) (id_of k) id ≡ has_say_at plan (id_of k) id) n
     (λ k h id low.
     let ne : k ≢ n = omega arith in
-    let inside : k < length rows = omega arith in
-    let in_set : k < length (set rows n row) = omega (arith, length-set rows n row) in
-    in-row (set rows n row) row k id in_set ∙ ap (λ (r : CoreSet). has_core r id) (get_or-set_other rows n k row row ne) ∙ sym (in-row rows row k id inside) ∙ below k h id low)
-    (λ id low.
-    let inside : n < length rows = omega arith in
-    let in_set : n < length (set rows n row) = omega (arith, length-set rows n row) in
-    in-row (set rows n row) row n id in_set ∙ ap (λ (r : CoreSet). has_core r id) (get_or-set_same rows n row row inside) ∙ here id low)
+    let stays = ap (λ (r : CoreSet). has_core r id) (get_or-set_other rows n k row row ne) in
+    in-set k id (omega arith) ∙ stays ∙ sym (in-row rows row k id (omega arith)) ∙ below k h id low)
+    (λ id low. in-set n id (omega arith) ∙ ap (λ (r : CoreSet). has_core r id) (get_or-set_same rows n row row (omega arith)) ∙ here id low)
+  where
+    in-set : (k : ℕ) (id : CoreId) → k < 16 → is_in_row (set rows n row) (id_of k) id ≡ has_core (get_or (set rows n row) k row) id
+    in-set k id lt = in-row (set rows n row) row k id (omega (arith, length-set rows n row))

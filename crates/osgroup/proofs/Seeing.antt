@@ -1,30 +1,20 @@
 -- What a core of a group sees in the group's configuration.
-use Rattle.std.proofs.Common.{◌≡◌, Bool, true, false, cond, Option, Some, None, option_map, find, map, List, [], ◌∷◌, refl, ap, ◌∙◌, unwrap_or}
+use Rattle.std.proofs.Common.{◌≡◌, true, cond, Bool, Option, Some, None, option_map, find, map, List, [], ◌∷◌, refl, ap, ◌∙◌, arith}
+use Rattle.std.proofs.lemmas.Bool.{cond_both}
 use Rattle.osbase.specs.{declared.references.CoreId.CoreId, declared.items.CoreSet.CoreSet, History.same_core, Sets.has_core}
 use Rattle.osbase.proofs.Same.{same_core-true}
 use Rattle.osplan.specs.{declared.plans.Plan.Plan, declared.plans.Core.Core}
-use Rattle.osplan.specs.View.{View, core_of, no_core, view_from, view_of}
+use Rattle.osplan.specs.View.{core_of, view_of}
 use Rattle.osplan.proofs.Tests.{find-holds}
 use Rattle.osgroup.specs.Groups.{bare_core, group_of, part_of}
 
 -- A part keeps its number.
 pub part-id : (group : CoreSet) (c : Core) → (part_of group c).id ≡ c.id
-part-id group c = by (has_core group c.id)
-  where
-    by : (b : Bool) → (cond b c (bare_core c)).id ≡ c.id
-    by true = refl
-    by false = refl
+part-id group c = cond_both (has_core group c.id) c (bare_core c) (λ (d : Core). d.id ≡ c.id) (λ inside. refl) (λ outside. refl)
 
 find-part : (group : CoreSet) (id : CoreId) (cores : List Core) → find (λ (c : Core). same_core c.id id) (map (part_of group) cores) ≡ option_map (part_of group) (find (λ (c : Core). same_core c.id id) cores)
 find-part group id [] = refl
-find-part group id (c ∷ cs) =
-    ap (λ (k : CoreId). cond (same_core k id) (Some (part_of group c)) (find (λ (d : Core). same_core d.id id) (map (part_of group) cs))) (part-id group c)
-    ∙ by (same_core c.id id) (find-part group id cs)
-  where
-    by : (b : Bool) → find (λ (d : Core). same_core d.id id) (map (part_of group) cs) ≡ option_map (part_of group) (find (λ (d : Core). same_core d.id id) cs)
-        → cond b (Some (part_of group c)) (find (λ (d : Core). same_core d.id id) (map (part_of group) cs)) ≡ option_map (part_of group) (cond b (Some c) (find (λ (d : Core). same_core d.id id) cs))
-    by true rest = refl
-    by false rest = rest
+find-part group id (c ∷ cs) = grind (arith, part-id group c, find-part group id cs)
 
 pub core-part : (plan : Plan) (group : CoreSet) (id : CoreId) → core_of (group_of plan group) id ≡ option_map (part_of group) (core_of plan id)
 core-part plan group id = find-part group id plan.cores
@@ -36,7 +26,7 @@ core-inside plan group id inside = core-part plan group id ∙ by (core_of plan 
     by : (o : Option Core) → core_of plan id ≡ o → option_map (part_of group) o ≡ o
     by None found = refl
     by (Some c) found =
-        let same = same_core-true c.id id (find-holds (λ (d : Core). same_core d.id id) plan.cores c found) in
+        let same = same_core-true c.id id (find-holds (λ (c : Core). same_core c.id id) plan.cores c found) in
         ap (λ (b : Bool). Some (cond b c (bare_core c))) (ap (has_core group) same ∙ inside)
 
 pub ids-same : (group : CoreSet) (cores : List Core) → map (λ (c : Core). c.id) (map (part_of group) cores) ≡ map (λ (c : Core). c.id) cores
@@ -44,6 +34,4 @@ ids-same group [] = refl
 ids-same group (c ∷ cs) = rw (part-id group c, ids-same group cs) refl
 
 pub sees-same : (plan : Plan) (group : CoreSet) (id : CoreId) → has_core group id ≡ true → view_of (group_of plan group) id ≡ view_of plan id
-sees-same plan group id inside =
-    ap (λ (o : Option Core). view_from (group_of plan group) id (unwrap_or o (no_core id))) (core-inside plan group id inside)
-    ∙ ap (λ (ids : List CoreId). let v : View = view_of plan id in let w : View = record v { around = record v.around { cores = ids } } in w) (ids-same group plan.cores)
+sees-same plan group id inside = rw (core-inside plan group id inside, ids-same group plan.cores) refl

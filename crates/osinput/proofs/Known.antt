@@ -5,7 +5,7 @@ use Rattle.std.specs.Prelude.{codes, drop, find, is_some, take, unwrap_or}
 use Rattle.std.proofs.{lemmas.Bool.and_parts, lemmas.Bool.leb-true, lemmas.Option.option_and_then_some, lemmas.Option.same_Some}
 use Rattle.osbase.specs.{declared.references.CoreId.CoreId, declared.references.IsrRef.IsrRef, declared.items.Stimulus.Stimulus, declared.items.Stimulus.TheVariants.Irq, declared.items.Stimulus.TheVariants.Op, declared.items.Stimulus.TheVariants.Tick, declared.turns.CoreStimuli.CoreStimuli, History.same_core, Runs.stimuli_of}
 use Rattle.osbase.proofs.Same.{same_core-true}
-use Rattle.osplan.specs.{declared.plans.Core.Core, declared.plans.Isr.Isr, declared.plans.Plan.Plan, Stimuli.AreKnown, Stimuli.knows_stimulus}
+use Rattle.osplan.specs.{declared.plans.Core.Core, declared.plans.Plan.Plan, Stimuli.AreKnown, Stimuli.knows_stimulus}
 use Rattle.osplan.specs.View.{core_of, no_core, own_isr, view_of}
 use Rattle.osplan.proofs.Tests.{find-holds}
 use Rattle.serde_json.specs.{Data.Data, Find.as_str, Find.as_object}
@@ -27,24 +27,14 @@ own-named : (plan : Plan) (digits : List ℕ) (core : Core) → core_named plan 
 own-named plan digits core e = option_and_then_some _ (core_number digits) core e (λ number is found.
     subst (λ (id : CoreId). core_of plan id ≡ Some core) (sym (same_core-true core.id (record { number = number }) (find-holds (λ (k : Core). same_core k.id (record { number = number })) plan.cores core found))) found)
 
+known-isr : (core : Core) (name : List ℕ) (i : IsrRef) → isr_named core name ≡ Some i → is_some (own_isr core i) ≡ true
+known-isr core name i found = let named = find-holds (is_isr_named core name) (refs_from core 0) i found in grind arith
+
+known-by : (core : Core) (op tick irq : Bool) (isr : Option IsrRef) (s : Stimulus) → ((i : IsrRef) → isr ≡ Some i → is_some (own_isr core i) ≡ true) → cond op (Some Op) (cond tick (Some Tick) (cond irq (option_map Irq isr) None)) ≡ Some s → knows_stimulus core s ≡ true
+known-by core op tick irq isr s own e = grind arith
+
 known-word : (core : Core) (word : List ℕ) (s : Stimulus) → stimulus_of core word ≡ Some s → knows_stimulus core s ≡ true
-known-word core word s e = by (bytes_eq word (codes "op")) (bytes_eq word (codes "tick")) (bytes_eq (take 4 word) (codes "irq=")) e
-  where
-    own : (i : IsrRef) (o : Option Isr) → own_isr core i ≡ o → option_map_or (λ (isr : Isr). bytes_eq isr.name (drop 4 word)) o false ≡ true → is_some (own_isr core i) ≡ true
-    own i None is h = cc
-    own i (Some isr) is h = ap is_some is
-
-    interrupt : (o : Option IsrRef) → isr_named core (drop 4 word) ≡ o → option_map Irq o ≡ Some s → knows_stimulus core s ≡ true
-    interrupt None found e = cc
-    interrupt (Some i) found e =
-        subst (λ (x : Stimulus). knows_stimulus core x ≡ true) (same_Some _ _ e)
-        (own i (own_isr core i) refl (find-holds (is_isr_named core (drop 4 word)) (refs_from core 0) i found))
-
-    by : (op tick irq : Bool) → cond op (Some Op) (cond tick (Some Tick) (cond irq (option_map Irq (isr_named core (drop 4 word))) None)) ≡ Some s → knows_stimulus core s ≡ true
-    by true tick irq e = subst (λ (x : Stimulus). knows_stimulus core x ≡ true) (same_Some _ _ e) refl
-    by false true irq e = subst (λ (x : Stimulus). knows_stimulus core x ≡ true) (same_Some _ _ e) refl
-    by false false true e = interrupt (isr_named core (drop 4 word)) refl e
-    by false false false e = cc
+known-word core word s = known-by core (bytes_eq word (codes "op")) (bytes_eq word (codes "tick")) (bytes_eq (take 4 word) (codes "irq=")) (isr_named core (drop 4 word)) s (known-isr core (drop 4 word))
 
 abbrev AreWords : Core → List Stimulus → ℕ → Type 0
 AreWords core ss n = (list_all (knows_stimulus core) ss ≡ true) × (length ss ≡ n)

@@ -8,7 +8,7 @@ use Rattle.osservice.proofs.Kept.{anybody, is_local, nobody}
 use Rattle.osstate.specs.State.{state_of}
 use Rattle.osawait.specs.Free.{is_settled}
 use Rattle.oskernel.specs.Step.{after}
-use Rattle.oskernel.proofs.{Carried.is_replied, Carried.NamesAllow, Holding.Holds, Holding.holds-after, Holding.holds-local, Stages.is_mail}
+use Rattle.oskernel.proofs.{Carried.NamesAllow, Holding.holds-after, Holding.holds-local, Stages.is_mail}
 
 -- No call is open, nothing waits in the outbox, and no spinlock was got.
 pub record Calm (h : History) : Type 0 where
@@ -22,14 +22,9 @@ settled v h calm = rw (calm.closed, calm.empty, calm.none_got) refl
 pub calm-local : (names : CoreId → Bool) (e : Entry) (h : History) → is_local names e ≡ true → Calm h → Calm (e ∷ h)
 calm-local names e h is p = record { closed = grind (arith, is, p.closed); empty = grind (arith, is, p.empty); none_got = grind (arith, is, p.none_got) }
 
-calm-holds : Holds nobody nobody anybody Calm
-calm-holds = holds-local anybody Calm (calm-local anybody)
-
 pub calm-took : (i : Item) (h : History) → is_mail i ≡ false → Calm h → Calm (Took i ∷ h)
 calm-took i h none p = record { closed = grind (arith, none, p.closed); empty = grind (arith, none, p.empty); none_got = grind (arith, none, p.closed, p.none_got) }
 
-mail-replied : (i : Item) → is_mail i ≡ false → is_replied nobody anybody i ≡ true
-mail-replied i none = grind arith
-
 pub calm-after : (v : View) → NamesAllow v nobody → (h : History) (i : Item) → is_mail i ≡ false → Calm h → Calm (after v h i)
-calm-after v allowed h i none calm = holds-after v nobody nobody Calm calm-holds allowed h i (mail-replied i none) (calm-took i h none calm)
+calm-after v allowed h i none calm =
+    holds-after v nobody nobody Calm (holds-local anybody Calm (calm-local anybody)) allowed h i (grind (arith, none)) (calm-took i h none calm)

@@ -96,13 +96,7 @@ dispatched-is : (v : View) (h : History) → dispatched v h ≡ goes v (current_
 dispatched-is v h = by (may_dispatch (state_of v h)) (best_job v h)
   where
     by : (b : Bool) (o : Option Job) → cond b (does (goes_to (state_of v h) o) v h) h ≡ goes v (current_task h) (cond b (next_job o (running v h)) None) h
-    by true None = refl
-    by false o = refl
-    by true (Some j) = choose (option_map_or (same_job j) (running v h) false)
-      where
-        choose : (c : Bool) → cond c h (does (enters (current_task h) j.runner) v h) ≡ goes v (current_task h) (cond c None (Some j.runner)) h
-        choose true = refl
-        choose false = refl
+    by b o = grind arith
 
 -- ---- what follows from an item
 
@@ -191,9 +185,8 @@ module _ (l : Leave) (allowed : NamesAllow l.view l.may) where
     dispatch-carried h k p =
         let same = steers h k p in
         let acts = acting h k p in
-        subst (λ (d : History). R d (dispatched (seen_as l.view around) k)) (sym (dispatched-is l.view h))
-        (subst (R (goes l.view (current_task h) (next_of l.view h) h)) ((λ i. goes (seen_as l.view around) (same.0 i) (same.1 i) k) ∙ sym (dispatched-is (seen_as l.view around) k))
-        (goes-carried (current_task h) (next_of l.view h) h k acts.current acts.next p))
+        rw (dispatched-is l.view h, dispatched-is (seen_as l.view around) k)
+        (subst (R (goes l.view (current_task h) (next_of l.view h) h)) (λ i. goes (seen_as l.view around) (same.0 i) (same.1 i) k) (goes-carried (current_task h) (next_of l.view h) h k acts.current acts.next p))
 
     -- Two items that are taken, with the same effect.
     pub after-carried : (h k : History) (item item' : Item) → is_replied l.answered l.names item ≡ true → effect item ≡ effect item' → R (Took item ∷ h) (Took item' ∷ k) → R (after l.view h item) (after (seen_as l.view around) k item')

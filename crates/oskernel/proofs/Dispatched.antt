@@ -1,6 +1,7 @@
 -- What a step's functions say of the state they say of every history: what follows from an item, and dispatch.
-use Rattle.std.proofs.Common.{◌≡◌, ℕ, ◌+◌, Bool, true, false, cond, Option, Some, None, List, ◌∷◌, ◌++◌, refl, ap, sym, subst, ◌∙◌, append_assoc, Vec, Global}
+use Rattle.std.proofs.Common.{◌≡◌, ℕ, ◌+◌, Bool, true, false, Option, Some, None, List, ◌∷◌, ◌++◌, refl, ap, sym, subst, ◌∙◌, append_assoc, Vec, Global, arith}
 use Rattle.std.specs.Option.{option_map_or}
+use Rattle.std.proofs.lemmas.Bool.{cond_both}
 use Rattle.osbase.specs.{declared.references.Runner.Runner, declared.references.TaskRef.TaskRef, declared.histories.Job.Job, declared.items.Item.Item, declared.marks.Mark.Mark, History.History, History.Took, History.same_job}
 use Rattle.osplan.specs.{Clocked.are_clocks_within, View.View}
 use Rattle.osstate.specs.{Does.Tracks, Queries.best_in, Queries.running_in, State.KernelState, State.Stands, Steps.state_after}
@@ -14,24 +15,15 @@ use Rattle.oskernel.specs.Step.{dispatched, dispatches, enters, goes_to}
 
 -- It prints lines alone.
 pub dispatch-permitted : (s q : KernelState) → are_permitted (dispatches s) q ≡ true
-dispatch-permitted s q = either (may_dispatch s) (gone (best_in s))
+dispatch-permitted s q = cond_both (may_dispatch s) (are_permitted (goes_to s (best_in s)) q) true (λ (b : Bool). b ≡ true) (λ goes. gone (best_in s)) (λ waits. refl)
   where
-    either : (b : Bool) {c : Bool} → c ≡ true → cond b c true ≡ true
-    either true e = e
-    either false e = refl
-
     entered : (o : Option TaskRef) (r : Runner) → are_permitted (enters o r) q ≡ true
-    entered None (Runner.Task t) = refl
-    entered (Some current) (Runner.Task t) = refl
-    entered o (Runner.Isr i) = refl
+    entered o r = grind arith
 
     gone : (o : Option Job) → are_permitted (goes_to s o) q ≡ true
     gone None = refl
-    gone (Some j) = other (option_map_or (same_job j) (running_in s) false) (entered s.tasks.current j.runner)
-      where
-        other : (b : Bool) {c : Bool} → c ≡ true → cond b true c ≡ true
-        other true e = refl
-        other false e = e
+    gone (Some j) =
+        cond_both (option_map_or (same_job j) (running_in s) false) true (are_permitted (enters s.tasks.current j.runner) q) (λ (b : Bool). b ≡ true) (λ runs. refl) (λ other. entered s.tasks.current j.runner)
 
 -- ---- every history
 

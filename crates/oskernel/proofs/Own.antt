@@ -1,12 +1,11 @@
 -- A core prints marks of its own objects, and of those of cores that it may ask; and the runner whose call is open is of one of these.
 use native.Mathlib.Omega.{arith}
-use Rattle.std.proofs.Common.{◌≡◌, Bool, true, false, cond, Some, None, is_some, List, [], ◌∷◌, refl, ap, ◌∙◌}
-use Rattle.std.specs.List.{list_all, slice_get}
-use Rattle.std.proofs.{lemmas.Bool.and_parts, lemmas.Bool.false≢true, lemmas.List.Folds.list_all-append}
-use Rattle.osbase.specs.{declared.references.CoreId.CoreId, declared.references.IsrRef.IsrRef, declared.references.Runner.Runner, declared.items.Item.Item, declared.items.Stimulus.Stimulus, declared.histories.Job.Job, declared.histories.OpenCall.OpenCall, declared.messages.Message.Message, declared.messages.RemoteCall.RemoteCall, Interrupts.isr_jobs, Marks.core_of_runner, Marks.names_only, Objects.object_of_call, Phases.is_scheduling}
+use Rattle.std.proofs.Common.{◌≡◌, Bool, true, Some, List, [], ◌∷◌, refl, ap, ◌∙◌}
+use Rattle.std.specs.List.{list_all}
+use Rattle.std.proofs.{lemmas.Bool.and_parts, lemmas.List.Folds.list_all-append}
+use Rattle.osbase.specs.{declared.references.CoreId.CoreId, declared.references.IsrRef.IsrRef, declared.references.Runner.Runner, declared.items.Item.Item, declared.items.Stimulus.Stimulus, declared.histories.Job.Job, declared.histories.OpenCall.OpenCall, declared.messages.RemoteCall.RemoteCall, Interrupts.isr_jobs, Marks.core_of_runner, Marks.names_only, Objects.object_of_call}
 use Rattle.osbase.specs.History.{Entry, History, current_task, live_jobs, marks_of, same_core}
 use Rattle.osbase.proofs.Same.{same_core-true}
-use Rattle.oscript.specs.Calls.{is_action}
 use Rattle.oscall.specs.Border.{core_of_call}
 use Rattle.osplan.specs.{Objects.has_index, Stimuli.knows_stimulus, View.View}
 use Rattle.osstate.specs.{Readings.is_served, Readings.running, State.state_of}
@@ -14,7 +13,6 @@ use Rattle.ostable.proofs.Asked.{dues-own}
 use Rattle.osservice.proofs.Kept.{Leave, anybody, is_within, turns-shown}
 use Rattle.osservice.proofs.Partners.{Partner}
 use Rattle.osadmit.specs.Admission.{admits}
-use Rattle.osawait.specs.{Free.may_go_on, Messages.is_awaited}
 use Rattle.oskernel.specs.Step.{after, history_from, outbox_size, solo_from}
 use Rattle.oskernel.proofs.Carried.{NamesActing, NamesAllow, is_replied, passes}
 use Rattle.oskernel.proofs.{Idling.best-passes, Idling.running-passes, JobLists.anew-all, JobLists.without-all, Holding.Holds, Holding.holds-named, Opened.Opens, Opened.opens-local, Opened.opens-took, Stages.solo-parts}
@@ -35,21 +33,19 @@ module _ (own : CoreId → Bool) where
     pub current : passes (current_task h) (λ t. own t.core) ≡ true
 
   -- An entry keeps it whose mark, if it is one, names objects of such cores alone.
-  jobs-own : (e : Entry) (h : History) → list_all (names_only own) (marks_of (e ∷ h)) ≡ true → ActOwn h → list_all own_job (live_jobs (e ∷ h)) ≡ true
-  jobs-own e h all p = grind (arith, list_all-append (names_only own) (marks_of h), list_all-append own_job (live_jobs h), anew-all own_job, without-all own_job, p.jobs, all)
-
-  isrs-own : (e : Entry) (h : History) → list_all (names_only own) (marks_of (e ∷ h)) ≡ true → ActOwn h → list_all own_job (isr_jobs (e ∷ h)) ≡ true
-  isrs-own e h all p = grind (arith, list_all-append (names_only own) (marks_of h), list_all-append own_job (isr_jobs h), without-all own_job, p.isrs, all)
-
-  current-own : (e : Entry) (h : History) → list_all (names_only own) (marks_of (e ∷ h)) ≡ true → ActOwn h → passes (current_task (e ∷ h)) (λ t. own t.core) ≡ true
-  current-own e h all p = grind (arith, list_all-append (names_only own) (marks_of h), p.current, all)
+  more-own : (e : Entry) (h : History) → list_all (names_only own) (marks_of (e ∷ h)) ≡ true → ActOwn h → ActOwn (e ∷ h)
+  more-own e h all p = record {
+    jobs = grind (arith, list_all-append (names_only own) (marks_of h), list_all-append own_job (live_jobs h), anew-all own_job, without-all own_job, p.jobs, all);
+    isrs = grind (arith, list_all-append (names_only own) (marks_of h), list_all-append own_job (isr_jobs h), without-all own_job, p.isrs, all);
+    current = grind (arith, list_all-append (names_only own) (marks_of h), p.current, all);
+  }
 
   earlier : (e : Entry) (h : History) → list_all (names_only own) (marks_of (e ∷ h)) ≡ true → list_all (names_only own) (marks_of h) ≡ true
   earlier e h all = grind (arith, list_all-append (names_only own) (marks_of h), all)
 
   act-own : (h : History) → list_all (names_only own) (marks_of h) ≡ true → ActOwn h
   act-own [] all = record { jobs = refl; isrs = refl; current = refl }
-  act-own (e ∷ h) all = let p = act-own h (earlier e h all) in record { jobs = jobs-own e h all p; isrs = isrs-own e h all p; current = current-own e h all p }
+  act-own (e ∷ h) all = more-own e h all (act-own h (earlier e h all))
 
 -- ---- what the core prints
 
@@ -79,25 +75,14 @@ module _ (v : View) (may : Partner → Bool) (names : CoreId → Bool) (allowed 
 
   -- The core takes interrupts of its own ISRs, and calls to its own objects, alone.
   isr-own : (isr : IsrRef) → knows_stimulus v.own (Stimulus.Irq isr) ≡ true → names isr.core ≡ true
-  isr-own isr known = by (same_core isr.core v.own.id) refl known
-    where
-      by : (b : Bool) → same_core isr.core v.own.id ≡ b → is_some (cond b (slice_get v.own.isrs isr.index) None) ≡ true → names isr.core ≡ true
-      by true e there = ap names (same_core-true isr.core v.own.id e) ∙ own_named
-      by false e there = absurd (false≢true there)
+  isr-own isr known = ap names (same_core-true isr.core v.own.id (grind (arith, known))) ∙ own_named
 
   call-own : (call : RemoteCall) → is_served v call ≡ true → names (core_of_call call) ≡ true
   call-own call served =
       ap names (same_core-true (core_of_call call) v.own.id (and_parts (same_core (core_of_call call) v.own.id) (has_index v.own (object_of_call call)) served).0) ∙ own_named
 
   item-named : (h : History) (i : Item) → admits outbox_size (state_of v h) i ≡ true → is_replied anybody names i ≡ true
-  item-named h (Item.Received from number message) may = by message (and_parts _ (is_awaited outbox_size (state_of v h) from message) (and_parts (is_scheduling (state_of v h).progress.phase) _ may).1).1
-    where
-      by : (m : Message) → is_awaited outbox_size (state_of v h) from m ≡ true → is_replied anybody names (Item.Received from number m) ≡ true
-      by (Message.Request call) e = call-own call (and_parts (is_served v call) _ e).0
-      by (Message.Action call) e = call-own call (and_parts (is_action call) (is_served v call) e).1
-      by m e = refl
-  item-named h (Item.Stim (Stimulus.Irq isr)) may = isr-own isr (and_parts _ (knows_stimulus v.own (Stimulus.Irq isr)) (and_parts _ (may_go_on (state_of v h)) may).0).1
-  item-named h i may = refl
+  item-named h i may = grind (arith, isr-own, call-own, may)
 
   -- So it stays by items that may be taken in turn.
   pub inside-items : (items : List Item) (h : History) → solo_from v h items ≡ Some (history_from v h items) → Inside names h → Inside names (history_from v h items)

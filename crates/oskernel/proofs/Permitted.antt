@@ -1,7 +1,6 @@
 -- What follows from an item is permitted.
-use Rattle.std.proofs.Common.{◌≡◌, nat_lt, Bool, true, refl, sym, subst, arith}
-use Rattle.std.proofs.lemmas.Bool.{and_from}
-use Rattle.osbase.specs.{declared.references.CoreId.CoreId, declared.messages.Message.Message, declared.items.Item.Item, declared.limits.TheConstants.CORES, History.History}
+use Rattle.std.proofs.Common.{◌≡◌, nat_lt, Bool, true, sym, subst, arith}
+use Rattle.osbase.specs.{declared.references.CoreId.CoreId, declared.items.Item.Item, declared.limits.TheConstants.CORES, History.History}
 use Rattle.osplan.specs.{Clocked.are_clocks_within, View.View}
 use Rattle.osprogress.specs.Border.{is_sender_known}
 use Rattle.osstate.specs.State.{KernelState, Stands}
@@ -15,8 +14,7 @@ abbrev is_numbered : CoreId → Bool
 is_numbered core = nat_lt core.number CORES
 
 sender-replied : (item : Item) → is_sender_known item ≡ true → is_replied is_numbered anybody item ≡ true
-sender-replied (Item.Received from number (Message.Request call)) known = and_from _ _ known refl
-sender-replied item known = grind arith
+sender-replied item known = grind (arith, known)
 
 -- At a state that stands for a history of a core whose clocks are within their limits, of an item whose sender has a core number.
 pub effect-permitted : (item : Item) {v : View} {h : History} {s : KernelState} → are_clocks_within s.view.own ≡ true → is_sender_known item ≡ true → Stands v h s → are_permitted (effect item) s ≡ true

@@ -37,19 +37,15 @@ script-fails own test none r n op e = by r e
     parts : (list_any (λ (x : Task). list_any test x.script) own.tasks ≡ false) × (list_any (λ (x : Isr). list_any test x.script) own.isrs ≡ false)
     parts = no-operation test own none
 
-    of_task : (i : ℕ) (b : Bool) (o : Option Task) → slice_get own.tasks i ≡ o → slice_get (option_map_or (λ (task : Task). task.script) (cond b o None) []) n ≡ Some op → test op ≡ false
-    of_task i true (Some task) f g = fails-at test task.script n op (fails-at (λ (x : Task). list_any test x.script) own.tasks i task parts.0 f) g
-    of_task i true None f g = cc
-    of_task i false o f g = cc
-
-    of_isr : (i : ℕ) (b : Bool) (o : Option Isr) → slice_get own.isrs i ≡ o → slice_get (option_map_or (λ (isr : Isr). isr.script) (cond b o None) []) n ≡ Some op → test op ≡ false
-    of_isr i true (Some isr) f g = fails-at test isr.script n op (fails-at (λ (x : Isr). list_any test x.script) own.isrs i isr parts.1 f) g
-    of_isr i true None f g = cc
-    of_isr i false o f g = cc
+    of : {X : Type 0} (xs : List X) (script : X → List Op) (i : ℕ) (b : Bool) (o : Option X) → list_any (λ (x : X). list_any test (script x)) xs ≡ false → slice_get xs i ≡ o
+        → slice_get (option_map_or script (cond b o None) []) n ≡ Some op → test op ≡ false
+    of xs script i true (Some x) fails f g = fails-at test (script x) n op (fails-at (λ y. list_any test (script y)) xs i x fails f) g
+    of xs script i true None fails f g = cc
+    of xs script i false o fails f g = cc
 
     by : (q : Runner) → slice_get (script_of own q) n ≡ Some op → test op ≡ false
-    by (Runner.Task t) g = of_task t.index (same_core t.core own.id) (slice_get own.tasks t.index) refl g
-    by (Runner.Isr i) g = of_isr i.index (same_core i.core own.id) (slice_get own.isrs i.index) refl g
+    by (Runner.Task t) g = of own.tasks (λ (task : Task). task.script) t.index (same_core t.core own.id) (slice_get own.tasks t.index) parts.0 refl g
+    by (Runner.Isr i) g = of own.isrs (λ (isr : Isr). isr.script) i.index (same_core i.core own.id) (slice_get own.isrs i.index) parts.1 refl g
 
 -- So none that a runner reaches passes it, whatever would follow from it.
 pub script-none : (own : Core) (test : Op → Bool) → has_operation test own ≡ false → {A : Type 0} (r : Runner) (n : ℕ) (op : Op) → slice_get (script_of own r) n ≡ Some op → test op ≡ true → A

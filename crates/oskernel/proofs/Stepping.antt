@@ -1,9 +1,10 @@
 -- What a core that names no object of another core does at an item, it does alone.
 use native.Mathlib.Omega.{arith}
-use Rattle.std.proofs.Common.{◌≡◌, ◌&&◌, ◌||◌, ℕ, Bool, true, false, cond, not, Option, None, is_none, option_map, List, [], ◌∷◌, refl, sym, ap, ◌∙◌}
+use Rattle.std.proofs.Common.{◌≡◌, ◌&&◌, ℕ, true, cond, not, Option, None, is_none, option_map, List, [], ◌∷◌, refl, sym, ap, ◌∙◌}
 use Rattle.std.proofs.lemmas.Bool.{false≢true}
 use Rattle.osbase.specs.{declared.references.CoreId.CoreId, declared.items.CoreSet.CoreSet, declared.items.Item.Item, declared.items.Stimulus.Stimulus, declared.histories.Job.Job, Phases.is_going, Phases.is_scheduling, Spins.is_owing, Sets.has_core}
-use Rattle.osbase.specs.History.{Entry, History, Took, Printed, Noted, current_task, same_core}
+use Rattle.osbase.specs.Counting.{alarm_after, alarm_of, counts_after, counts_of, table_after, table_state}
+use Rattle.osbase.specs.History.{Entry, History, Took, Printed, Noted, agreement_after, agreement_of, current_task}
 use Rattle.osbase.proofs.Same.{same_core-true}
 use Rattle.osplan.specs.View.{Around, View}
 use Rattle.osstate.specs.Readings.{best_job, knows_started, running}
@@ -11,7 +12,7 @@ use Rattle.osacts.specs.Seen.{seen_of}
 use Rattle.osservice.proofs.Kept.{IsKept, anybody, is_local, is_within, nobody, seen_as}
 use Rattle.osservice.proofs.SeenSame.{ReadsSame, seen-same}
 use Rattle.oskernel.specs.Step.{after, effect}
-use Rattle.oskernel.proofs.Among.{agreement-same, among, base_of, best-later, count-same, counts-same, course-same, current-same, delay, got-same, later, open-same, pending-same, phase-same, rows-same, running-later, settings-same, stamp-later, tables-same}
+use Rattle.oskernel.proofs.Among.{among, base_of, best-later, count-same, course-same, current-same, delay, got-same, later, open-same, pending-same, phase-same, reads-same, rows-same, runner-same, running-later, stamp-later}
 use Rattle.oskernel.proofs.Carried.{NamesAllow, acting-anybody, after-carried, is_replied, leave_all, next_job, next_of}
 
 -- What is around a core that is the master of these, where there are no spinlocks.
@@ -35,15 +36,12 @@ module _ (v : View) (ids : List CoreId) (s : CoreSet) where
     pub same : h ≡ here k
     pub started : knows_started h v.core ≡ knows_started k v.core
 
-  later-runner : (d : ℕ) (o : Option Job) → option_map (λ (j : Job). j.runner) (option_map (later d) o) ≡ option_map (λ (j : Job). j.runner) o
-  later-runner d o = grind arith
-
   later-next : (d : ℕ) (o p : Option Job) → next_job (option_map (later d) o) (option_map (later d) p) ≡ next_job o p
   later-next d o p = grind (arith, stamp-later d)
 
   next-here : (k : History) → next_of v (here k) ≡ next_of self k
   next-here k =
-      let next = (λ i. next_job (best-later v s v.around.is_master k i) (running-later v s v.around.is_master k i)) ∙ later-next (delay v.around.is_master) (best_job self k) (running self k) in
+      let next = (λ i. next_job (best-later s v.around.is_master v k i) (running-later s v.around.is_master v k i)) ∙ later-next (delay v.around.is_master) (best_job self k) (running self k) in
       λ i. cond (is_scheduling (phase-same s v.around.is_master k i) && ((is_none (open-same s v.around.is_master k i) && not (is_owing (got-same s v.around.is_master k i))) && is_going (course-same s v.around.is_master k i))) (next i) None
 
   steers : (h k : History) → Along h k → (current_task h ≡ current_task k) × (next_of v h ≡ next_of self k)
@@ -52,14 +50,14 @@ module _ (v : View) (ids : List CoreId) (s : CoreSet) where
   reads-here : (k : History) → ReadsSame v (here k) k
   reads-here k = record {
     jobs = λ r. count-same s v.around.is_master r k;
-    rows = rows-same v s v.around.is_master k;
-    pending = λ i. pending-same i s v.around.is_master k;
-    counts = λ c. counts-same c s v.around.is_master k;
-    settings = λ c a. settings-same c a s v.around.is_master k;
-    tables = λ c t. tables-same c t s v.around.is_master k;
-    agreement = agreement-same s v.around.is_master k;
+    rows = rows-same s v.around.is_master v k;
+    pending = λ i. pending-same s v.around.is_master i k;
+    counts = λ c. reads-same s v.around.is_master (counts_of c) (λ e j p. ap (counts_after c e) p) (λ x y h. refl) refl k;
+    settings = λ c a. reads-same s v.around.is_master (alarm_of c a) (λ e j p. ap (alarm_after c a e) p) (λ x y h. refl) refl k;
+    tables = λ c t. reads-same s v.around.is_master (table_state c t) (λ e j p. ap (table_after c t e) p) (λ x y h. refl) refl k;
+    agreement = reads-same s v.around.is_master agreement_of (λ e j p. ap (agreement_after e) p) (λ x y h. refl) refl k;
     course = course-same s v.around.is_master k;
-    running = (λ i. option_map (λ (j : Job). j.runner) (running-later v s v.around.is_master k i)) ∙ later-runner (delay v.around.is_master) (running v k);
+    running = runner-same s v.around.is_master v k;
     awaits = open-same s v.around.is_master k;
     spins = got-same s v.around.is_master k;
   }
@@ -70,11 +68,9 @@ module _ (v : View) (ids : List CoreId) (s : CoreSet) where
   local (Took i) h k is p = absurd (false≢true is)
 
   own_started : (core : CoreId) (h k : History) → is_within v nobody core ≡ true → Along h k → knows_started h core ≡ knows_started k core
-  own_started core h k within p = let same = same_core-true core v.core (own_only (same_core core v.core) within) in ap (knows_started h) same ∙ p.started ∙ ap (knows_started k) (sym same)
-    where
-      own_only : (b : Bool) → (b || false) ≡ true → b ≡ true
-      own_only true e = refl
-      own_only false e = e
+  own_started core h k within p =
+      let same = same_core-true core v.core (grind (arith, within)) in
+      ap (knows_started h) same ∙ p.started ∙ ap (knows_started k) (sym same)
 
   kept : IsKept (leave_all v nobody nobody) (around_master ids) Along
   kept = record {
@@ -96,8 +92,7 @@ module _ (v : View) (ids : List CoreId) (s : CoreSet) where
     same-after k item item' replied same along = (after-carried (leave_all v nobody nobody) allowed (around_master ids) Along kept steers (λ h n p. acting-anybody v nobody nobody h) (here k) k item item' replied same along).same
 
     replied : (stimulus : Stimulus) → is_replied nobody anybody (Item.Stim stimulus) ≡ true
-    replied (Stimulus.Irq isr) = refl
-    replied stimulus = refl
+    replied stimulus = grind arith
 
     -- So it is with the next stimulus, the end of the stimuli, and the second gate.
     pub same-stimulus : (stimulus : Stimulus) (k : History) → knows_started (here k) v.core ≡ true → knows_started k v.core ≡ true → after v (here k) (Item.Stim stimulus) ≡ here (after self k (Item.Stim stimulus))

@@ -1,97 +1,34 @@
 -- Which ISRs were entered and have not left.
-use Rattle.std.proofs.Common.{◌≡◌, ◌||◌, Bool, true, false, cond, List, [], ◌∷◌, refl, ap, sym, ◌∙◌}
-use Rattle.std.specs.{Bool.⊤, List.list_any, Option.option_or}
-use Rattle.std.proofs.lemmas.Bool.{or_parts}
-use Rattle.osbase.specs.{declared.references.IsrRef.IsrRef, declared.marks.Mark.Mark}
-use Rattle.osbase.specs.History.{Entry, History, Printed, current_job, same_isr}
-use Rattle.osbase.specs.Interrupts.{entered_isrs, isr_jobs, oldest_entered, without_isr}
+use Rattle.std.proofs.Common.{◌≡◌, ◌≢◌, ◌⊎◌, true, false, List, [], ◌∷◌, refl, ap, sym, ◌∙◌, arith}
+use Rattle.std.specs.Option.{option_or}
+use Rattle.std.proofs.lemmas.List.{map-id}
+use Rattle.osbase.specs.{declared.references.IsrRef.IsrRef, History.Entry, History.History, History.current_job, History.same_isr, Interrupts.entered_isrs, Interrupts.isr_jobs, Interrupts.oldest_entered, Interrupts.without_isr}
 use Rattle.osbase.proofs.Same.{same_isr-true}
-use Rattle.oslaws.specs.Entered.{RunsTheLastEntered, is_isr_of, unleft}
+use Rattle.oslaws.specs.Entered.{RunsTheLastEntered, unleft}
+use Rattle.oslaws.proofs.Once.{Apart, Keyed, apart-without, in-without, outside, outside-none, outside-without}
 
--- ---- a list of ISRs, each once
+isr-tells : (a b : IsrRef) → ((same_isr a b ≡ true) × (a ≡ b)) ⊎ ((same_isr a b ≡ false) × (a ≢ b))
+isr-tells a b = grind (arith, same_isr-true a b)
 
-abbrev is_in : IsrRef → List IsrRef → Bool
-is_in i isrs = list_any (λ (x : IsrRef). same_isr x i) isrs
+abbrev isrs : Keyed IsrRef IsrRef
+isrs = record { key = λ i. i; same = same_isr; tells = isr-tells; without = without_isr; without_none = λ i. refl; without_front = λ i x xs. refl }
 
-abbrev outside : List IsrRef → List IsrRef → List IsrRef
-outside later [] = []
-outside later (x ∷ isrs) = cond (is_isr_of x later) (outside later isrs) (x ∷ outside later isrs)
-
-abbrev Apart : List IsrRef → Type 0
-Apart [] = ⊤
-Apart (x ∷ isrs) = (is_in x isrs ≡ false) × Apart isrs
-
-in-same : (x i : IsrRef) (isrs : List IsrRef) → same_isr x i ≡ true → is_in x isrs ≡ is_in i isrs
-in-same x i isrs same = ap (λ (y : IsrRef). is_in y isrs) (same_isr-true x i same)
-
-less : (m i : IsrRef) (isrs : List IsrRef) → is_in m isrs ≡ false → is_in m (without_isr i isrs) ≡ false
-less m i [] none = refl
-less m i (x ∷ isrs) none =
-    let parts = or_parts (same_isr x m) (is_in m isrs) none in
-    by (same_isr x i) parts.0 parts.1 (less m i isrs parts.1)
-  where
-    by : (b : Bool) → same_isr x m ≡ false → is_in m isrs ≡ false → is_in m (without_isr i isrs) ≡ false → is_in m (cond b isrs (x ∷ without_isr i isrs)) ≡ false
-    by true here there rest = there
-    by false here there rest = rw (here, rest) refl
-
-apart-without : (i : IsrRef) (isrs : List IsrRef) → Apart isrs → Apart (without_isr i isrs)
-apart-without i [] apart = tt
-apart-without i (x ∷ isrs) apart = by (same_isr x i) (apart-without i isrs apart.1)
-  where
-    by : (b : Bool) → Apart (without_isr i isrs) → Apart (cond b isrs (x ∷ without_isr i isrs))
-    by true rest = apart.1
-    by false rest = (less x i isrs apart.0, rest)
-
-gone : (i : IsrRef) (isrs : List IsrRef) → Apart isrs → is_in i (without_isr i isrs) ≡ false
-gone i [] apart = refl
-gone i (x ∷ isrs) apart = by (same_isr x i) refl (gone i isrs apart.1)
-  where
-    by : (b : Bool) → same_isr x i ≡ b → is_in i (without_isr i isrs) ≡ false → is_in i (cond b isrs (x ∷ without_isr i isrs)) ≡ false
-    by true same rest = sym (in-same x i isrs same) ∙ apart.0
-    by false other rest = rw (other, rest) refl
-
-absent : (i : IsrRef) (later isrs : List IsrRef) → is_in i isrs ≡ false → outside later isrs ≡ outside (i ∷ later) isrs
-absent i later [] none = refl
-absent i later (x ∷ isrs) none =
-    let parts = or_parts (same_isr x i) (is_in i isrs) none in
-    ap (λ (xs : List IsrRef). cond (is_isr_of x later) xs (x ∷ xs)) (absent i later isrs parts.1)
-    ∙ sym (ap (λ (b : Bool). cond (b || is_isr_of x later) (outside (i ∷ later) isrs) (x ∷ outside (i ∷ later) isrs)) parts.0)
-
-outside-without : (i : IsrRef) (later isrs : List IsrRef) → Apart isrs → outside later (without_isr i isrs) ≡ outside (i ∷ later) isrs
-outside-without i later [] apart = refl
-outside-without i later (x ∷ isrs) apart = by (same_isr x i) refl (outside-without i later isrs apart.1)
-  where
-    by : (b : Bool) → same_isr x i ≡ b → outside later (without_isr i isrs) ≡ outside (i ∷ later) isrs
-        → outside later (cond b isrs (x ∷ without_isr i isrs)) ≡ cond (b || is_isr_of x later) (outside (i ∷ later) isrs) (x ∷ outside (i ∷ later) isrs)
-    by true same rest = absent i later isrs (sym (in-same x i isrs same) ∙ apart.0)
-    by false other rest = ap (λ (xs : List IsrRef). cond (is_isr_of x later) xs (x ∷ xs)) rest
-
-outside-none : (isrs : List IsrRef) → outside [] isrs ≡ isrs
-outside-none [] = refl
-outside-none (x ∷ isrs) = ap (λ (xs : List IsrRef). x ∷ xs) (outside-none isrs)
-
--- ---- in each history
-
+-- In each history: the entered ISRs are each there once, and without the later ones they are those that have not left.
 record Right (h : History) : Type 0 where
-  pub apart : Apart (entered_isrs h)
-  pub order : (later : List IsrRef) → outside later (entered_isrs h) ≡ unleft later h
+  pub apart : Apart isrs (entered_isrs h)
+  pub order : (later : List IsrRef) → outside isrs later (entered_isrs h) ≡ unleft later h
+
+step : (e : Entry) (h : History) → Right h → Right (e ∷ h)
+step e h p = record {
+  apart = grind (arith, p.apart, apart-without isrs, in-without isrs, isr-tells);
+  order = λ later. grind (arith, p.apart, p.order, outside-without isrs);
+}
 
 always : (h : History) → Right h
 always [] = record { apart = tt; order = λ later. refl }
-always (e ∷ h) = of e (always h)
-  where
-    of : (e : Entry) → Right h → Right (e ∷ h)
-    of (Printed (Mark.IsrEntered i)) p = record {
-      apart = (gone i (entered_isrs h) p.apart, apart-without i (entered_isrs h) p.apart);
-      order = λ later. ap (λ (xs : List IsrRef). cond (is_isr_of i later) xs (i ∷ xs)) (outside-without i later (entered_isrs h) p.apart ∙ p.order (i ∷ later));
-    }
-    of (Printed (Mark.IsrLeft i)) p = record {
-      apart = apart-without i (entered_isrs h) p.apart;
-      order = λ later. outside-without i later (entered_isrs h) p.apart ∙ p.order (i ∷ later);
-    }
-    of e p = record { apart = p.apart; order = p.order }
+always (e ∷ h) = step e h (always h)
 
 pub runs-last : (h : History) → RunsTheLastEntered h
 runs-last h =
-    let same : entered_isrs h ≡ unleft [] h = sym (outside-none (entered_isrs h)) ∙ (always h).order [] in
+    let same : entered_isrs h ≡ unleft [] h = sym (outside-none isrs (entered_isrs h) ∙ map-id (entered_isrs h)) ∙ (always h).order [] in
     record { isrs = same; running = ap (λ (isrs : List IsrRef). option_or (oldest_entered isrs (isr_jobs h)) (current_job h)) same }

@@ -1,61 +1,59 @@
 -- Whose job has each spinlock.
-use Rattle.std.proofs.Common.{◌≡◌, ◌&&◌, ◌||◌, Bool, true, false, not, cond, Option, Some, None, option_map, unwrap_or, List, [], ◌∷◌, map, refl, ap, sym, subst, ◌∙◌}
-use Rattle.std.specs.{Bool.⊤, List.list_any, Option.option_map_or}
-use Rattle.std.proofs.lemmas.Bool.{and_parts, eq-eqb, false≢true}
+use Rattle.std.proofs.Common.{◌≡◌, ◌&&◌, ◌||◌, Bool, true, false, not, cond, Option, Some, None, option_map, List, [], ◌∷◌, map, refl, ap, sym, ◌∙◌, arith}
+use Rattle.std.specs.{List.list_any, Option.option_map_or}
+use Rattle.std.proofs.{lemmas.Bool.and_parts, lemmas.Bool.not-true, lemmas.Bool.Decides.nat_tests}
 use Rattle.osbase.specs.{declared.items.Item.Item, declared.marks.Mark.Mark, declared.references.Runner.Runner, declared.references.SpinlockId.SpinlockId, declared.histories.GotSpinlock.GotSpinlock, declared.histories.OpenCall.OpenCall}
 use Rattle.osbase.specs.History.{Entry, History, Note, Noted, Printed, Took, WentDown, open_call, same_runner}
-use Rattle.osbase.specs.Spins.{got_spinlocks, has_spinlock, is_got_by, owed, same_spinlock, with_spinlock, without_spinlock}
+use Rattle.osbase.specs.Spins.{all_owed, got_spinlocks, has_spinlock, owed_by, same_spinlock, with_spinlock, without_spinlock}
 use Rattle.osplan.specs.View.{View}
 use Rattle.osstate.specs.State.{state_of}
 use Rattle.osadmit.specs.Admission.{admits, is_get_of, is_try_of}
-use Rattle.oskernel.specs.Step.{after, outbox_size, solo_from, takes}
-use Rattle.oskernel.proofs.Holding.{kept_after}
+use Rattle.oskernel.specs.Step.{outbox_size, solo_from}
 use Rattle.oslaws.specs.Spinlocks.{is_granted, unfreed}
 use Rattle.oslaws.specs.Holders.{granted_to, grants, holder_by, makes_owed, since_grant}
-use Rattle.oslaws.proofs.Granted.{Right, has-granted, is_in, locks-unfreed, locks_of}
+use Rattle.oslaws.proofs.Once.{Apart}
+use Rattle.oslaws.proofs.Granted.{Right, locks-unfreed, by-number, spin-tells, spins}
 use Rattle.oslaws.proofs.Granted as spinlocks
 
-abbrev AreGranted : History → List GotSpinlock → Type 0
-AreGranted h [] = ⊤
-AreGranted h (g ∷ got) = (is_granted g.lock h ≡ true) × AreGranted h got
+-- ---- the holder of a spinlock among these
 
-abbrev AreHeld : History → List GotSpinlock → Type 0
-AreHeld h [] = ⊤
-AreHeld h (g ∷ got) = (g.holder ≡ holder_by g.lock h) × AreHeld h got
+abbrev holder_in : SpinlockId → List GotSpinlock → Option Runner
+holder_in l [] = None
+holder_in l (g ∷ got) = cond (same_spinlock g.lock l) g.holder (holder_in l got)
 
--- each that the core has was granted
-granted-each : (h : History) (got : List GotSpinlock) → ((l : SpinlockId) → is_in l (locks_of got) ≡ true → is_granted l h ≡ true) → AreGranted h got
-granted-each h [] each = tt
-granted-each h (g ∷ got) each = (
-  each g.lock (ap (λ (b : Bool). b || is_in g.lock (locks_of got)) (eq-eqb g.lock.index g.lock.index refl)),
-  granted-each h got (λ l there. each l (later (same_spinlock g.lock l) (is_in l (locks_of got)) there)),
-)
-  where
-    later : (b c : Bool) → c ≡ true → (b || c) ≡ true
-    later true c is = refl
-    later false c is = is
+owed-none : (l : SpinlockId) (got : List GotSpinlock) → holder_in l (all_owed got) ≡ None
+owed-none l [] = refl
+owed-none l (g ∷ got) = grind (arith, owed-none l got)
 
-all-granted : (h : History) → Right h → AreGranted h (got_spinlocks h)
-all-granted h right = granted-each h (got_spinlocks h) (λ l there. sym (right.each l) ∙ there)
+without-same : (k l : SpinlockId) (got : List GotSpinlock) → same_spinlock k l ≡ false → holder_in l (without_spinlock k got) ≡ holder_in l got
+without-same k l [] other = refl
+without-same k l (g ∷ got) other = grind (arith, nat_tests, without-same k l got, other)
 
--- ---- one entry more
+-- One more, by the call that awaits it, unless the core has it: then it was granted before.
+with-holder : (k l : SpinlockId) (got : List GotSpinlock) (calling : Option OpenCall) (awaits : OpenCall → Bool) (has granted : Bool) (before : Option Runner) → option_map_or awaits calling false ≡ true
+    → has_spinlock k got ≡ has → (same_spinlock k l ≡ true → has ≡ granted) → (granted ≡ true → holder_in l got ≡ before) → (same_spinlock k l || granted) ≡ true
+    → holder_in l (with_spinlock k calling got) ≡ cond (same_spinlock k l && not granted) (option_map (λ (call : OpenCall). call.runner) calling) before
+with-holder k l got calling awaits has granted before awaited is alike same known = grind (arith, awaited, is, alike, same, known)
 
--- what was granted is not granted anew
-no-grant : (l : SpinlockId) (e : Entry) (h : History) → is_granted l h ≡ true → grants l e h ≡ false
-no-grant l (Took (Item.Granted k)) h is = by (same_spinlock k l)
-  where
-    by : (b : Bool) → (b && not (is_granted l h)) ≡ false
-    by true = ap not is
-    by false = refl
-no-grant l (Took (Item.Tried k true)) h is = by (same_spinlock k l)
-  where
-    by : (b : Bool) → (b && not (is_granted l h)) ≡ false
-    by true = ap not is
-    by false = refl
-no-grant l (Took (Item.Tried k false)) h is = refl
-no-grant l e h is = refl
+-- The end of a job of this runner gives up what it has.
+module _ (r : Runner) where
+  abbrev given_up : Option Runner → Option Runner
+  given_up o = cond (option_map_or (same_runner r) o false) None o
 
-module _ (l : SpinlockId) (e : Entry) (h : History) where
+  owed_by-given_up : (l : SpinlockId) (got : List GotSpinlock) → holder_in l (owed_by r got) ≡ given_up (holder_in l got)
+  owed_by-given_up l [] = refl
+  owed_by-given_up l (g ∷ got) = grind (arith, owed_by-given_up l got)
+
+  given_up-owing : (owing : Bool) (asker : Option Runner) → given_up (cond owing None asker) ≡ cond (option_map_or (same_runner r) asker false || owing) None asker
+  given_up-owing owing asker = grind arith
+
+-- ---- in each history
+
+pub record Held (h : History) : Type 0 where
+  pub right : Right h
+  pub held : (l : SpinlockId) → is_granted l h ≡ true → holder_in l (got_spinlocks h) ≡ holder_by l h
+
+module _ (h : History) (l : SpinlockId) where
   abbrev asker : Option Runner
   asker = granted_to l h
 
@@ -65,150 +63,72 @@ module _ (l : SpinlockId) (e : Entry) (h : History) where
   abbrev caller : Option Runner
   caller = option_map (λ (call : OpenCall). call.runner) (open_call h)
 
-  abbrev holder_if : Bool → Option Runner
-  holder_if granted = cond (list_any (makes_owed (cond granted caller asker)) (cond granted [] (e ∷ since_grant l h))) None (cond granted caller asker)
+  ended : (r : Runner) → holder_in l (got_spinlocks h) ≡ holder_by l h → holder_in l (owed_by r (got_spinlocks h)) ≡ cond (option_map_or (same_runner r) asker false || owing) None asker
+  ended r same = owed_by-given_up r l (got_spinlocks h) ∙ ap (given_up r) same ∙ given_up-owing r owing asker
 
-  holder-later : is_granted l h ≡ true → holder_by l (e ∷ h) ≡ cond (makes_owed asker e || owing) None asker
-  holder-later is = ap holder_if (no-grant l e h is)
+  -- an entry that makes no release owed, and one that may be a grant
+  stays : holder_in l (got_spinlocks h) ≡ holder_by l h → holder_in l (got_spinlocks h) ≡ cond (option_map_or (λ (r : Runner). false) asker false || owing) None asker
+  stays same = grind (arith, same)
 
-  holder-now : grants l e h ≡ true → holder_by l (e ∷ h) ≡ caller
-  holder-now is = ap holder_if is
-
--- an entry that makes no release owed
-same-held : (e : Entry) (h : History) (got : List GotSpinlock) → ((o : Option Runner) → makes_owed o e ≡ false) → AreGranted h got → AreHeld h got → AreHeld (e ∷ h) got
-same-held e h [] none granted held = tt
-same-held e h (g ∷ got) none granted held = (
-  held.0 ∙ sym (holder-later g.lock e h granted.0 ∙ ap (λ (b : Bool). cond (b || owing g.lock e h) None (granted_to g.lock h)) (none (granted_to g.lock h))),
-  same-held e h got none granted.1 held.1,
-)
-
--- one that makes each owed
-owed-held : (e : Entry) (h : History) (got : List GotSpinlock) → ((o : Option Runner) → makes_owed o e ≡ true) → AreGranted h got → AreHeld (e ∷ h) (map owed got)
-owed-held e h [] all granted = tt
-owed-held e h (g ∷ got) all granted = (
-  sym (holder-later g.lock e h granted.0 ∙ ap (λ (b : Bool). cond (b || owing g.lock e h) None (granted_to g.lock h)) (all (granted_to g.lock h))),
-  owed-held e h got all granted.1,
-)
-
--- and the end of a runner's job
-module _ (r : Runner) where
-  abbrev given_up : GotSpinlock → GotSpinlock
-  given_up g = cond (is_got_by r g) (owed g) g
-
-  abbrev is_its : Option Runner → Bool
-  is_its o = option_map_or (same_runner r) o false
-
-  same-lock : (g : GotSpinlock) (b : Bool) → g.lock ≡ (cond b (owed g) g).lock
-  same-lock g true = refl
-  same-lock g false = refl
-
-  new-holder : (g : GotSpinlock) (b : Bool) → (cond b (owed g) g).holder ≡ cond b None g.holder
-  new-holder g true = refl
-  new-holder g false = refl
-
-  given-up : (owing : Bool) (asker : Option Runner) → cond (is_its (cond owing None asker)) None (cond owing None asker) ≡ cond (is_its asker || owing) None asker
-  given-up true asker = by (is_its asker)
+  next : (e : Entry) → makes_owed asker e ≡ false → holder_by l (e ∷ h) ≡ cond (grants l e h) caller (holder_by l h)
+  next e plain = by (grants l e h)
     where
-      by : (b : Bool) → None ≡ cond (b || true) None asker
+      by : (b : Bool) → cond (list_any (makes_owed (cond b caller asker)) (cond b [] (e ∷ since_grant l h))) None (cond b caller asker) ≡ cond b caller (cond owing None asker)
       by true = refl
-      by false = refl
-  given-up false asker = by (is_its asker)
-    where
-      by : (b : Bool) → cond b None asker ≡ cond (b || false) None asker
-      by true = refl
-      by false = refl
-
-  ended-held : (e : Entry) (h : History) (got : List GotSpinlock) → ((o : Option Runner) → makes_owed o e ≡ is_its o) → AreGranted h got → AreHeld h got → AreHeld (e ∷ h) (map given_up got)
-  ended-held e h [] ends granted held = tt
-  ended-held e h (g ∷ got) ends granted held = (
-    new-holder g (is_got_by r g) ∙ ap (λ (o : Option Runner). cond (is_its o) None o) held.0 ∙ given-up (owing g.lock e h) (granted_to g.lock h)
-        ∙ sym (ap (λ (b : Bool). cond (b || owing g.lock e h) None (granted_to g.lock h)) (ends (granted_to g.lock h)))
-        ∙ sym (holder-later g.lock e h granted.0)
-        ∙ ap (λ (l : SpinlockId). holder_by l (e ∷ h)) (same-lock g (is_got_by r g)),
-    ended-held e h got ends granted.1 held.1,
-  )
-
--- one less, and one more
-without-held : (h : History) (l : SpinlockId) (got : List GotSpinlock) → AreHeld h got → AreHeld h (without_spinlock l got)
-without-held h l [] held = tt
-without-held h l (g ∷ got) held = by (same_spinlock g.lock l) (without-held h l got held.1)
-  where
-    by : (b : Bool) → AreHeld h (without_spinlock l got) → AreHeld h (cond b got (g ∷ without_spinlock l got))
-    by true rest = held.1
-    by false rest = (held.0, rest)
-
-with-held : (p : OpenCall → Bool) (e : Entry) (h : History) (k : SpinlockId) (calling : Option OpenCall) → open_call h ≡ calling → option_map_or p calling false ≡ true
-    → grants k e h ≡ (same_spinlock k k && not (is_granted k h)) → AreHeld (e ∷ h) (got_spinlocks h) → Right h → AreHeld (e ∷ h) (with_spinlock k calling (got_spinlocks h))
-with-held p e h k None calls awaits grant held right = absurd (false≢true awaits)
-with-held p e h k (Some call) calls awaits grant held right = by (has_spinlock k (got_spinlocks h)) (has-granted h right k)
-  where
-    by : (b : Bool) → b ≡ is_granted k h → AreHeld (e ∷ h) (cond b (got_spinlocks h) (record { lock = k; holder = Some call.runner } ∷ got_spinlocks h))
-    by true is = held
-    by false is = (
-      sym (
-          holder-now k e h (grant ∙ ap (λ (b : Bool). b && not (is_granted k h)) (eq-eqb k.index k.index refl) ∙ sym (ap not is))
-          ∙ ap (λ (o : Option OpenCall). option_map (λ (c : OpenCall). c.runner) o) calls
-          ),
-      held,
-    )
-
--- ---- in each history
-
-pub record Held (h : History) : Type 0 where
-  pub right : Right h
-  pub held : AreHeld h (got_spinlocks h)
+      by false = ap (λ (b : Bool). cond (b || owing) None asker) plain
 
 nothing : (o : Option Runner) → option_map_or (λ (r : Runner). false) o false ≡ false
-nothing None = refl
-nothing (Some r) = refl
+nothing o = grind arith
 
 printed : (m : Mark) (h : History) → Held h → Held (Printed m ∷ h)
-printed m h p = record { right = spinlocks.printed m h p.right; held = of m (all-granted h p.right) }
+printed m h p = record { right = spinlocks.printed m h p.right; held = λ l is. of l m (p.held l is) }
   where
-    of : (m : Mark) → AreGranted h (got_spinlocks h) → AreHeld (Printed m ∷ h) (got_spinlocks (Printed m ∷ h))
-    of (Mark.Terminated t) granted = ended-held (Runner.Task t) (Printed (Mark.Terminated t)) h (got_spinlocks h) (λ o. refl) granted p.held
-    of (Mark.IsrLeft i) granted = ended-held (Runner.Isr i) (Printed (Mark.IsrLeft i)) h (got_spinlocks h) (λ o. refl) granted p.held
-    of m granted = same-held (Printed m) h (got_spinlocks h) nothing granted p.held
+    of : (l : SpinlockId) (m : Mark) → holder_in l (got_spinlocks h) ≡ holder_by l h → holder_in l (got_spinlocks (Printed m ∷ h)) ≡ holder_by l (Printed m ∷ h)
+    of l (Mark.Terminated t) same = ended h l (Runner.Task t) same
+    of l (Mark.IsrLeft i) same = ended h l (Runner.Isr i) same
+    of l m same = stays h l same
 
 noted : (n : Note) (h : History) → Held h → Held (Noted n ∷ h)
-noted n h p = record { right = spinlocks.noted n h p.right; held = of n (all-granted h p.right) }
+noted n h p = record { right = spinlocks.noted n h p.right; held = λ l is. of l n (p.held l is) }
   where
-    of : (n : Note) → AreGranted h (got_spinlocks h) → AreHeld (Noted n ∷ h) (got_spinlocks (Noted n ∷ h))
-    of WentDown granted = owed-held (Noted WentDown) h (got_spinlocks h) (λ o. refl) granted
-    of n granted = same-held (Noted n) h (got_spinlocks h) nothing granted p.held
+    of : (l : SpinlockId) (n : Note) → holder_in l (got_spinlocks h) ≡ holder_by l h → holder_in l (got_spinlocks (Noted n ∷ h)) ≡ holder_by l (Noted n ∷ h)
+    of l WentDown same = owed-none l (got_spinlocks h)
+    of l n same = stays h l same
 
-module _ (v : View) where
-  took : (h : History) (i : Item) → admits outbox_size (state_of v h) i ≡ true → Held h → Held (Took i ∷ h)
-  took h i may p = record { right = spinlocks.took v h i may p.right; held = of i may (all-granted h p.right) }
-    where
-      stays : (i : Item) → ((o : Option Runner) → makes_owed o (Took i) ≡ false) → AreGranted h (got_spinlocks h) → AreHeld (Took i ∷ h) (got_spinlocks h)
-      stays i none granted = same-held (Took i) h (got_spinlocks h) none granted p.held
+took : (v : View) (h : History) (i : Item) → admits outbox_size (state_of v h) i ≡ true → Held h → Held (Took i ∷ h)
+took v h i may p = record { right = spinlocks.took v h i may p.right; held = λ l. of l i may (p.held l) }
+  where
+    gets : (l k : SpinlockId) (awaits : OpenCall → Bool) → option_map_or awaits (open_call h) false ≡ true → (is_granted l h ≡ true → holder_in l (got_spinlocks h) ≡ holder_by l h) → (same_spinlock k l || is_granted l h) ≡ true
+        → holder_in l (with_spinlock k (open_call h) (got_spinlocks h)) ≡ cond (same_spinlock k l && not (is_granted l h)) (caller h l) (holder_by l h)
+    gets l k awaits awaited same is =
+        with-holder k l (got_spinlocks h) (open_call h) awaits (is_granted k h) (is_granted l h) (holder_by l h) awaited (p.right.each k)
+        (λ e. ap (λ (x : SpinlockId). is_granted x h) (by-number k l e)) same is
 
-      of : (i : Item) → admits outbox_size (state_of v h) i ≡ true → AreGranted h (got_spinlocks h) → AreHeld (Took i ∷ h) (got_spinlocks (Took i ∷ h))
-      of (Item.Granted k) may granted =
-          with-held (λ (call : OpenCall). is_get_of k call.awaits) (Took (Item.Granted k)) h k (open_call h) refl (and_parts _ _ may).1 refl (stays (Item.Granted k) nothing granted) p.right
-      of (Item.Tried k true) may granted =
-          with-held (λ (call : OpenCall). is_try_of k call.awaits) (Took (Item.Tried k true)) h k (open_call h) refl (and_parts _ _ may).1 refl (stays (Item.Tried k true) nothing granted) p.right
-      of (Item.Tried k false) may granted = stays (Item.Tried k false) nothing granted
-      of (Item.Freed k) may granted = without-held (Took (Item.Freed k) ∷ h) k (got_spinlocks h) (stays (Item.Freed k) nothing granted)
-      of (Item.Halt core status) may granted = owed-held (Took (Item.Halt core status)) h (got_spinlocks h) (λ o. refl) granted
-      of i may granted = stays i nothing granted
+    of : (l : SpinlockId) (i : Item) → admits outbox_size (state_of v h) i ≡ true → (is_granted l h ≡ true → holder_in l (got_spinlocks h) ≡ holder_by l h)
+        → is_granted l (Took i ∷ h) ≡ true → holder_in l (got_spinlocks (Took i ∷ h)) ≡ holder_by l (Took i ∷ h)
+    of l (Item.Granted k) may same is = gets l k (λ (call : OpenCall). is_get_of k call.awaits) (and_parts _ _ may).1 same is ∙ sym (next h l (Took (Item.Granted k)) (nothing (asker h l)))
+    of l (Item.Tried k true) may same is = gets l k (λ (call : OpenCall). is_try_of k call.awaits) (and_parts _ _ may).1 same is ∙ sym (next h l (Took (Item.Tried k true)) (nothing (asker h l)))
+    of l (Item.Freed k) may same is =
+        let parts = and_parts (not (same_spinlock k l)) (is_granted l h) is in
+        without-same k l (got_spinlocks h) (not-true (same_spinlock k l) parts.0) ∙ stays h l (same parts.1)
+    of l (Item.Halt core status) may same is = owed-none l (got_spinlocks h)
+    of l i may same is = stays h l (same is)
 
-  pub always-held : (items : List Item) (h next : History) → solo_from v h items ≡ Some next → Held h → Held next
-  always-held [] h next is p = subst Held (ap (λ (o : Option History). unwrap_or o h) is) p
-  always-held (i ∷ items) h next is p = by (takes outbox_size v h i) refl is (always-held items (after v h i) next)
-    where
-      by : (b : Bool) → takes outbox_size v h i ≡ b → cond b (solo_from v (after v h i) items) None ≡ Some next → (solo_from v (after v h i) items ≡ Some next → Held (after v h i) → Held next) → Held next
-      by true may rest later = later rest (kept_after Held printed noted v h i (took h i (and_parts _ (admits outbox_size (state_of v h) i) may).1 p))
-      by false may rest later = cc
+pub always-held : (v : View) (items : List Item) (h next : History) → solo_from v h items ≡ Some next → Held h → Held next
+always-held v = spinlocks.always Held printed noted v (took v)
 
 pub held-first : Held []
-held-first = record { right = spinlocks.right-first; held = tt }
+held-first = record { right = spinlocks.right-first; held = λ l is. cc }
 
-as-held : (h : History) (got : List GotSpinlock) → AreHeld h got → got ≡ map (λ (l : SpinlockId). record { lock = l; holder = holder_by l h }) (locks_of got)
-as-held h [] held = refl
-as-held h (g ∷ got) held = λ i. record { lock = g.lock; holder = held.0 i } ∷ as-held h got held.1 i
+as-held : (holder : SpinlockId → Option Runner) (got : List GotSpinlock) → Apart spins got → ((l : SpinlockId) → has_spinlock l got ≡ true → holder_in l got ≡ holder l)
+    → got ≡ map (λ (l : SpinlockId). record { lock = l; holder = holder l }) (map (λ (g : GotSpinlock). g.lock) got)
+as-held holder [] apart held = refl
+as-held holder (g ∷ got) apart held =
+    let front : g.holder ≡ holder g.lock = grind (arith, held g.lock) in
+    let rest = as-held holder got apart.1 (λ l there. grind (arith, spin-tells g.lock l, held l, apart.0, there)) in
+    λ i. record { lock = g.lock; holder = front i } ∷ rest i
 
 pub holders : (h : History) → Held h → got_spinlocks h ≡ map (λ (l : SpinlockId). record { lock = l; holder = holder_by l h }) (unfreed [] h)
 holders h p =
-    as-held h (got_spinlocks h) p.held ∙ ap (map (λ (l : SpinlockId). record { lock = l; holder = holder_by l h })) (locks-unfreed h p.right)
+    as-held (λ (l : SpinlockId). holder_by l h) (got_spinlocks h) p.right.apart (λ l there. p.held l (sym (p.right.each l) ∙ there))
+    ∙ ap (map (λ (l : SpinlockId). record { lock = l; holder = holder_by l h })) (locks-unfreed h p.right)

@@ -1,3 +1,4 @@
+mod Once
 mod Releases
 mod Suspensions
 mod Granted

@@ -1,78 +1,36 @@
 -- Which item a core may take, line by line.
-use Rattle.std.proofs.Common.{◌≡◌, ◌==◌, ◌&&◌, ◌||◌, ◌<◌, ◌+◌, ℕ, zero, suc, nat_lt, Bool, true, false, not, cond, Option, Some, None, is_none, map, get_or, refl, ap, ◌∙◌, arith}
+use Rattle.std.proofs.Common.{◌≡◌, ◌==◌, ◌&&◌, ◌||◌, ◌<◌, ◌+◌, ℕ, zero, suc, nat_lt, Bool, true, false, not, Option, is_none, map, get_or, ap, ◌∙◌, refl, arith}
 use Rattle.std.specs.Option.{option_map_or}
 use Rattle.std.proofs.lemmas.Bool.{and_parts, ltb-true}
-use Rattle.osbase.specs.{declared.statuses.Status.Status, declared.references.CoreId.CoreId, declared.references.SpinlockId.SpinlockId, declared.messages.Message.Message, declared.items.Item.Item, declared.histories.Awaited.Awaited, declared.histories.OpenCall.OpenCall, declared.histories.Phase.Phase, declared.limits.TheConstants.CORES, Phases.is_scheduling, Phases.stands_in, Sets.core_ids, Sets.has_core, Sets.numbers_from, Spins.got_spinlocks, Spins.newest_owed, Spins.same_spinlock, declared.statuses.Status.TheVariants.EOk, declared.statuses.Status.TheVariants.EOsId, declared.statuses.Status.TheVariants.EOsState}
-use Rattle.osbase.specs.declared.histories.Phase.TheVariants.{Off, Boot, FirstGate, BetweenGates, SecondGate, Live, Drained, Closing, Ended}
+use Rattle.osbase.specs.{declared.statuses.Status.Status, declared.references.CoreId.CoreId, declared.references.SpinlockId.SpinlockId, declared.messages.Message.Message, declared.items.Item.Item, declared.histories.OpenCall.OpenCall, declared.histories.Phase.Phase, declared.limits.TheConstants.CORES, Phases.is_scheduling, Phases.stands_in, Sets.core_ids, Sets.has_core, Sets.numbers_from, Spins.got_spinlocks, Spins.newest_owed, Spins.same_spinlock}
 use Rattle.osbase.specs.History.{History, open_call, outbox, received_count, same_core, started_cores}
-use Rattle.osplan.specs.{Stimuli.knows_stimulus, View.View, View.is_configured}
+use Rattle.osplan.specs.{Stimuli.knows_stimulus, View.View}
 use Rattle.osstate.specs.{Readings.phase_at, State.state_of}
-use Rattle.osservice.specs.Checks.{is_ok_status}
 use Rattle.osawait.specs.Free.{is_get}
-use Rattle.osawait.specs.Messages.{answers_value, is_awaited, is_reply_for, is_reply_to}
+use Rattle.osawait.specs.Messages.{is_awaited}
 use Rattle.osadmit.specs.Admission.{admits, asks_halt, is_front_for, is_release_of, is_start_answer}
-use Rattle.oslaws.specs.Takes.{admits_by, awaits, has_no_call, has_posted_all, is_answer_for, is_at, is_expected, is_next_entry, is_reply_of, is_up, owes_nothing}
+use Rattle.oslaws.specs.Takes.{admits_by, awaits, has_no_call, has_posted_all, is_answer_for, is_at, is_expected, is_next_entry, is_up, owes_nothing}
 
 -- ---- the phases
 
-live-schedules : (p : Phase) → is_scheduling p ≡ (stands_in Live p || stands_in Drained p || stands_in Closing p)
-live-schedules Off = refl
-live-schedules Boot = refl
-live-schedules FirstGate = refl
-live-schedules BetweenGates = refl
-live-schedules SecondGate = refl
-live-schedules Live = refl
-live-schedules Drained = refl
-live-schedules Closing = refl
-live-schedules Ended = refl
+live-schedules : (p : Phase) → is_scheduling p ≡ (stands_in Phase.Live p || stands_in Phase.Drained p || stands_in Phase.Closing p)
+live-schedules p = grind arith
 
 -- ---- chains of conditions
 
 stimulus-flat : (l k n o g e : Bool) → ((l && k) && (((n && o) && g) && e)) ≡ (((((l && k) && n) && o) && e) && g)
-stimulus-flat false k n o g e = refl
-stimulus-flat true false n o g e = refl
-stimulus-flat true true false o g e = refl
-stimulus-flat true true true false g e = refl
-stimulus-flat true true true true true true = refl
-stimulus-flat true true true true true false = refl
-stimulus-flat true true true true false true = refl
-stimulus-flat true true true true false false = refl
+stimulus-flat l k n o g e = grind arith
 
 drained-flat : (l n o e : Bool) → (l && ((n && o) && e)) ≡ (((l && n) && o) && e)
-drained-flat false n o e = refl
-drained-flat true n o e = refl
+drained-flat l n o e = grind arith
 
-letter-flat : (l a b n c : Bool) → (l && (((a && b) && n) && c)) ≡ ((((l && a) && b) && n) && c)
-letter-flat false a b n c = refl
-letter-flat true a b n c = refl
-
-letter-number : (a b n m c : Bool) → (a ≡ true → n ≡ m) → (((a && b) && n) && c) ≡ (((a && b) && m) && c)
-letter-number false b n m c same = refl
-letter-number true b n m c same = ap (λ (x : Bool). (b && x) && c) (same refl)
+letter-flat : (l a b n m c : Bool) → (a ≡ true → n ≡ m) → (l && (((a && b) && n) && c)) ≡ ((((l && a) && b) && m) && c)
+letter-flat l a b n m c same = grind (arith, same)
 
 -- ---- the answer to StartCore
 
 answer-same : (v : View) (core : CoreId) (status : Status) → is_start_answer v core status ≡ is_answer_for v core status
-answer-same v core EOsId = by (is_configured v core)
-  where
-    by : (b : Bool) → cond b false true ≡ not b
-    by true = refl
-    by false = refl
-answer-same v core EOk = by (is_configured v core)
-  where
-    by : (b : Bool) → cond b true false ≡ b
-    by true = refl
-    by false = refl
-answer-same v core EOsState = by (is_configured v core)
-  where
-    by : (b : Bool) → cond b true false ≡ b
-    by true = refl
-    by false = refl
-answer-same v core status = by (is_configured v core)
-  where
-    by : (b : Bool) → cond b false false ≡ false
-    by true = refl
-    by false = refl
+answer-same v core status = grind arith
 
 -- ---- letters
 
@@ -86,56 +44,19 @@ received-at : (h : History) (from : CoreId) → has_core (started_cores h) from 
 received-at h from started =
     count-at (λ (s : CoreId). received_count s h) 0 CORES from.number from.number (omega arith) (ltb-true from.number CORES (and_parts (nat_lt from.number CORES) _ started).0)
 
-reply-same : (from : CoreId) (status : Status) (o : Option OpenCall) → option_map_or (is_reply_to from status false) o false
-    ≡ option_map_or (λ (call : OpenCall). is_reply_of from (λ service. not (answers_value service && is_ok_status status)) call.awaits) o false
-reply-same from status None = refl
-reply-same from status (Some call) = of call.awaits
-  where
-    by : (b : Bool) → cond b false true ≡ not b
-    by true = refl
-    by false = refl
-
-    of : (awaits : Awaited) → is_reply_for from status false awaits ≡ is_reply_of from (λ service. not (answers_value service && is_ok_status status)) awaits
-    of (Awaited.Reply service core) = ap (λ (b : Bool). same_core core from && b) (by (answers_value service && is_ok_status status))
-    of awaits = refl
-
-value-same : (from : CoreId) (status : Status) (o : Option OpenCall) → option_map_or (is_reply_to from status true) o false
-    ≡ option_map_or (λ (call : OpenCall). is_reply_of from (λ service. answers_value service && is_ok_status status) call.awaits) o false
-value-same from status None = refl
-value-same from status (Some call) = of call.awaits
-  where
-    by : (b : Bool) → cond b true false ≡ b
-    by true = refl
-    by false = refl
-
-    of : (awaits : Awaited) → is_reply_for from status true awaits ≡ is_reply_of from (λ service. answers_value service && is_ok_status status) awaits
-    of (Awaited.Reply service core) = ap (λ (b : Bool). same_core core from && b) (by (answers_value service && is_ok_status status))
-    of awaits = refl
-
 expected-same : (places : ℕ) (v : View) (h : History) (from : CoreId) (message : Message) → is_awaited places (state_of v h) from message ≡ is_expected places v h from message
-expected-same places v h from (Message.Request call) = refl
-expected-same places v h from (Message.Action call) = refl
-expected-same places v h from (Message.Reply status) = reply-same from status (open_call h)
-expected-same places v h from (Message.Value status n) = value-same from status (open_call h)
+expected-same places v h from message = grind arith
 
 -- ---- what the open call asks
 
 release-same : (l : SpinlockId) (o : Option OpenCall) (owed : Bool)
     → option_map_or (λ (call : OpenCall). is_release_of l call.awaits) o owed ≡ (option_map_or (λ (call : OpenCall). is_release_of l call.awaits) o false || is_none o && owed)
-release-same l None owed = refl
-release-same l (Some call) owed = by (is_release_of l call.awaits)
-  where
-    by : (b : Bool) → b ≡ (b || false)
-    by true = refl
-    by false = refl
+release-same l o owed = grind arith
 
 halt-same : (asked up settled : Bool) (o : Option OpenCall)
     → (asked || (up && (settled && option_map_or (λ (call : OpenCall). is_get call.awaits) o true)))
     ≡ (asked || (up && settled && (is_none o || option_map_or (λ (call : OpenCall). is_get call.awaits) o false)))
-halt-same true up settled o = refl
-halt-same false false settled o = refl
-halt-same false true settled None = refl
-halt-same false true settled (Some call) = refl
+halt-same asked up settled o = grind arith
 
 -- ---- the lines
 
@@ -147,12 +68,9 @@ lines places v h (Item.Posted core) = ap (λ (b : Bool). b && is_front_for core 
 lines places v h (Item.Received from number message) =
     let started = has_core (started_cores h) from in
     let other = not (same_core from v.core) in
-    ap (λ (b : Bool). is_scheduling (phase_at v h) && b) (
-    letter-number started other (number == get_or (map (λ (s : CoreId). received_count s h) core_ids) from.number 0) (number == received_count from h) (is_awaited places (state_of v h) from message) (λ is. ap (λ (n : ℕ). number == n) (received-at h from is))
-    ∙ ap (λ (b : Bool). ((started && other) && (number == received_count from h)) && b) (expected-same places v h from message)
-    )
-    ∙ letter-flat (is_scheduling (phase_at v h)) started other (number == received_count from h) (is_expected places v h from message)
-    ∙ ap (λ (b : Bool). (((b && started) && other) && (number == received_count from h)) && is_expected places v h from message) (live-schedules (phase_at v h))
+    letter-flat (is_scheduling (phase_at v h)) started other (number == get_or (map (λ (s : CoreId). received_count s h) core_ids) from.number 0) (number == received_count from h)
+    (is_awaited places (state_of v h) from message) (λ is. ap (λ (n : ℕ). number == n) (received-at h from is))
+    ∙ λ i. (((live-schedules (phase_at v h) i && started) && other) && (number == received_count from h)) && expected-same places v h from message i
 lines places v h (Item.Freed l) = ap (λ (b : Bool). is_at Phase.Live v h && b) (release-same l (open_call h) (option_map_or (same_spinlock l) (newest_owed (got_spinlocks h)) false))
 lines places v h (Item.Halt core status) = ap (λ (b : Bool). is_at Phase.Live v h && b) (halt-same (awaits asks_halt h) (is_up h) (owes_nothing h) (open_call h))
 lines places v h Item.Drained = drained-flat (is_at Phase.Live v h) (has_no_call h) (owes_nothing h) (has_posted_all h)

@@ -10,10 +10,10 @@ use Rattle.osplan.specs.Limits as limits
 use Rattle.osplan.specs.Limits.{CounterSizes, are_counters_within, is_between, is_core_within, is_counter_within, is_object, is_within, number_of, same_number}
 use Rattle.osplan.specs.{Objects.common_names, Objects.object_count, declared.plans.TheConstants.COMMON, declared.plans.TheConstants.KINDS, Representable.are_distinct, View.core_of, View.counter_in}
 use Rattle.osplan.proofs.{Found.IsFound, Within.cores-within}
-use Rattle.osschema.specs.Declarations.{byte_of, word_of, common_of, declarations, declaration, declared_as, declared_by, has_name, place_of, id_of, counter_ref, counter_declared, declared_sizes, names_of}
+use Rattle.osschema.specs.Declarations.{byte_of, common_of, declarations, declaration, declared_as, declared_by, has_name, place_of, id_of, counter_ref, counter_declared, declared_sizes, names_of}
 use Rattle.osschema.specs.Shape.{common_in, objects_in, numbered}
-use Rattle.osschema.proofs.{Lists.map-same, Alone.alone}
-use Rattle.osvalidate.specs.Words.{ConfigText, Core, CoreId, CoreText, Declaration, Named, Object, ObjectKind, Place, Plan}
+use Rattle.osschema.proofs.{Lists.map-same, Alone.alone_if}
+use Rattle.osvalidate.specs.Words.{ConfigText, Core, CoreId, CoreText, CounterRef, Declaration, Named, Object, ObjectKind, Place, Plan}
 use Rattle.osvalidate.specs.Check.{core_sizes, sizes_of, numbers_of, counter_sizes}
 use Rattle.osload.specs.Meaning.{core_plan, plan_of}
 
@@ -30,13 +30,6 @@ byte-at_most n = grind (arith, nat_tests)
 
 pub is-byte : (low high : ℕ) (number : Option ℕ) → is_between low high number ≡ true → high ≤ 255 → IsByte number
 is-byte low high number h small = grind (arith, nat_tests)
-
--- and those of counters have 32 bits
-abbrev pub IsWord : Option ℕ → Type 0
-IsWord number = Some (word_of number) ≡ number
-
-pub is-word : (low high : ℕ) (number : Option ℕ) → is_between low high number ≡ true → high ≤ 4294967295 → IsWord number
-is-word low high number h small = grind (arith, nat_tests)
 
 -- ---- the cores of the plan have the text's numbers
 
@@ -95,14 +88,10 @@ module _ (t : ConfigText) where
   planned core = core_plan (declarations t) core
 
   as-many : (core : CoreText) (kind : ObjectKind) → length (objects_in kind core) ≡ object_count kind (planned core)
-  as-many core ObjectKind.Mode = refl
-  as-many core ObjectKind.Spinlock = refl
-  as-many core kind = simp length-map
+  as-many core kind = grind (arith, length-map)
 
   common-many : (kind : ObjectKind) → length (common_in kind t) ≡ length (common_names kind (plan_of t))
-  common-many ObjectKind.Mode = simp length-map
-  common-many ObjectKind.Spinlock = simp length-map
-  common-many kind = refl
+  common-many kind = grind (arith, length-map)
 
   -- What is so of each core that is found.
   pub each-core : (Q : CoreText → Type 0) → ((core : CoreText) → IsFound (plan_of t).cores (planned core) → is_inside (declarations t) core ≡ true → Q core) → (cores : List CoreText)
@@ -167,18 +156,18 @@ common-sized plan t kind i object is = tt
 -- ---- the counter of a name
 
 -- The counter of a name, its numbers and its counter in the configuration.
-pub record NamedCounter (plan : Plan) (objects : List Declaration) (id : CoreId) (name : List ℕ) : Type 0 where
+pub record NamedCounter (plan : Plan) (objects : List Declaration) (name : List ℕ) (counter : CounterRef) : Type 0 where
   pub sizes : CounterSizes
   pub declared : option_map declared_sizes (counter_declared objects name) ≡ Some sizes
-  pub planned : option_map limits.counter_sizes (counter_in plan (counter_ref objects id name)) ≡ Some sizes
+  pub planned : option_map limits.counter_sizes (counter_in plan counter) ≡ Some sizes
   pub within : is_counter_within sizes ≡ true
 
 pub named-counter : (plan : Plan) (t : ConfigText) (id : CoreId) (name : List ℕ) → are_distinct (names_of (declarations t)) ≡ true → AllByRecursion (HasCounters plan) t.cores → is_some (place_of (declarations t) ObjectKind.Counter name) ≡ true
-    → NamedCounter plan (declarations t) id name
+    → NamedCounter plan (declarations t) name (counter_ref (declarations t) id name)
 named-counter plan t id name apart has known =
     let objects = declarations t in
     let d = declared-as objects ObjectKind.Counter name known in
-    let once = alone objects name d.0 apart d.1 in
+    let once = alone_if objects name apart (ap is_some d.1) in
     let sized = λ (d : Declaration). IsSized plan d d.kind in
     let is_sized = found-is sized (has_name name) objects d.0 (all-are sized (HasCounters plan) (core-sized plan) t (common-sized plan t) has) d.1 in
     let counter : IsSized plan d.0 ObjectKind.Counter = subst (IsSized plan d.0) (same_kind-true d.0.kind ObjectKind.Counter d.2) is_sized in

@@ -2,7 +2,7 @@
 use Rattle.std.proofs.Common.{◌≡◌, ℕ, ◌&&◌, ◌||◌, ◌≤◌, Bool, true, cond, count_by, sum_by, List, [], ◌∷◌, length, map, Option, Some, None, is_some, option_and_then, option_map, unwrap_or, refl, sym, ap, ◌∙◌, arith}
 use Rattle.std.specs.{List.AllByRecursion, List.list_all, List.sum, Option.option_map_or, Str.bytes_eq}
 use Rattle.std.proofs.lemmas.Bool.{Decides.nat_tests, and_from, and_parts, cond_both}
-use Rattle.std.proofs.{Math.Path.fun_ext, lemmas.List.length-map, lemmas.List.map-append, lemmas.List.Folds.flat_map-map, lemmas.List.Folds.list_all-map, lemmas.List.Sums.sum-map, lemmas.Simd.map-map}
+use Rattle.std.proofs.{Math.Path.fun_ext, lemmas.List.length-map, lemmas.List.map-append, lemmas.List.map-id, lemmas.List.Folds.flat_map-map, lemmas.List.Folds.list_all-map, lemmas.List.Sums.sum-map, lemmas.Simd.map-map}
 use Rattle.osbase.specs.{History.same_core, Names.is_name, Objects.counter_object, Objects.counter_of, Objects.mode_of, Objects.object_of_call, Objects.spinlock_of}
 use Rattle.oscript.specs.{Calls.op_of_call, Rows.has_masks as has_op_masks, Rows.is_in_form, Rows.objects_of, declared.Op.TheVariants.Work}
 use Rattle.oscript.proofs.Acting.{call-objects}
@@ -11,14 +11,14 @@ use Rattle.ossyntax.proofs.{Alike.named-same, Operations.meant-in-form, Operatio
 use Rattle.osplan.specs.Representable as said
 use Rattle.osplan.specs.Limits as limits
 use Rattle.osplan.specs.Objects as plans
-use Rattle.osplan.specs.Limits.{CoreSizes, PointSizes, Sizes, TableSizes, are_numbers_distinct, has_number, is_alarm_within, is_between, is_core_within, is_counter_within, is_isr_within, is_resource_within, is_start, is_table_start_within, is_table_timed, is_table_within, is_task_within, is_within, last_offset, number_of, same_number}
+use Rattle.osplan.specs.Limits.{CoreSizes, PointSizes, Sizes, TableSizes, are_counters_within, are_numbers_distinct, has_number, is_alarm_within, is_between, is_core_within, is_counter_within, is_isr_within, is_resource_within, is_start, is_table_start_within, is_table_timed, is_table_within, is_task_within, is_within, last_offset, number_of, same_number}
 use Rattle.osplan.specs.declared.faults.ConfFault.TheVariants.{Limit, DuplicateName, UnknownName, WrongCore, SpinOrder, BadMask, BadTable, BadScript}
-use Rattle.osplan.specs.{Representable.are_distinct, Representable.dont_care, Fault.failing, Objects.greatest_of, Objects.names_in, Objects.table_actions, Spinlocks.are_links_ordered, View.core_of, View.counter_in}
+use Rattle.osplan.specs.{Representable.are_distinct, Representable.dont_care, Fault.failing, Objects.greatest_of, Objects.table_actions, Spinlocks.are_links_ordered, View.core_of, View.counter_in}
 use Rattle.osplan.proofs.{EveryKind.every-common, EveryKind.every-kind, Found.IsFound, Found.each-found, ModeObjects.mode-there, ModeObjects.nobody, Scripts.all_scripts, SpinlockObjects.spinlock-there, SpinlockObjects.stays, Tests.all-both, Tests.all-flat, Tests.any-find, Tests.any-mapped, Within.cap-within, Within.cores-within, Within.version-within}
 use Rattle.osschema.specs.Declarations.{counter_ref, declarations, id_of, mode_ref, names_of, number_id, place_alone, place_of, spinlock_ref}
 use Rattle.osschema.specs.Shape.{common_in, has_named_common, has_named_objects, is_named, objects_in, unnumbered}
 use Rattle.osschema.proofs.Lists.{map-same, list_all-by, map-back, all-apart, all-same, list_all-total, list_any-by}
-use Rattle.osschema.proofs.{Alone.alone_if, Naming.common-named, Naming.names-of-all, Naming.names-of-text}
+use Rattle.osschema.proofs.{Alone.alone_if, Naming.names-text}
 use Rattle.osvalidate.specs.Words.{Alarm, AlarmText, ConfigText, Core, CoreId, CoreMode, CoreText, CounterText, Declaration, ExpiryPoint, Isr, IsrText, Named, ObjectKind, Op, Place, Plan, PointText, RemoteCall, ResourceText, Spinlock, SpinlockText, TableStart, TableStartText, TableText, Task, TaskText}
 use Rattle.osvalidate.specs.Check.{alarm_modes, alarm_sizes, are_known, are_masks, are_near, are_operations, are_ordered, are_timed, core_scripts, core_sizes, counter_sizes, is_core_known, is_core_mode_known, has_local_references, is_core_script, is_each_once, is_isr_script}
 use Rattle.osvalidate.specs.Check.{is_mode_known, is_operation_local, is_script, is_script_masked, is_script_local, is_spinlock_known, is_task_script, is_text_within, is_unreserved, isr_sizes, numbers_of, point_sizes, resource_sizes, sizes_of, table_modes, table_sizes, task_sizes, tests_of}
@@ -27,7 +27,7 @@ use Rattle.osvalidate.specs.{Action.action_of, Operation.is_operation, Operation
 use Rattle.osvalidate.proofs.{Numbers.offsets-low, Operations.stays-alike}
 use Rattle.osload.specs.Meaning.{alarm_plan, core_mode, core_plan, counter_plan, isr_plan, plan_of, point_plan, resource_plan, spinlock_plan, table_plan, table_start_plan, task_plan}
 use Rattle.osload.proofs.Found.{HasCounters, NamedCounter, bytes-equal, cores-inside, each-core, is-byte, is_inside, named-counter, numbers-kept, place-known}
-use Rattle.osload.proofs.{Loops.always, Loops.or-else, Loops.there, Right.acting, Right.alarm-parts, Right.core-right, Right.is_right, Right.of-each, Right.table-parts, Right.three-parts}
+use Rattle.osload.proofs.{Loops.always, Loops.or-else, Loops.there, Right.acting, Right.alarm-parts, Right.core-right, Right.is_right, Right.of-each, Right.table-parts}
 
 -- ---- sums
 
@@ -85,7 +85,7 @@ table-limits s within timed =
 
 -- ---- the plan of a text has the text's numbers, those of the counters that alarms and tables name too
 
-alarm-sized : (plan : Plan) (objects : List Declaration) (id : CoreId) (alarm : AlarmText) → NamedCounter plan objects id alarm.counter → is_alarm_within (alarm_sizes objects alarm) ≡ true → limits.alarm_sizes (counter_in plan) (alarm_plan objects id alarm) ≡ alarm_sizes objects alarm
+alarm-sized : (plan : Plan) (objects : List Declaration) (id : CoreId) (alarm : AlarmText) → NamedCounter plan objects alarm.counter (counter_ref objects id alarm.counter) → is_alarm_within (alarm_sizes objects alarm) ≡ true → limits.alarm_sizes (counter_in plan) (alarm_plan objects id alarm) ≡ alarm_sizes objects alarm
 alarm-sized plan objects id alarm counter within = grind (arith, nat_tests)
 
 -- Parts that are right have the sizes of their texts, where these pass a test.
@@ -93,7 +93,7 @@ sizes-same : {X Y Z : Type 0} (f : Y → Z) (g : X → Y) (h : X → Z) (right :
 sizes-same f g h right p same xs rights all =
     map-same f g h (λ x. right x && p (h x)) (λ x e. let both = and_parts (right x) (p (h x)) e in same x both.0 both.1) xs (all-both right (λ x. p (h x)) xs rights (sym (list_all-map p h xs) ∙ all))
 
-table-sized : (plan : Plan) (objects : List Declaration) (id : CoreId) (table : TableText) → NamedCounter plan objects id table.counter → TableLimits (table_sizes objects table) → limits.table_sizes (counter_in plan) (table_plan objects id table) ≡ table_sizes objects table
+table-sized : (plan : Plan) (objects : List Declaration) (id : CoreId) (table : TableText) → NamedCounter plan objects table.counter (counter_ref objects id table.counter) → TableLimits (table_sizes objects table) → limits.table_sizes (counter_in plan) (table_plan objects id table) ≡ table_sizes objects table
 table-sized plan objects id table counter limit =
     let auto : option_map (λ (auto : TableStart). Some auto.offset) (option_map (table_start_plan objects) table.auto) ≡ option_map (λ (auto : TableStartText). auto.offset) table.auto = grind (arith, nat_tests) in
     rw (
@@ -149,22 +149,7 @@ all-pass a b c d e f g h none = grind arith
 faultless : (t : ConfigText) → failing (tests_of t) ≡ [] → Faultless t
 faultless t none =
     let passed = all-pass (is_text_within t) (is_each_once t) (are_known t) (are_near t) (are_ordered t) (are_masks t) (are_timed t) (are_operations t) none in
-    let once = three-parts (are_numbers_distinct (numbers_of t.cores)) (are_distinct (names_of (declarations t))) (list_all is_unreserved t.modes) passed.1 in
-    let known = and_parts (has_number (numbers_of t.cores) t.master) _ passed.2 in
-    let names = and_parts (list_all (is_spinlock_known (declarations t)) t.spinlocks) (list_all (is_core_known (declarations t)) t.cores) known.1 in
-    record {
-      within = passed.0;
-      numbers = once.0;
-      apart = once.1;
-      unreserved = once.2;
-      master = known.0;
-      spinlocks = names.0;
-      near = passed.3;
-      ordered = passed.4;
-      timed = passed.6;
-      formed = passed.7;
-      right = of-each (core_verdict (declarations t)) t.cores (and_from _ _ (and_from _ _ names.1 passed.5) passed.7);
-    }
+    search (of-each (core_verdict (declarations t)) t.cores, arith)
 
 -- ---- the parts of the plan: their numbers are the text's, what each names is there, and a text can say it
 
@@ -179,27 +164,18 @@ acting-kept : (counter known modes name said : Bool) → counter ≡ true → (k
 acting-kept counter known modes name said c k m n = grind arith
 
 -- What the sizes of a core that is within its limits say, one by one.
-record CoreParts (s : CoreSizes) : Type 0 where
+pub record CoreParts (s : CoreSizes) : Type 0 where
   pub number : is_between 0 15 s.number ≡ true
   pub start : list_all is_start s.start ≡ true
   pub tasks : list_all is_task_within s.tasks ≡ true
   pub isrs : list_all is_isr_within s.isrs ≡ true
   pub resources : list_all is_resource_within s.resources ≡ true
-  pub counters : list_all is_counter_within s.counters ≡ true
+  pub counters : are_counters_within s.counters ≡ true
   pub alarms : list_all is_alarm_within s.alarms ≡ true
   pub tables : list_all is_table_within s.tables ≡ true
 
-core-parts : (s : CoreSizes) → is_core_within s ≡ true → CoreParts s
-core-parts s h = record {
-  number = grind arith;
-  start = grind arith;
-  tasks = grind arith;
-  isrs = grind arith;
-  resources = grind arith;
-  counters = grind arith;
-  alarms = grind arith;
-  tables = grind arith;
-}
+pub core-parts : (s : CoreSizes) → is_core_within s ≡ true → CoreParts s
+core-parts s h = search arith
 
 -- An ISR is one that a text can say, if its script is.
 isr-said : (objects : List Declaration) (id : CoreId) (isr : IsrText) → is_name isr.name ≡ true → is_right (isr_verdict objects id isr.script) ≡ true → said.is_script_representable (isr_plan objects isr).script ≡ true → said.is_isr_representable (isr_plan objects isr) ≡ true
@@ -231,9 +207,9 @@ module _ (t : ConfigText) (passes : Faultless t) where
 
   counters-numbers : (core : CoreText) → is_inside objects core ≡ true → map limits.counter_sizes (map counter_plan core.counters) ≡ map counter_sizes core.counters
   counters-numbers core h =
-      sizes-same limits.counter_sizes counter_plan counter_sizes (λ _. true) is_counter_within (λ counter _ within. grind (arith, nat_tests)) core.counters (always core.counters) (core-parts (core_sizes objects core) h).counters
+      sizes-same limits.counter_sizes counter_plan counter_sizes (λ _. true) is_counter_within (λ counter _ within. grind (arith, nat_tests)) core.counters (always core.counters) (and_parts _ _ (core-parts (core_sizes objects core) h).counters).1
 
-  named : (id : CoreId) (name : List ℕ) → is_some (place_of objects ObjectKind.Counter name) ≡ true → NamedCounter plan objects id name
+  named : (id : CoreId) (name : List ℕ) → is_some (place_of objects ObjectKind.Counter name) ≡ true → NamedCounter plan objects name (counter_ref objects id name)
   named id name known =
       named-counter plan t id name passes.apart (cores (HasCounters plan) (λ core found inside. record { core = core_plan objects core; found = found; same = counters-numbers core inside; within = grind arith })) known
 
@@ -385,10 +361,8 @@ module _ (t : ConfigText) (passes : Faultless t) where
 
 -- ---- the names of a text are those of its plan
 
-kind-named : (objects : List Declaration) (core : CoreText) (kind : ObjectKind) → names_in kind (core_plan objects core) ≡ map (λ (named : Named). named.name) (objects_in kind core)
-kind-named objects core ObjectKind.Mode = refl
-kind-named objects core ObjectKind.Spinlock = refl
-kind-named objects core kind = simp map-map
+names-said : (t : ConfigText) → said.declared_names (plan_of t) ≡ names_of (declarations t)
+names-said t = (simp (map-map, map-id, flat_map-map)) ∙ sym (names-text t)
 
 -- ---- the plan
 
@@ -406,9 +380,7 @@ plan-kept t named none =
     let modes = all-both is_name is_unreserved t.modes (sym (list_all-map (λ (named : Named). is_name named.name) unnumbered t.modes) ∙ common ObjectKind.Mode refl) passes.unreserved in
     let spinlocks = list_all-map said.is_spinlock_representable (spinlock_plan objects) t.spinlocks ∙ sym (list_all-map (λ (named : Named). is_name named.name) (λ (spinlock : SpinlockText). unnumbered spinlock.name) t.spinlocks) ∙ common ObjectKind.Spinlock refl in
     let linked = list_all-by (is_spinlock_known objects) (limits.is_spinlock_known plan) (spinlock_plan objects) (λ spinlock. next-kept t passes spinlock.next) t.spinlocks passes.spinlocks in
-    let shared = common-named plan t refl (map-map (λ (spinlock : Spinlock). spinlock.name) (spinlock_plan objects) t.spinlocks) in
-    let declared = names-of-text plan t shared (flat_map-map said.object_names (core_plan objects) t.cores ∙ sym (names-of-all (core_plan objects) (λ core. core) (kind-named objects) t.cores)) in
     let ordered = ap are_links_ordered (map-map (λ (spinlock : Spinlock). spinlock.next) (spinlock_plan objects) t.spinlocks) ∙ passes.ordered in (
       and_from _ _ (and_from _ _ (and_from _ _ (and_from _ _ (and_from _ _ (and_from _ _ (and_from _ _ (within t passes) (distinct t passes)) (master-found t passes)) parts.0) near) (timed t passes)) linked) ordered,
-      and_from _ _ (and_from _ _ (and_from _ _ modes spinlocks) parts.1) (ap are_distinct declared ∙ passes.apart),
+      and_from _ _ (and_from _ _ (and_from _ _ modes spinlocks) parts.1) (ap are_distinct (names-said t) ∙ passes.apart),
     )

@@ -273,7 +273,7 @@ impl<'e> Planner<'e, CoreText<'e>, Core> for TextPlanner<'_, 'e> {
 
     ghost is_short = { λ _ core. is_core_short core };
 
-    #[tactic(auto, using(crate::proofs::Loops::always))]
+    #[tactic(auto, using(crate::proofs::Loops::always, osvalidate::proofs::Counting::core_shorts))]
     fn plan(&self, alloc: Global, core: &'e CoreText<'e>) -> Result<Judged<Core>, ConfFault> {
         let id = number_id(core.id);
         let planner = CorePlanner {

@@ -1,19 +1,19 @@
 -- What has a name in a configuration: each has a name of its own, in form, and is found by it.
-use Rattle.std.proofs.Common.{◌≡◌, ℕ, zero, suc, ◌+◌, ◌<◌, ◌⊎◌, nat_lt, Bool, true, false, not, cond, List, [], ◌∷◌, ◌++◌, length, map, get_or, Option, Some, None, option_and_then, option_map, slice_get, unwrap_or, IsTrue, inl, inr, refl, sym, ap, ◌∙◌, subst, arith}
+use Rattle.std.proofs.Common.{◌≡◌, ℕ, zero, suc, ◌+◌, ◌<◌, ◌≤◌, ◌⊎◌, nat_lt, Bool, true, List, [], ◌∷◌, ◌++◌, length, map, get_or, Option, Some, None, option_map, slice_get, IsTrue, inl, inr, refl, sym, ap, ◌∙◌, arith}
 use Rattle.std.specs.List.{AllByRecursion, find, flat_map, list_all, list_any}
 use Rattle.std.specs.{Option.option_map_or, Str.bytes_eq}
-use Rattle.std.proofs.lemmas.Bool.{and_from, and_parts, cases_Bool, lt-ltb, ltb-true, not-true, or_cases, or_left, or_right, true≢false}
+use Rattle.std.proofs.lemmas.Bool.{and_from, and_parts, cases_eq, lt-ltb, ltb-true}
 use Rattle.std.proofs.{lemmas.List.length-map, lemmas.List.map-append, lemmas.List.Folds.list_all-map, lemmas.Option.slice_get-get_or, lemmas.Simd.map-map, lemmas.Slice.Eq.bytes_eq-Decides}
 use Rattle.osbase.proofs.{Places.passes-at, Same.same_core-true, Same.same_kind-self, Same.same_kind-true}
 use Rattle.osbase.specs.{History.same_core, Names.is_name, declared.objects.TheConstants.NOBODY, Sets.numbers_from, declared.objects.Object.Object, declared.objects.ObjectKind.ObjectKind, declared.references.CoreId.CoreId, declared.references.ModeId.ModeId, declared.references.SpinlockId.SpinlockId}
 use Rattle.osbase.specs.Objects.{mode_object, mode_of, place_on, same_kind, spinlock_object, spinlock_of}
 use Rattle.ossyntax.proofs.RoundTrip.{chained}
 use Rattle.osplan.proofs.{Found.IsFound, Found.each-found, ModeObjects.mode-named, ModeObjects.nobody, ModeObjects.there-mode, SpinlockObjects.there-spinlock}
-use Rattle.osplan.proofs.Tests.{all-append, all-flat, all-weaker, any-mapped, find-holds, find-passes}
+use Rattle.osplan.proofs.Tests.{all-append, all-flat, all-weaker, find-holds, find-passes}
 use Rattle.osplan.proofs.Within.{core-text-parts, few-modes, few-objects, few-spinlocks, fits, limit-parts, names-formed, text-parts}
 use Rattle.osplan.specs.Representable.{all_common_names, are_distinct, declared_names, is_core_representable, is_representable, is_mode_representable, object_names}
 use Rattle.osplan.specs.Limits.{core_sizes, is_core_within, is_mode, is_object, is_spinlock, is_within_limits, sizes_of}
-use Rattle.osplan.specs.Names.{common_name, name_in, name_of, name_of_mode, spinlock_name}
+use Rattle.osplan.specs.Names.{name_of, name_of_mode, spinlock_name}
 use Rattle.osplan.specs.Objects.{common_names, is_common, names_in, object_count}
 use Rattle.osplan.specs.{View.core_of, declared.plans.Core.Core, declared.plans.Plan.Plan, declared.plans.Spinlock.Spinlock, declared.plans.TheConstants.COMMON, declared.plans.TheConstants.KINDS}
 use Rattle.oslog.specs.Naming.{HasFew, HasFewCommon, all_named, common_in, if_object, mode_named, name_of_object, named_by, named_in, object_under, objects_in, objects_under, place_named, spinlock_named}
@@ -21,20 +21,20 @@ use Rattle.oslog.specs.Naming.{HasFew, HasFewCommon, all_named, common_in, if_ob
 -- ---- lists by their places
 
 -- what each place of a list has
-by-place : {X : Type 0} (at : ℕ → X) (first : ℕ) (xs : List X) → ((k : ℕ) (x : X) → slice_get xs k ≡ Some x → at (first + k) ≡ x) → map at (numbers_from first (length xs)) ≡ xs
+by-place : {X : Type 0} (at : ℕ → X) (first : ℕ) (xs : List X) → ((k n : ℕ) (x : X) → n ≡ first + k → slice_get xs k ≡ Some x → at n ≡ x) → map at (numbers_from first (length xs)) ≡ xs
 by-place at first [] same = refl
 by-place at first (x ∷ xs) same =
-    ap (λ y. y ∷ map at (numbers_from (first + 1) (length xs))) (ap at (let here : first ≡ first + 0 = omega arith in here) ∙ same 0 x refl)
-    ∙ ap (λ ys. x ∷ ys) (by-place at (first + 1) xs (λ k y is. ap at (let on : first + 1 + k ≡ first + suc k = omega arith in on) ∙ same (suc k) y is))
+    let later = by-place at (first + 1) xs (λ k n y is there. same (suc k) n y (omega (arith, is)) there) in
+    rw (same 0 first x (omega arith) refl, later)
 
 -- a test that each place passes
 all-places : (p : Object → Bool) (at : ℕ → Object) (first count : ℕ) → ((n : ℕ) → n < first + count → p (at n) ≡ true) → list_all p (map at (numbers_from first count)) ≡ true
 all-places p at first zero each = refl
 all-places p at first (suc count) each = and_from _ _ (each first (omega arith)) (all-places p at (first + 1) count (λ n lt. each n (omega (arith, lt))))
 
-every : {X : Type 0} (p : X → Bool) → ((x : X) → p x ≡ true) → (xs : List X) → list_all p xs ≡ true
-every p each [] = refl
-every p each (x ∷ xs) = and_from _ _ (each x) (every p each xs)
+flat-each : {X Y : Type 0} (p : Y → Bool) (f : X → List Y) → ((x : X) → list_all p (f x) ≡ true) → (xs : List X) → list_all p (flat_map f xs) ≡ true
+flat-each p f each [] = refl
+flat-each p f each (x ∷ xs) = all-append p (f x) (flat_map f xs) (each x) (flat-each p f each xs)
 
 -- ---- what stands in a list is found by its name, where no name stands twice
 
@@ -46,105 +46,79 @@ module _ (name : Object → List ℕ) where
   abbrev has : List ℕ → Object → Bool
   has w n = bytes_eq (name n) w
 
-  stands-any : (xs : List Object) (n : Object) → Stands xs n → list_any (has (name n)) xs ≡ true
+  stands-any : (xs : List Object) (n : Object) → Stands xs n → list_any (λ later. bytes_eq later (name n)) (map name xs) ≡ true
   stands-any [] n among = absurd among
-  stands-any (x ∷ xs) n (inl is) = or_left _ _ (ap (has (name n)) is ∙ (bytes_eq-Decides (name n) (name n)).1 refl)
-  stands-any (x ∷ xs) n (inr later) = or_right (has (name n) x) _ (stands-any xs n later)
+  stands-any (x ∷ xs) n among = grind (arith, (bytes_eq-Decides (name n) (name n)).1, stands-any xs n)
 
   stands-found : (xs : List Object) (n : Object) → are_distinct (map name xs) ≡ true → Stands xs n → find (has (name n)) xs ≡ Some n
   stands-found [] n distinct among = absurd among
   stands-found (x ∷ xs) n distinct (inl is) = rw (ap (has (name n)) is ∙ (bytes_eq-Decides (name n) (name n)).1 refl) (ap Some is)
   stands-found (x ∷ xs) n distinct (inr later) =
-      let parts = and_parts (not (list_any (λ later. bytes_eq later (name x)) (map name xs))) (are_distinct (map name xs)) distinct in
-      elim (cases_Bool (has (name n) x)) as (λ _. find (has (name n)) (x ∷ xs) ≡ Some n) [
-        | inl same ↦
-            let is : name x ≡ name n = (bytes_eq-Decides (name x) (name n)).0 same in
-            let again : list_any (λ later. bytes_eq later (name x)) (map name xs) ≡ true = any-mapped (λ later. bytes_eq later (name x)) name xs ∙ ap (λ w. list_any (has w) xs) is ∙ stands-any xs n later in
-            absurd (true≢false (sym again ∙ not-true _ parts.0))
-        | inr other ↦ rw other (stands-found xs n parts.1 later)
-      ]
+      let again : name x ≡ name n → list_any (λ later. bytes_eq later (name x)) (map name xs) ≡ true = λ is. rw is (stands-any xs n later) in
+      grind (arith, again, (bytes_eq-Decides (name x) (name n)).0, stands-found xs n)
 
 stands-front : (front back : List Object) (n : Object) → Stands front n → Stands (front ++ back) n
 stands-front [] back n among = absurd among
-stands-front (x ∷ front) back n (inl is) = inl is
-stands-front (x ∷ front) back n (inr later) = inr (stands-front front back n later)
+stands-front (x ∷ front) back n among = grind (arith, stands-front front back n)
 
 stands-back : (front back : List Object) (n : Object) → Stands back n → Stands (front ++ back) n
 stands-back [] back n among = among
 stands-back (x ∷ front) back n among = inr (stands-back front back n among)
 
-stands-at : (at : ℕ → Object) (first count k : ℕ) → k < count → Stands (map at (numbers_from first count)) (at (first + k))
-stands-at at first zero k lt = absurd (omega (arith, lt))
-stands-at at first (suc count) zero lt = inl (ap at (let here : first ≡ first + 0 = omega arith in here))
-stands-at at first (suc count) (suc k) lt = inr (subst (λ i. Stands (map at (numbers_from (first + 1) count)) (at i)) (let on : first + 1 + k ≡ first + suc k = omega arith in on) (stands-at at (first + 1) count k (omega (arith, lt))))
+-- an object of an index below their number stands among those of its kind
+stands-at : (at : ℕ → Object) (first count k : ℕ) → first ≤ k → k < first + count → Stands (map at (numbers_from first count)) (at k)
+stands-at at first zero k least most = absurd (omega arith)
+stands-at at first (suc count) k least most = grind (arith, cases_eq first k, stands-at at (first + 1) count k)
 
 stands-kind : (objects : ObjectKind → List Object) (kinds : List ObjectKind) (kind : ObjectKind) (n : Object) → list_any (λ (k : ObjectKind). same_kind k kind) kinds ≡ true → Stands (objects kind) n → Stands (flat_map objects kinds) n
-stands-kind objects [] kind n there among = absurd (true≢false (sym there))
+stands-kind objects [] kind n there among = cc
 stands-kind objects (k ∷ kinds) kind n there among =
-    elim (or_cases (same_kind k kind) (list_any (λ (k : ObjectKind). same_kind k kind) kinds) there) as (λ _. Stands (flat_map objects (k ∷ kinds)) n) [
-      | inl here ↦ stands-front (objects k) (flat_map objects kinds) n (subst (λ (k : ObjectKind). Stands (objects k) n) (sym (same_kind-true k kind here)) among)
-      | inr later ↦ stands-back (objects k) (flat_map objects kinds) n (stands-kind objects kinds kind n later among)
-    ]
+    grind (arith, same_kind-true k kind, stands-front (objects k) (flat_map objects kinds) n, stands-back (objects k) (flat_map objects kinds) n, stands-kind objects kinds kind n)
 
--- an object of an index below their number stands among those of its kind
-stands-under : (id : CoreId) (kind : ObjectKind) (count i : ℕ) → i < count → Stands (objects_under id kind count) (object_under id kind i)
-stands-under id kind count i lt = subst (λ k. Stands (objects_under id kind count) (object_under id kind k)) (let here : 0 + i ≡ i = omega arith in here) (stands-at (object_under id kind) 0 count i lt)
+stands-under : (object : Object) (id : CoreId) (count : ℕ) → object.place.core ≡ id → object.place.index < count → Stands (objects_under id object.kind count) object
+stands-under object id count same lt = rw (← same) (stands-at (object_under object.place.core object.kind) 0 count object.place.index (omega arith) (omega (arith, lt)))
 
 stands-core : (cores : List Core) (id : CoreId) (core : Core) (n : Object) → find (λ (c : Core). same_core c.id id) cores ≡ Some core → Stands (named_in core) n → Stands (flat_map named_in cores) n
 stands-core [] id core n found among = cc
-stands-core (c ∷ cores) id core n found among = by (same_core c.id id) found (λ later. stands-core cores id core n later among)
-  where
-    by : (b : Bool) → cond b (Some c) (find (λ (c : Core). same_core c.id id) cores) ≡ Some core → (find (λ (c : Core). same_core c.id id) cores ≡ Some core → Stands (flat_map named_in cores) n) → Stands (named_in c ++ flat_map named_in cores) n
-    by true here rest = let same : core ≡ c = cc in stands-front (named_in c) (flat_map named_in cores) n (subst (λ (c : Core). Stands (named_in c) n) same among)
-    by false later rest = stands-back (named_in c) (flat_map named_in cores) n (rest later)
+stands-core (c ∷ cores) id core n found among =
+    grind (arith, stands-front (named_in c) (flat_map named_in cores) n, stands-back (named_in c) (flat_map named_in cores) n, stands-core cores id core n)
 
 -- ---- the names of a core
 
 -- as many names as objects
 as-many : (core : Core) (kind : ObjectKind) → length (names_in kind core) ≡ object_count kind core
-as-many core ObjectKind.Mode = refl
-as-many core ObjectKind.Spinlock = refl
-as-many core kind = simp length-map
+as-many core kind = grind (arith, length-map)
 
 module _ (plan : Plan) where
   -- the names of the objects of a kind, each of which has the one of its index,
   under-names : (id : CoreId) (kind : ObjectKind) (names : List (List ℕ)) → ((k : ℕ) (name : List ℕ) → slice_get names k ≡ Some name → name_of plan kind (place_on id k) ≡ name) → (count : ℕ) → count ≡ length names → map (name_of_object plan) (objects_under id kind count) ≡ names
   under-names id kind names same count many =
-      map-map (name_of_object plan) (object_under id kind) (numbers_from 0 count)
-      ∙ ap (λ n. map (λ i. name_of_object plan (object_under id kind i)) (numbers_from 0 n)) many
-      ∙ by-place (λ i. name_of_object plan (object_under id kind i)) 0 names (λ k name is. let here : 0 + k ≡ k = omega arith in ap (λ i. name_of_object plan (object_under id kind i)) here ∙ same k name is)
+      rw (map-map (name_of_object plan) (object_under id kind), many)
+      (by-place (λ i. name_of_object plan (object_under id kind i)) 0 names (λ k n name is there. let here : n ≡ k = omega (arith, is) in rw here (same k name there)))
 
   -- of all kinds,
   kinds-names : (objects : ObjectKind → List Object) (names : ObjectKind → List (List ℕ)) → ((kind : ObjectKind) → map (name_of_object plan) (objects kind) ≡ names kind) → (kinds : List ObjectKind) → map (name_of_object plan) (flat_map objects kinds) ≡ flat_map names kinds
   kinds-names objects names same [] = refl
-  kinds-names objects names same (kind ∷ kinds) =
-      map-append (name_of_object plan) (objects kind) (flat_map objects kinds)
-      ∙ ap (λ (front : List (List ℕ)). front ++ map (name_of_object plan) (flat_map objects kinds)) (same kind)
-      ∙ ap (λ (back : List (List ℕ)). names kind ++ back) (kinds-names objects names same kinds)
+  kinds-names objects names same (kind ∷ kinds) = rw (map-append, same kind, kinds-names objects names same kinds)
 
   -- of the cores,
   core-names : (core : Core) (kind : ObjectKind) → IsFound plan.cores core → map (name_of_object plan) (objects_in core kind) ≡ names_in kind core
-  core-names core kind found =
-      under-names core.id kind (names_in kind core)
-      (λ k name is. ap (λ (o : Option Core). option_map_or (λ (c : Core). name_in kind c k) o (common_name plan kind (place_on core.id k))) found ∙ ap (λ (o : Option (List ℕ)). unwrap_or o []) is) (object_count kind core) (sym (as-many core kind))
+  core-names core kind found = under-names core.id kind (names_in kind core) (λ k name is. rw (found, is)) (object_count kind core) (sym (as-many core kind))
 
   cores-names : (cores : List Core) → AllByRecursion (IsFound plan.cores) cores → map (name_of_object plan) (flat_map named_in cores) ≡ flat_map object_names cores
   cores-names [] found = refl
   cores-names (core ∷ cores) found =
-      map-append (name_of_object plan) (named_in core) (flat_map named_in cores)
-      ∙ ap (λ (front : List (List ℕ)). front ++ map (name_of_object plan) (flat_map named_in cores)) (kinds-names (objects_in core) (λ kind. names_in kind core) (λ kind. core-names core kind found.0) KINDS)
-      ∙ ap (λ (back : List (List ℕ)). object_names core ++ back) (cores-names cores found.1)
+      let here = kinds-names (objects_in core) (λ kind. names_in kind core) (λ kind. core-names core kind found.0) KINDS in
+      rw (map-append (name_of_object plan) (named_in core) (flat_map named_in cores), here, cores-names cores found.1)
 
   -- and of what all have in common
   common-each : (alone : core_of plan NOBODY ≡ None) (kind : ObjectKind) → map (name_of_object plan) (common_in plan kind) ≡ common_names kind plan
-  common-each alone kind =
-      under-names NOBODY kind (common_names kind plan)
-      (λ k name is. ap (λ (o : Option Core). option_map_or (λ (c : Core). name_in kind c k) o (common_name plan kind (place_on NOBODY k))) alone ∙ ap (λ (o : Option (List ℕ)). unwrap_or o []) is) (length (common_names kind plan)) refl
+  common-each alone kind = under-names NOBODY kind (common_names kind plan) (λ k name is. rw (alone, is)) (length (common_names kind plan)) refl
 
   -- what objects pass by their places, all do that have a name
   kinds-pass : (p : Object → Bool) (id : CoreId) (count : ObjectKind → ℕ) → ((kind : ObjectKind) (i : ℕ) → i < count kind → p (object_under id kind i) ≡ true) → (kinds : List ObjectKind) → list_all p (flat_map (λ (kind : ObjectKind). objects_under id kind (count kind)) kinds) ≡ true
   kinds-pass p id count each kinds =
-      all-flat p (λ (kind : ObjectKind). objects_under id kind (count kind)) kinds (every (λ kind. list_all p (objects_under id kind (count kind))) (λ kind. all-places p (object_under id kind) 0 (count kind) (λ n lt. each kind n (omega (arith, lt)))) kinds)
+      flat-each p (λ (kind : ObjectKind). objects_under id kind (count kind)) (λ kind. all-places p (object_under id kind) 0 (count kind) (λ n lt. each kind n (omega (arith, lt)))) kinds
 
   cores-pass : (p : Object → Bool) (cores : List Core) → ((core : Core) → IsFound plan.cores core → (kind : ObjectKind) (i : ℕ) → i < object_count kind core → p (object_under core.id kind i) ≡ true) → AllByRecursion (IsFound plan.cores) cores → list_all p (flat_map named_in cores) ≡ true
   cores-pass p [] each found = refl
@@ -158,12 +132,9 @@ few plan limits i core within is =
     few-objects core (fits plan core (passes-at (λ (c : Core). is_core_within (core_sizes plan c)) plan.cores i core (limit-parts plan limits).cores at))
 
 pub few-common : (plan : Plan) → IsTrue (is_within_limits plan) → HasFewCommon plan
-few-common plan limits ObjectKind.Mode = let few = few-modes (sizes_of plan) (limit-parts plan limits).sizes in omega (arith, few)
-few-common plan limits ObjectKind.Spinlock =
-    let few = few-spinlocks (sizes_of plan) (limit-parts plan limits).sizes in
-    let many = length-map plan.spinlocks (λ (spinlock : Spinlock). spinlock.name) in
-    omega (arith, few, many)
-few-common plan limits kind = omega arith
+few-common plan limits kind =
+    let sizes = (limit-parts plan limits).sizes in
+    grind (arith, few-modes (sizes_of plan) sizes, few-spinlocks (sizes_of plan) sizes, length-map plan.spinlocks (λ (spinlock : Spinlock). spinlock.name))
 
 -- ---- all that has a name
 
@@ -176,33 +147,27 @@ module _ (plan : Plan) (limits : IsTrue (is_within_limits plan)) (said : IsTrue 
 
   names-are : map (name_of_object plan) (all_named plan) ≡ declared_names plan
   names-are =
-      map-append (name_of_object plan) (flat_map (common_in plan) COMMON) (flat_map named_in plan.cores)
-      ∙ ap (λ (names : List (List ℕ)). names ++ map (name_of_object plan) (flat_map named_in plan.cores)) (kinds-names plan (common_in plan) (λ kind. common_names kind plan) (common-each plan alone) COMMON)
-      ∙ ap (λ (names : List (List ℕ)). all_common_names plan ++ names) (cores-names plan plan.cores found)
+      let common = kinds-names plan (common_in plan) (λ kind. common_names kind plan) (common-each plan alone) COMMON in
+      rw (map-append (name_of_object plan) (flat_map (common_in plan) COMMON) (flat_map named_in plan.cores), common, cores-names plan plan.cores found)
 
   all-formed : list_all is_name (declared_names plan) ≡ true
   all-formed =
-      all-append is_name (all_common_names plan) (flat_map object_names plan.cores) (all-flat is_name (λ (kind : ObjectKind). common_names kind plan) COMMON (every (λ (kind : ObjectKind). list_all is_name (common_names kind plan)) common COMMON))
-      (all-flat is_name object_names plan.cores (by plan.cores (text-parts plan said).cores))
+      all-append is_name (all_common_names plan) (flat_map object_names plan.cores) (flat-each is_name (λ (kind : ObjectKind). common_names kind plan) common COMMON)
+      (all-flat is_name object_names plan.cores (all-weaker is_core_representable (λ (core : Core). list_all is_name (object_names core)) each plan.cores (text-parts plan said).cores))
     where
       common : (kind : ObjectKind) → list_all is_name (common_names kind plan) ≡ true
       common ObjectKind.Mode = all-weaker is_mode_representable is_name (λ name h. (and_parts (is_name name) _ h).0) plan.modes (text-parts plan said).modes
       common ObjectKind.Spinlock = list_all-map is_name (λ (spinlock : Spinlock). spinlock.name) plan.spinlocks ∙ (text-parts plan said).spinlocks
       common kind = refl
 
-      by : (cores : List Core) → list_all is_core_representable cores ≡ true → list_all (λ (core : Core). list_all is_name (object_names core)) cores ≡ true
-      by [] each = refl
-      by (core ∷ cores) each =
-          let parts = and_parts (is_core_representable core) (list_all is_core_representable cores) each in
-          and_from _ _ (all-flat is_name (λ (kind : ObjectKind). names_in kind core) KINDS (every (λ (kind : ObjectKind). list_all is_name (names_in kind core)) (names-formed core (core-text-parts core parts.0)) KINDS)) (by cores parts.1)
+      each : (core : Core) → is_core_representable core ≡ true → list_all is_name (object_names core) ≡ true
+      each core is = flat-each is_name (λ (kind : ObjectKind). names_in kind core) (names-formed core (core-text-parts core is)) KINDS
 
   all-there : list_all (is_object plan) (all_named plan) ≡ true
   all-there =
       all-append (is_object plan) (flat_map (common_in plan) COMMON) (flat_map named_in plan.cores)
-      (kinds-pass plan (is_object plan) NOBODY (λ kind. length (common_names kind plan))
-      (λ kind i lt. ap (λ (o : Option Core). option_map_or (λ (c : Core). nat_lt i (object_count kind c)) o (is_common plan (object_under NOBODY kind i))) alone ∙ lt-ltb i (length (common_names kind plan)) lt) COMMON)
-      (cores-pass plan (is_object plan) plan.cores
-      (λ core is kind i lt. ap (λ (o : Option Core). option_map_or (λ (c : Core). nat_lt i (object_count kind c)) o (is_common plan (object_under core.id kind i))) is ∙ lt-ltb i (object_count kind core) lt) found)
+      (kinds-pass plan (is_object plan) NOBODY (λ kind. length (common_names kind plan)) (λ kind i lt. rw alone (lt-ltb i (length (common_names kind plan)) lt)) COMMON)
+      (cores-pass plan (is_object plan) plan.cores (λ core is kind i lt. rw is (lt-ltb i (object_count kind core) lt)) found)
 
   -- What a name refers to is there, and the name is in form.
   pub named-there : (w : List ℕ) (n : Object) → named_by plan w ≡ Some n → is_object plan n ≡ true
@@ -214,40 +179,35 @@ module _ (plan : Plan) (limits : IsTrue (is_within_limits plan)) (said : IsTrue 
       ∙ find-passes (λ (n : Object). bytes_eq (name_of_object plan n) w) (λ (n : Object). is_name (name_of_object plan n)) (all_named plan) n
       (sym (list_all-map is_name (name_of_object plan) (all_named plan)) ∙ ap (list_all is_name) names-are ∙ all-formed) e
 
-  -- And what is there is what its name refers to:
-  by-name : (n : Object) → Stands (all_named plan) n → named_by plan (name_of_object plan n) ≡ Some n
-  by-name n among = stands-found (name_of_object plan) (all_named plan) n (ap are_distinct names-are ∙ (text-parts plan said).names) among
+  -- What is there has a name: an object of a core, which is of a kind that cores have, and one that all have in common.
+  in-kinds : (core : Core) (kind : ObjectKind) (i : ℕ) → i < object_count kind core → list_any (λ (k : ObjectKind). same_kind k kind) KINDS ≡ true
+  in-kinds core kind i lt = grind arith
 
-  -- an object of a core, which is of a kind that cores have,
-  core-stands : (core : Core) (kind : ObjectKind) (i : ℕ) → i < object_count kind core → Stands (named_in core) (object_under core.id kind i)
-  core-stands core ObjectKind.Mode i lt = absurd (omega (arith, lt))
-  core-stands core ObjectKind.Spinlock i lt = absurd (omega (arith, lt))
-  core-stands core kind i lt = stands-kind (objects_in core) KINDS kind _ refl (stands-under core.id kind (object_count kind core) i lt)
-
-  -- and one that all have in common.
-  common-stands : (kind : ObjectKind) (i : ℕ) → i < length (common_names kind plan) → Stands (flat_map (common_in plan) COMMON) (object_under NOBODY kind i)
-  common-stands ObjectKind.Mode i lt = stands-kind (common_in plan) COMMON ObjectKind.Mode _ refl (stands-under NOBODY ObjectKind.Mode (length plan.modes) i lt)
-  common-stands ObjectKind.Spinlock i lt = stands-kind (common_in plan) COMMON ObjectKind.Spinlock _ refl (stands-under NOBODY ObjectKind.Spinlock (length (common_names ObjectKind.Spinlock plan)) i lt)
-  common-stands kind i lt = absurd (omega (arith, lt))
+  in-common : (kind : ObjectKind) (i : ℕ) → i < length (common_names kind plan) → list_any (λ (k : ObjectKind). same_kind k kind) COMMON ≡ true
+  in-common kind i lt = grind arith
 
   object-stands : (object : Object) → is_object plan object ≡ true → Stands (all_named plan) object
   object-stands object is = by (core_of plan object.place.core) refl is
     where
-      at : CoreId → Object
-      at id = object_under id object.kind object.place.index
-
       by : (o : Option Core) → core_of plan object.place.core ≡ o → option_map_or (λ (c : Core). nat_lt object.place.index (object_count object.kind c)) o (is_common plan object) ≡ true → Stands (all_named plan) object
       by None none is =
-          let parts = and_parts (same_core object.place.core NOBODY) (nat_lt object.place.index (length (common_names object.kind plan))) is in
-          let among = common-stands object.kind object.place.index (ltb-true object.place.index (length (common_names object.kind plan)) parts.1) in
-          stands-front (flat_map (common_in plan) COMMON) (flat_map named_in plan.cores) object (subst (λ (id : CoreId). Stands (flat_map (common_in plan) COMMON) (at id)) (sym (same_core-true object.place.core NOBODY parts.0)) among)
+          let count = length (common_names object.kind plan) in
+          let parts = and_parts (same_core object.place.core NOBODY) (nat_lt object.place.index count) is in
+          let lt = ltb-true object.place.index count parts.1 in
+          let under = stands-under object NOBODY count (same_core-true object.place.core NOBODY parts.0) lt in
+          stands-front (flat_map (common_in plan) COMMON) (flat_map named_in plan.cores) object (stands-kind (common_in plan) COMMON object.kind object (in-common object.kind object.place.index lt) under)
       by (Some core) here is =
-          let same : core.id ≡ object.place.core = same_core-true core.id object.place.core (find-holds (λ (c : Core). same_core c.id object.place.core) plan.cores core here) in
-          let among = core-stands core object.kind object.place.index (ltb-true object.place.index (object_count object.kind core) is) in
-          stands-back (flat_map (common_in plan) COMMON) (flat_map named_in plan.cores) object (stands-core plan.cores object.place.core core object here (subst (λ (id : CoreId). Stands (named_in core) (at id)) same among))
+          let same = same_core-true core.id object.place.core (find-holds (λ (c : Core). same_core c.id object.place.core) plan.cores core here) in
+          let lt = ltb-true object.place.index (object_count object.kind core) is in
+          let under = stands-under object core.id (object_count object.kind core) (sym same) lt in
+          let among = stands-kind (objects_in core) KINDS object.kind object (in-kinds core object.kind object.place.index lt) under in
+          stands-back (flat_map (common_in plan) COMMON) (flat_map named_in plan.cores) object (stands-core plan.cores object.place.core core object here among)
 
+  -- It is what its name refers to.
   pub place-found : (object : Object) → is_object plan object ≡ true → place_named plan object.kind (name_of plan object.kind object.place) ≡ Some object.place
-  place-found object is = ap (option_and_then (if_object object.kind)) (by-name object (object-stands object is)) ∙ rw (same_kind-self object.kind) refl
+  place-found object is =
+      let found = stands-found (name_of_object plan) (all_named plan) object (ap are_distinct names-are ∙ (text-parts plan said).names) (object-stands object is) in
+      rw (found, same_kind-self object.kind)
 
   -- So its name is in form.
   pub object-formed : (object : Object) → is_object plan object ≡ true → is_name (name_of plan object.kind object.place) ≡ true

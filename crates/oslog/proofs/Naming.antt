@@ -24,5 +24,4 @@ place-more {A} at count = ap (λ n. map at (numbers_from 0 n)) (add-one count) �
     from first (suc many) last is = ap (λ xs. at first ∷ xs) (from (first + 1) many last (omega (arith, is)))
 
 pub one-pushed : {A : Type 0} (at : ℕ → A) (count : ℕ) (initial old : List A) → old ≡ initial ++ map at (numbers_from 0 count) → old ++ at count ∷ [] ≡ initial ++ map at (numbers_from 0 (count + 1))
-one-pushed at count initial old is =
-    ap (λ xs. xs ++ at count ∷ []) is ∙ append_assoc initial (map at (numbers_from 0 count)) (at count ∷ []) ∙ ap (λ xs. initial ++ xs) (sym (place-more at count))
+one-pushed at count initial old is = rw (is, place-more at count, append_assoc)

@@ -1,5 +1,5 @@
 -- What is left to read gives the whole, a step further.
-use Rattle.std.proofs.Common.{◌≡◌, ℕ, zero, suc, ◌<◌, false, Option, Some, None, is_none, List, [], ◌∷◌, length, drop, refl, sym, ap, ◌∙◌, arith}
+use Rattle.std.proofs.Common.{◌≡◌, ℕ, zero, suc, ◌<◌, false, Option, Some, None, is_none, List, [], ◌∷◌, length, drop, refl, sym, arith}
 use Rattle.std.specs.Borrow.{Bor}
 use Rattle.ossyntax.specs.ParsedOp.{rest_words, words_of}
 use Rattle.ossyntax.proofs.Wording.{some-word}
@@ -18,8 +18,7 @@ no-word plan (k ∷ kinds) (suc i) parts within = no-word plan kinds i parts (om
 -- where a text is left, a word is too many
 pub no-tail : (plan : Plan) (tail : Tail) (text : Option (Bor (List ℕ))) (parts : Parts) → tail ≡ T.Nothing → is_none text ≡ false → None ≡ with_tail plan tail (rest_words text) parts
 no-tail plan tail None parts is some = cc
-no-tail plan tail (Some text) parts is some = by (words_of text.now) refl ∙ ap (λ (t : Tail). with_tail plan t (words_of text.now) parts) (sym is)
+no-tail plan tail (Some text) parts is some = let none = some-word text.now in rw is (sym (left (words_of text.now) none))
   where
-    by : (words : List (List ℕ)) → words_of text.now ≡ words → None ≡ with_tail plan T.Nothing (words_of text.now) parts
-    by [] none = absurd (some-word text.now none)
-    by (word ∷ words) is = rw is refl
+    left : (words : List (List ℕ)) → (words ≡ [] → ⊥) → with_tail plan T.Nothing words parts ≡ None
+    left words some = grind arith

@@ -1,7 +1,7 @@
 -- How many letters wait for a core, before and after a change of one mailbox.
 use native.Mathlib.Omega.{arith}
 use Rattle.std.proofs.Common.{◌≡◌, ◌<◌, ◌≤◌, ◌+◌, ◌*◌, ◌^◌, ◌≢◌, ℕ, zero, suc, List, [], ◌∷◌, length, map, refl, sym, ap, ◌∙◌, get_or, set, sum_by, get_or-set_same, get_or-set_other, length-set, replicate, false, ◌⊎◌, inl, inr}
-use Rattle.std.proofs.{lemmas.Bool.cases_eq, lemmas.Bool.Decides.nat_tests, lemmas.List.get_or_default, lemmas.List.get_or-replicate, lemmas.List.length-replicate, lemmas.Grind.get_or-set_at, lemmas.List.Sums.get_or-le-sum_by, lemmas.List.Sums.sum_by-cons, lemmas.List.Sums.sum_by-set}
+use Rattle.std.proofs.{lemmas.Bool.cases_eq, lemmas.Bool.Decides.nat_tests, lemmas.List.get_or_default, lemmas.List.get_or-replicate, lemmas.List.nil_from_length, lemmas.List.length-replicate, lemmas.Grind.get_or-set_at, lemmas.List.Sums.get_or-le-sum_by, lemmas.List.Sums.sum_by-set}
 use Rattle.osbase.specs.{Sets.numbers_from, declared.references.CoreId.CoreId, declared.messages.Letter.Letter, declared.limits.TheConstants.CORES}
 use Rattle.osbase.proofs.Tables.{table-at, table-same, table-set}
 use Rattle.osmail.specs.Mail.{AreCounted, box_of, has_mail, IsWithin, Mail, place_of, waiting_in}
@@ -26,20 +26,10 @@ waiting-part boxes from to sender =
     let whole = waiting-sum boxes to in
     omega arith
 
-sum-most : (F : ℕ → ℕ) (most first count : ℕ) → ((n : ℕ) → n < first + count → F n ≤ most) → sum_by (λ n. n) (map F (numbers_from first count)) ≤ count * most
-sum-most F most first zero all = omega arith
-sum-most F most first (suc count) all =
-    let here = all first (omega arith) in
-    let step = sum_by-cons (λ n. n) (F first) (map F (numbers_from (first + 1) count)) in
-    let rest = sum-most F most (first + 1) count (λ n below. all n (omega (arith, below))) in
-    omega arith
-
 -- it is bounded, as each mailbox is
 pub waiting-most : (cap : ℕ) (boxes : List (List Letter)) (to : CoreId) → to.number < CORES → ((k : ℕ) → k < CORES * CORES → length (get_or boxes k []) ≤ cap) → waiting_in boxes to ≤ CORES * cap
-waiting-most cap boxes to receiver within =
-    let all = sum-most (from_at boxes to) cap 0 CORES (λ n below. within (n * CORES + to.number) (omega (arith, below, receiver))) in
-    let whole = waiting-sum boxes to in
-    omega arith
+unfolding waiting_in
+waiting-most cap boxes to receiver within = omega (arith, within)
 
 module _ (boxes : List (List Letter)) (from to : CoreId) (letters : List Letter) (sender : from.number < CORES) (receiver : to.number < CORES) (places : length boxes ≡ CORES * CORES) where
   abbrev changed : List (List Letter)
@@ -73,54 +63,46 @@ within-set room cap boxes at letters is few = record {
   fits = is.fits;
   few = is.few;
   places = length-set boxes at letters ∙ is.places;
-  within = λ k below. each k below (cases_eq k at);
+  within = λ k below. grind (arith, cases_eq k at, get_or-set_at, get_or-set_other, is.within k below);
 }
-  where
-    each : (k : ℕ) → k < CORES * CORES → (k ≡ at) ⊎ (k ≡ at → ⊥) → length (get_or (set boxes at letters) k []) ≤ cap
-    each k below (inl same) = let set_there = ap length (get_or-set_at boxes at k letters [] same (omega (arith, same, below, is.places))) in omega (arith, set_there, few)
-    each k below (inr other) = let as_before = ap length (get_or-set_other boxes at k letters [] other) in let most = is.within k below in omega (arith, as_before, most)
 
-pub counted-set : (room cap : ℕ) (counts : List ℕ) (boxes : List (List Letter)) (from to : CoreId) (letters : List Letter) (count : ℕ) → from.number < CORES → to.number < CORES → length counts ≡ CORES → IsWithin room cap boxes × AreCounted counts boxes → length letters ≤ cap
-    → count + length (get_or boxes (place_of from to) []) ≡ get_or counts to.number 0 + length letters → IsWithin room cap (set boxes (place_of from to) letters) × AreCounted (set counts to.number count) (set boxes (place_of from to) letters)
-counted-set room cap counts boxes from to letters count sender receiver all is few changes = (within-set room cap boxes (place_of from to) letters is.0 few, λ to' below. each to' below (cases_eq to'.number to.number))
-  where
-    each : (to' : CoreId) → to'.number < CORES → (to'.number ≡ to.number) ⊎ (to'.number ≡ to.number → ⊥) → get_or (set counts to.number count) to'.number 0 ≡ waiting_in (set boxes (place_of from to) letters) to'
-    each to' below (inl same) =
-        let now = get_or-set_at counts to.number to'.number count 0 same (omega (arith, all, receiver)) in
-        let was = is.1 to receiver in
-        let waits = waiting-set_same boxes from to letters sender receiver is.0.places in
-        let here : to' ≡ to = ap (λ (n : ℕ). record { number = n }) same in
-        let fits : count ≡ waiting_in (set boxes (place_of from to) letters) to = omega (arith, was, waits, changes) in
-        now ∙ fits ∙ ap (waiting_in (set boxes (place_of from to) letters)) (sym here)
-    each to' below (inr other) =
-        get_or-set_other counts to.number to'.number count 0 other ∙ is.1 to' below
-        ∙ sym (waiting-set_other boxes from to letters sender receiver is.0.places to' below other)
+-- one mailbox is read, and then changed
+module _ (room cap : ℕ) (counts : List ℕ) (boxes : List (List Letter)) (from to : CoreId) (at : ℕ) (old : List Letter) (sender : from.number < CORES) (receiver : to.number < CORES) (is : IsWithin room cap boxes × AreCounted counts boxes) (here : at ≡ place_of from to) (read : old ≡ get_or boxes at old) where
+  box : get_or boxes (place_of from to) [] ≡ old
+  box = get_or_default boxes (place_of from to) [] old (omega (arith, place_below from to sender receiver, is.0.places)) ∙ sym (read ∙ ap (λ (k : ℕ). get_or boxes k old) here)
 
--- nothing waits where nothing stands
-pub waiting-none : (boxes : List (List Letter)) (to : CoreId) → to.number < CORES → ((k : ℕ) → k < CORES * CORES → length (get_or boxes k []) ≤ 0) → waiting_in boxes to ≡ 0
-waiting-none boxes to receiver none = let most = waiting-most 0 boxes to receiver none in omega arith
+  pub counted-at : (length old ≤ cap) × (length old ≤ get_or counts to.number 0) × (get_or counts to.number 0 ≤ CORES * cap)
+  counted-at =
+      let same = ap length box in
+      let part = waiting-part boxes from to sender in
+      let most = waiting-most cap boxes to receiver is.0.within in
+      let fits = is.0.within (place_of from to) (place_below from to sender receiver) in
+      let count = is.1 to receiver in
+      omega (arith, same, part, most, fits, count)
+
+  pub counted-set : (letters : List Letter) (count : ℕ) → length counts ≡ CORES → length letters ≤ cap → count + length old ≡ get_or counts to.number 0 + length letters → IsWithin room cap (set boxes at letters) × AreCounted (set counts to.number count) (set boxes at letters)
+  counted-set letters count all few changes = rw here (within-set room cap boxes (place_of from to) letters is.0 few, λ to' below. each to' below (cases_eq to'.number to.number))
+    where
+      each : (to' : CoreId) → to'.number < CORES → (to'.number ≡ to.number) ⊎ (to'.number ≡ to.number → ⊥) → get_or (set counts to.number count) to'.number 0 ≡ waiting_in (set boxes (place_of from to) letters) to'
+      each to' below (inl same) =
+          let waits = waiting-set_same boxes from to letters sender receiver is.0.places in
+          let one : to' ≡ to = ap (λ (n : ℕ). record { number = n }) same in
+          let fits : count ≡ waiting_in (set boxes (place_of from to) letters) to = omega (arith, is.1 to receiver, waits, changes, ap length box) in
+          get_or-set_at counts to.number to'.number count 0 same (omega (arith, all, receiver)) ∙ fits ∙ ap (waiting_in (set boxes (place_of from to) letters)) (sym one)
+      each to' below (inr other) = get_or-set_other counts to.number to'.number count 0 other ∙ is.1 to' below ∙ sym (waiting-set_other boxes from to letters sender receiver is.0.places to' below other)
 
 -- at first nothing stands anywhere
 pub counted-new : (room cap places : ℕ) → places ≡ CORES * CORES → 1 ≤ cap → cap ≤ room → CORES * cap < 2 ^ 16 → IsWithin room cap (replicate places []) × AreCounted (replicate CORES 0) (replicate places [])
 counted-new room cap places all some fits few = (
   record { some = some; fits = fits; few = few; places = length-replicate places [] ∙ all; within = λ k below. omega (arith, empty k below) },
-  λ to receiver. get_or-replicate CORES to.number 0 0 receiver ∙ sym (waiting-none (replicate places []) to receiver (λ k below. omega (arith, empty k below))),
+  λ to receiver. let most = waiting-most 0 (replicate places []) to receiver (λ k below. omega (arith, empty k below)) in get_or-replicate CORES to.number 0 0 receiver ∙ omega (arith, most),
 )
   where
     empty : (k : ℕ) → k < CORES * CORES → length (get_or {A = List Letter} (replicate places []) k []) ≡ 0
     empty k below = ap length (get_or-replicate places k [] [] (omega (arith, all, below)))
 
--- what a mailbox is read as, where it is there
-pub read-at : (boxes : List (List Letter)) (from to : CoreId) (at : ℕ) (letters : List Letter) → from.number < CORES → to.number < CORES → length boxes ≡ CORES * CORES → at ≡ place_of from to → letters ≡ get_or boxes at letters → get_or boxes (place_of from to) [] ≡ letters
-read-at boxes from to at letters sender receiver places here is =
-    get_or_default boxes (place_of from to) [] letters (omega (arith, place_below from to sender receiver, places)) ∙ sym (is ∙ ap (λ (k : ℕ). get_or boxes k letters) here)
-
 -- no mailbox to a core that has no mail holds anything
 pub no_mail : (mail : Mail) (from to : CoreId) → from.number < CORES → has_mail mail to ≡ false → box_of mail from to ≡ []
 no_mail mail from to sender none =
     let part = waiting-part mail.boxes from to sender in
-    nothing (box_of mail from to) (grind (arith, nat_tests, part, none))
-  where
-    nothing : (letters : List Letter) → length letters ≡ 0 → letters ≡ []
-    nothing [] e = refl
-    nothing (x ∷ xs) e = absurd (omega (arith, e))
+    nil_from_length (box_of mail from to) (grind (arith, nat_tests, part, none))

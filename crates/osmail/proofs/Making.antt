@@ -1,48 +1,34 @@
 -- How the rings of all ordered pairs of ends are made, one after another.
 use native.Mathlib.Omega.{arith}
-use Rattle.std.proofs.Common.{◌≡◌, ◌<◌, ◌+◌, ◌⊎◌, inl, inr, ℕ, zero, suc, Option, Some, None, List, [], ◌∷◌, length, map, take, get_or, set, replicate, refl, sym, ap, subst, ◌∙◌, length-set, get_or-set_same, get_or-set_other}
+use Rattle.std.proofs.Common.{◌≡◌, ◌<◌, ◌+◌, ◌==◌, ◌&&◌, ◌⊎◌, inl, inr, ℕ, zero, suc, Option, Some, None, List, [], ◌∷◌, length, map, take, get_or, set, replicate, refl, sym, ap, subst, ◌∙◌, length-set, get_or-set_same, get_or-set_other}
 use Rattle.std.proofs.lemmas.Bool.{cases_eq}
-use Rattle.std.proofs.lemmas.List.{length-map, length-replicate, map-set, take_more}
-use Rattle.std.specs.{List.AllByRecursion, Global.Vec, Option.option_map}
+use Rattle.std.proofs.lemmas.Bool.Decides.{nat_tests}
+use Rattle.std.proofs.lemmas.Grind.{get_or-set_at}
+use Rattle.std.proofs.lemmas.List.{get_or_default, length-map, length-replicate, map-set, take_more}
+use Rattle.std.proofs.lemmas.List.Elements.{All-from_get_or, All-from_recursion, All-map, All-replicate, All-set, recursion_from_All}
+use Rattle.std.specs.{List.AllByRecursion, Global.Vec, Option.option_map, Prelude.if◌then◌else◌}
 use Rattle.rtrb.specs.Ring.{IsPair, known_free, received, sent}
 use Rattle.osbase.specs.{declared.limits.TheConstants.CORES, declared.references.CoreId.CoreId, declared.messages.Letter.Letter}
 use Rattle.osmail.specs.{declared.rings.RingEnd.RingEnd, Ends.letters_of}
 use Rattle.osmail.specs.Rings.{AreApart, AreCores, AreLinked, AreMade, EndId, HasFreshRings, HasPlaces, HasRoom, IsApart, IsBare, IsInRange, IsLinked, IsUnsent, IsUntaken, IsUnused, RingId, Sender, Taker, core_at, core_of_end, end_id, free_at, free_of, free_to, ring_from, ring_to, sent_by, taken_by}
-use Rattle.osmail.proofs.Through.{all-get, all-map, all-snoc, read_at, read_same}
+use Rattle.osmail.proofs.Through.{all-at, all-get, all-map, all-snoc, read_at, read_same}
 
 -- ---- all of a list
 
 all-set : {A : Type 0} (P : A → Type 0) (xs : List A) (i : ℕ) (x : A) → AllByRecursion P xs → P x → AllByRecursion P (set xs i x)
-all-set P [] i x all one = tt
-all-set P (y ∷ ys) zero x all one = (one, all.1)
-all-set P (y ∷ ys) (suc i) x all one = (all.0, all-set P ys i x all.1 one)
+all-set P xs i x all one = recursion_from_All P (set xs i x) (All-set P xs i x one (All-from_recursion P xs all))
+
+-- One of them is replaced by one for which it holds, too.
+all-kept : {A : Type 0} (P : A → Type 0) (xs : List A) (i : ℕ) (old new : A) → i < length xs → old ≡ get_or xs i old → (P old → P new) → AllByRecursion P xs → AllByRecursion P (set xs i new)
+all-kept P xs i old new within is keeps all = all-set P xs i new all (keeps (subst P (sym is) (all-get P xs i old within all)))
 
 all-make : {A : Type 0} (P : A → Type 0) (xs : List A) (d : A) → ((k : ℕ) → k < length xs → P (get_or xs k d)) → AllByRecursion P xs
-all-make P [] d each = tt
-all-make P (y ∷ ys) d each = (each zero (omega arith), all-make P ys d (λ k within. each (suc k) (omega (arith, within))))
-
--- The same where there is nothing that could stand for a missing element.
-all-read : {A : Type 0} (P : A → Type 0) (xs : List A) → ((k : ℕ) (x : A) → k < length xs → x ≡ get_or xs k x → P x) → AllByRecursion P xs
-all-read P [] each = tt
-all-read P (y ∷ ys) each = (each zero y (omega arith) refl, all-read P ys (λ k x within is. each (suc k) x (omega (arith, within)) is))
+all-make P xs d each = recursion_from_All P xs (All-from_get_or P xs d each)
 
 all-mapped : {A B : Type 0} (P : A → Type 0) (Q : B → Type 0) (f : A → B) (xs : List A) → ((x : A) → P x → Q (f x)) → AllByRecursion P xs → AllByRecursion Q (map f xs)
-all-mapped P Q f [] each all = tt
-all-mapped P Q f (x ∷ xs) each all = (each x all.0, all-mapped P Q f xs each all.1)
-
-all-replicate : {A : Type 0} (P : A → Type 0) (n : ℕ) (x : A) → P x → AllByRecursion P (replicate n x)
-all-replicate P zero x one = tt
-all-replicate P (suc n) x one = (one, all-replicate P n x one)
-
-read_as : {A B C : Type 0} (f : A → B) (g : B → C) (xs : List A) (k : ℕ) (d : B) → g (get_or (map f xs) k d) ≡ get_or (map (λ x. g (f x)) xs) k (g d)
-read_as f g [] k d = refl
-read_as f g (x ∷ xs) zero d = refl
-read_as f g (x ∷ xs) (suc k) d = read_as f g xs k d
+all-mapped P Q f xs each all = recursion_from_All Q (map f xs) (All-map Q f xs (λ k d within. each (get_or xs k d) (all-get P xs k d within all)))
 
 -- ---- a table: a row for each end, with a place for each core number
-
-abbrev Table : Type 0
-Table = List (List (Option RingId))
 
 abbrev nobody : CoreId
 nobody = record { number = 0 }
@@ -50,8 +36,17 @@ nobody = record { number = 0 }
 abbrev number_at : List CoreId → ℕ → ℕ
 number_at cores k = (get_or cores k nobody).number
 
-abbrev entry : Table → ℕ → ℕ → Option RingId
-entry rows k n = get_or (get_or rows k []) n None
+abbrev entry : {B : Type 0} → List (List B) → ℕ → ℕ → B → B
+entry rows k n d = get_or (get_or rows k []) n d
+
+abbrev put : {B : Type 0} → List (List B) → ℕ → ℕ → B → List (List B)
+put rows i n v = set rows i (set (get_or rows i []) n v)
+
+abbrev HasPlace : {B : Type 0} → List (List B) → ℕ → ℕ → Type 0
+HasPlace rows i n = (i < length rows) × (n < length (get_or rows i []))
+
+put-at : {B : Type 0} (rows : List (List B)) (i n : ℕ) (v d : B) → HasPlace rows i n → (k m : ℕ) → entry (put rows i n v) k m d ≡ (if i == k && n == m then v else entry rows k m d)
+put-at rows i n v d has k m = grind (arith, nat_tests, get_or-set_at, get_or-set_other)
 
 apart-at : (cores : List CoreId) → AreApart cores → (k l : ℕ) → k < length cores → l < length cores → number_at cores k ≡ number_at cores l → k ≡ l
 apart-at [] apart k l within within' same = absurd (omega (arith, within))
@@ -60,60 +55,27 @@ apart-at (c ∷ cs) apart zero (suc l) within within' same = absurd (all-get (Is
 apart-at (c ∷ cs) apart (suc k) zero within within' same = absurd (all-get (IsApart c) cs k nobody (omega (arith, within)) apart.0 (sym same))
 apart-at (c ∷ cs) apart (suc k) (suc l) within within' same = ap suc (apart-at cs apart.1 k l (omega (arith, within)) (omega (arith, within')) same)
 
--- With a ring in the row of one end, at the number of another one.
-module _ (cores : List CoreId) (apart : AreApart cores) (rows : Table) (i j : ℕ) (ring : RingId) (within : i < length rows) (inside : j < length cores) (wide : number_at cores j < length (get_or rows i [])) where
-  abbrev with_ring : Table
-  with_ring = set rows i (set (get_or rows i []) (number_at cores j) (Some ring))
+-- Two tables, of the rings by which each end sends and of those by which each takes: both have the same ring.
+abbrev AreCrossed : List CoreId → List (List (Option RingId)) → List (List (Option RingId)) → Type 0
+AreCrossed cores tos froms = (k l : ℕ) → k < length cores → l < length cores → entry tos k (number_at cores l) None ≡ entry froms l (number_at cores k) None
 
-  placed : entry with_ring i (number_at cores j) ≡ Some ring
-  placed =
-      ap (λ (row : List (Option RingId)). get_or row (number_at cores j) None) (get_or-set_same rows i (set (get_or rows i []) (number_at cores j) (Some ring)) [] within)
-      ∙ get_or-set_same (get_or rows i []) (number_at cores j) (Some ring) None wide
-
-  others : (k l : ℕ) → l < length cores → (k ≡ i → l ≡ j → ⊥) → entry with_ring k (number_at cores l) ≡ entry rows k (number_at cores l)
-  others k l below other = by (cases_eq k i)
-    where
-      by : (k ≡ i) ⊎ (k ≡ i → ⊥) → entry with_ring k (number_at cores l) ≡ entry rows k (number_at cores l)
-      by (inl same) =
-          ap (λ (k : ℕ). entry with_ring k (number_at cores l)) same
-          ∙ ap (λ (row : List (Option RingId)). get_or row (number_at cores l) None) (get_or-set_same rows i (set (get_or rows i []) (number_at cores j) (Some ring)) [] within)
-          ∙ get_or-set_other (get_or rows i []) (number_at cores j) (number_at cores l) (Some ring) None (λ same_number. other same (apart-at cores apart l j below inside same_number))
-          ∙ sym (ap (λ (k : ℕ). entry rows k (number_at cores l)) same)
-      by (inr apart_from) = ap (λ (row : List (Option RingId)). get_or row (number_at cores l) None) (get_or-set_other rows i k (set (get_or rows i []) (number_at cores j) (Some ring)) [] apart_from)
-
--- Two tables, of the rings by which each end sends and of those by which each takes, where one ring more came into both.
-module _ (cores : List CoreId) (apart : AreApart cores) (tos froms : Table) (i j : ℕ) (ring : RingId) (within : i < length tos) (within' : j < length froms) (sender : i < length cores) (taker : j < length cores) (wide : number_at cores j < length (get_or tos i [])) (wide' : number_at cores i < length (get_or froms j [])) where
-  abbrev tos_after : Table
-  tos_after = with_ring cores apart tos i j ring within taker wide
-
-  abbrev froms_after : Table
-  froms_after = with_ring cores apart froms j i ring within' sender wide'
-
-  crossed : ((k l : ℕ) → k < length cores → l < length cores → entry tos k (number_at cores l) ≡ entry froms l (number_at cores k)) → (k l : ℕ) → k < length cores → l < length cores → entry tos_after k (number_at cores l) ≡ entry froms_after l (number_at cores k)
-  crossed all k l below below' = by (cases_eq k i) (cases_eq l j)
-    where
-      rest : (k ≡ i → l ≡ j → ⊥) → entry tos_after k (number_at cores l) ≡ entry froms_after l (number_at cores k)
-      rest other =
-          others cores apart tos i j ring within taker wide k l below' other
-          ∙ all k l below below'
-          ∙ sym (others cores apart froms j i ring within' sender wide' l k below (λ same' same. other same same'))
-
-      by : (k ≡ i) ⊎ (k ≡ i → ⊥) → (l ≡ j) ⊎ (l ≡ j → ⊥) → entry tos_after k (number_at cores l) ≡ entry froms_after l (number_at cores k)
-      by (inl same) (inl same') =
-          (λ s. entry tos_after (same s) (number_at cores (same' s)))
-          ∙ placed cores apart tos i j ring within taker wide
-          ∙ sym (placed cores apart froms j i ring within' sender wide')
-          ∙ sym (λ s. entry froms_after (same' s) (number_at cores (same s)))
-      by (inl same) (inr other) = rest (λ here there. other there)
-      by (inr other) same' = rest (λ here there. other here)
+-- So they still do, where one ring more came into both.
+crossed : (cores : List CoreId) (tos froms : List (List (Option RingId))) (i j : ℕ) (ring : Option RingId) → AreApart cores → i < length cores → j < length cores → HasPlace tos i (number_at cores j) → HasPlace froms j (number_at cores i) → AreCrossed cores tos froms
+    → AreCrossed cores (put tos i (number_at cores j) ring) (put froms j (number_at cores i) ring)
+crossed cores tos froms i j ring apart within within' has has' all k l below below' =
+    let to = put-at tos i (number_at cores j) ring None has k (number_at cores l) in
+    let from = put-at froms j (number_at cores i) ring None has' l (number_at cores k) in
+    let sender = apart-at cores apart i k within below in
+    let taker = apart-at cores apart j l within' below' in
+    grind (arith, nat_tests, to, from, sender, taker, all k l below below')
 
 -- ---- the tables of ends
 
-abbrev tos_of : List RingEnd → Table
-tos_of ends = map (λ (end : RingEnd). (end_id end).to) ends
+abbrev to_rows : {B : Type 0} → (Option Sender → B) → List RingEnd → List (List B)
+to_rows f ends = map (λ (end : RingEnd). map f end.to.items) ends
 
-abbrev froms_of : List RingEnd → Table
-froms_of ends = map (λ (end : RingEnd). (end_id end).from) ends
+abbrev from_rows : {B : Type 0} → (Option Taker → B) → List RingEnd → List (List B)
+from_rows f ends = map (λ (end : RingEnd). map f end.from.items) ends
 
 abbrev cores_of : List RingEnd → List CoreId
 cores_of ends = map core_of_end ends
@@ -121,208 +83,129 @@ cores_of ends = map core_of_end ends
 abbrev no_end : EndId
 no_end = record { core = nobody; to = []; from = [] }
 
-abbrev AreCrossed : List RingEnd → Type 0
-AreCrossed ends = (k l : ℕ) → k < length (cores_of ends) → l < length (cores_of ends) → entry (tos_of ends) k (number_at (cores_of ends) l) ≡ entry (froms_of ends) l (number_at (cores_of ends) k)
+id-at : (ends : List RingEnd) (k : ℕ) → get_or (map end_id ends) k no_end ≡ record { core = get_or (cores_of ends) k nobody; to = get_or (to_rows (option_map ring_to) ends) k []; from = get_or (from_rows (option_map ring_from) ends) k [] }
+id-at [] k = refl
+id-at (end ∷ ends) zero = refl
+id-at (end ∷ ends) (suc k) = id-at ends k
+
+free-entry : (ends : List RingEnd) (k : ℕ) (d : CoreId) → free_at ends k d ≡ entry (to_rows free_of ends) k d.number 0
+free-entry [] k d = refl
+free-entry (end ∷ ends) zero d = refl
+free-entry (end ∷ ends) (suc k) d = free-entry ends k d
 
 module _ (ends : List RingEnd) where
-  to-at : (k n : ℕ) → get_or (get_or (map end_id ends) k no_end).to n None ≡ entry (tos_of ends) k n
-  to-at k n = ap (λ (row : List (Option RingId)). get_or row n None) (read_as end_id (λ (a : EndId). a.to) ends k no_end)
+  abbrev AreCrossedEnds : Type 0
+  AreCrossedEnds = AreCrossed (cores_of ends) (to_rows (option_map ring_to) ends) (from_rows (option_map ring_from) ends)
 
-  from-at : (k n : ℕ) → get_or (get_or (map end_id ends) k no_end).from n None ≡ entry (froms_of ends) k n
-  from-at k n = ap (λ (row : List (Option RingId)). get_or row n None) (read_as end_id (λ (a : EndId). a.from) ends k no_end)
-
-  number-at : (k : ℕ) → (get_or (map end_id ends) k no_end).core.number ≡ number_at (cores_of ends) k
-  number-at k = ap (λ (core : CoreId). core.number) (read_as end_id (λ (a : EndId). a.core) ends k no_end)
-
-  to-side : (k l : ℕ) → get_or (get_or (map end_id ends) k no_end).to (get_or (map end_id ends) l no_end).core.number None ≡ entry (tos_of ends) k (number_at (cores_of ends) l)
-  to-side k l = ap (λ (n : ℕ). get_or (get_or (map end_id ends) k no_end).to n None) (number-at l) ∙ to-at k (number_at (cores_of ends) l)
-
-  from-side : (k l : ℕ) → get_or (get_or (map end_id ends) l no_end).from (get_or (map end_id ends) k no_end).core.number None ≡ entry (froms_of ends) l (number_at (cores_of ends) k)
-  from-side k l = ap (λ (n : ℕ). get_or (get_or (map end_id ends) l no_end).from n None) (number-at k) ∙ from-at l (number_at (cores_of ends) k)
-
-  linked-crossed : AreLinked (map end_id ends) → AreCrossed ends
+  linked-crossed : AreLinked (map end_id ends) → AreCrossedEnds
   linked-crossed linked k l below below' =
       let ids = map end_id ends in
       let lengths = length-map ends end_id in
       let cores = length-map ends core_of_end in
       let row = all-get (λ (a : EndId). AllByRecursion (IsLinked a) ids) ids k no_end (omega (arith, below, lengths, cores)) linked in
-      sym (to-side k l) ∙ all-get (IsLinked (get_or ids k no_end)) ids l no_end (omega (arith, below', lengths, cores)) row ∙ from-side k l
+      rw (id-at ends k, id-at ends l) at (all-get (IsLinked (get_or ids k no_end)) ids l no_end (omega (arith, below', lengths, cores)) row)
 
-  crossed-linked : AreCrossed ends → AreLinked (map end_id ends)
+  crossed-linked : AreCrossedEnds → AreLinked (map end_id ends)
   crossed-linked all =
       let ids = map end_id ends in
       let lengths = length-map ends end_id in
       let cores = length-map ends core_of_end in
       all-make (λ (a : EndId). AllByRecursion (IsLinked a) ids) ids no_end
       (λ k within. all-make (IsLinked (get_or ids k no_end)) ids no_end
-      (λ l within'. to-side k l ∙ all k l (omega (arith, within, lengths, cores)) (omega (arith, within', lengths, cores)) ∙ sym (from-side k l)))
+      (λ l within'. rw (id-at ends k, id-at ends l) (all k l (omega (arith, within, lengths, cores)) (omega (arith, within', lengths, cores)))))
+
+-- Each end has a place for each of their cores.
+has-place : {B : Type 0} (row : RingEnd → List B) (ends : List RingEnd) (i j : ℕ) → ((end : RingEnd) → HasPlaces end → length (row end) ≡ CORES) → AreMade ends → i < length ends → j < length ends → HasPlace (map row ends) i (core_at ends j).number
+has-place row ends i j wide made within within' =
+    let below = all-get IsInRange (cores_of ends) j nobody (omega (arith, length-map ends core_of_end)) made.cores.0 in
+    let places = all-get (λ row. length row ≡ CORES) (map row ends) i [] (omega (arith, length-map ends row)) (all-mapped HasPlaces (λ row. length row ≡ CORES) row ends wide made.places) in
+    (omega (arith, length-map ends row), omega (arith, below, places))
+
+pub place_for : (ends : List RingEnd) (i j : ℕ) (e g : RingEnd) → i < length ends → j < length ends → AreMade ends → e ≡ get_or ends i e → g ≡ get_or ends j g → g.core.number < length e.to.items
+place_for ends i j e g within within' made is is' =
+    let places : HasPlaces e = subst HasPlaces (sym is) (all-get HasPlaces ends i e within made.places) in
+    let below : IsInRange g.core = all-at IsInRange core_of_end ends j g within' is' made.cores.0 in
+    omega (arith, places.0, below)
 
 -- ---- one ring more between two ends
 
 one-ring : (p : Sender) (c : Taker) → IsPair p c → ring_from c ≡ ring_to p
 one-ring p c pair = λ s. record { words = pair.0 s; slots = pair.1 s; names = pair.2 s; heap = pair.3 s }
 
-module _ (ends : List RingEnd) (i j : ℕ) (e e' g g' : RingEnd) (p : Sender) (c : Taker)
-    (within : i < length ends) (within' : j < length ends) (made : AreMade ends)
-    (is : e ≡ get_or ends i e) (core : e'.core ≡ e.core) (to : e'.to.items ≡ set e.to.items (core_at ends j).number (Some p)) (from : e'.from ≡ e.from)
-    (is' : g ≡ get_or (set ends i e') j g) (core' : g'.core ≡ g.core) (to' : g'.to ≡ g.to) (from' : g'.from.items ≡ set g.from.items (core_at ends i).number (Some c))
-    (pair : IsPair p c) (unsent : sent p ≡ []) (untaken : received c ≡ []) where
+module _ (ends : List RingEnd) (i j : ℕ) (e e' : RingEnd) (p : Sender) (within : i < length ends) (within' : j < length ends) (made : AreMade ends)
+    (is : e ≡ get_or ends i e) (core : e'.core ≡ e.core) (to : e'.to.items ≡ set e.to.items (core_at ends j).number (Some p)) (from : e'.from ≡ e.from) where
   abbrev between : List RingEnd
   between = set ends i e'
-
-  abbrev after : List RingEnd
-  after = set between j g'
 
   beyond : j < length between
   beyond = omega (arith, within', length-set ends i e')
 
-  -- the ends are of the same cores
-  pub cores_kept : cores_of after ≡ cores_of ends
-  cores_kept = read_same core_of_end between j g g' beyond is' core' ∙ read_same core_of_end ends i e e' within is core
-
-  e-places : HasPlaces e
-  e-places = subst HasPlaces (sym is) (all-get HasPlaces ends i e within made.places)
-
-  e-fresh : HasFreshRings e
-  e-fresh = subst HasFreshRings (sym is) (all-get HasFreshRings ends i e within made.fresh)
-
   places-between : AllByRecursion HasPlaces between
-  places-between = all-set HasPlaces ends i e' made.places (ap length to ∙ length-set e.to.items (core_at ends j).number (Some p) ∙ e-places.0, ap (λ (v : Vec (Option Taker)). length v.items) from ∙ e-places.1)
+  places-between = all-kept HasPlaces ends i e e' within is (λ has. rw (to, from, length-set) has) made.places
 
-  fresh-between : AllByRecursion HasFreshRings between
-  fresh-between = all-set HasFreshRings ends i e' made.fresh (
-    subst (AllByRecursion IsUnsent) (sym to) (all-set IsUnsent e.to.items (core_at ends j).number (Some p) e-fresh.0 (ap letters_of unsent)),
-    subst (λ (v : Vec (Option Taker)). AllByRecursion IsUntaken v.items) (sym from) e-fresh.1,
-  )
+  -- the second end has a place for the first one's core
+  pub place_after : (g s : RingEnd) → g ≡ get_or between j g → s ≡ get_or ends i s → s.core.number < length g.from.items
+  place_after g s is' there =
+      let places : HasPlaces g = subst HasPlaces (sym is') (all-get HasPlaces between j g beyond places-between) in
+      let below : IsInRange s.core = all-at IsInRange core_of_end ends i s within there made.cores.0 in
+      omega (arith, places.1, below)
 
-  g-places : HasPlaces g
-  g-places = subst HasPlaces (sym is') (all-get HasPlaces between j g beyond places-between)
+  module _ (g g' : RingEnd) (c : Taker)
+      (is' : g ≡ get_or between j g) (core' : g'.core ≡ g.core) (to' : g'.to ≡ g.to) (from' : g'.from.items ≡ set g.from.items (core_at ends i).number (Some c))
+      (pair : IsPair p c) (unsent : sent p ≡ []) (untaken : received c ≡ []) where
+    abbrev after : List RingEnd
+    after = set between j g'
 
-  g-fresh : HasFreshRings g
-  g-fresh = subst HasFreshRings (sym is') (all-get HasFreshRings between j g beyond fresh-between)
+    cores_kept : cores_of after ≡ cores_of ends
+    cores_kept = read_same core_of_end between j g g' beyond is' core' ∙ read_same core_of_end ends i e e' within is core
 
-  places-after : AllByRecursion HasPlaces after
-  places-after = all-set HasPlaces between j g' places-between (ap (λ (v : Vec (Option Sender)). length v.items) to' ∙ g-places.0, ap length from' ∙ length-set g.from.items (core_at ends i).number (Some c) ∙ g-places.1)
+    -- each table has one value more, what is read of the ring
+    to-after : {B : Type 0} (f : Option Sender → B) → to_rows f after ≡ put (to_rows f ends) i (core_at ends j).number (f (Some p))
+    to-after f =
+        let row = λ (end : RingEnd). map f end.to.items in
+        read_same row between j g g' beyond is' (ap (λ (v : Vec (Option Sender)). map f v.items) to')
+        ∙ map-set row ends i e'
+        ∙ ap (set (to_rows f ends) i) (ap (map f) to ∙ map-set f e.to.items (core_at ends j).number (Some p) ∙ ap (λ r. set r (core_at ends j).number (f (Some p))) (sym (read_at row ends i e [] within is)))
 
-  fresh-after : AllByRecursion HasFreshRings after
-  fresh-after = all-set HasFreshRings between j g' fresh-between (
-    subst (λ (v : Vec (Option Sender)). AllByRecursion IsUnsent v.items) (sym to') g-fresh.0,
-    subst (AllByRecursion IsUntaken) (sym from') (all-set IsUntaken g.from.items (core_at ends i).number (Some c) g-fresh.1 (ap letters_of untaken)),
-  )
+    from-after : {B : Type 0} (f : Option Taker → B) → from_rows f after ≡ put (from_rows f ends) j (core_at ends i).number (f (Some c))
+    from-after f =
+        let row = λ (end : RingEnd). map f end.from.items in
+        map-set row between j g'
+        ∙ ap (set (from_rows f between) j) (ap (map f) from' ∙ map-set f g.from.items (core_at ends i).number (Some c) ∙ ap (λ r. set r (core_at ends i).number (f (Some c))) (sym (read_at row between j g [] beyond is')))
+        ∙ ap (λ rows. put rows j (core_at ends i).number (f (Some c))) (read_same row ends i e e' within is (ap (λ (v : Vec (Option Taker)). map f v.items) from))
 
-  -- the one table has the ring in the row of the one end
-  row-of : get_or (tos_of ends) i [] ≡ (end_id e).to
-  row-of = read_at (λ (end : RingEnd). (end_id end).to) ends i e [] within is
+    crossed-after : AreCrossedEnds after
+    crossed-after =
+        let count = length-map ends core_of_end in
+        let ring_row = option_map ring_to in let ring_row' = option_map ring_from in
+        rw (to-after ring_row, from-after ring_row', cores_kept, one-ring p c pair)
+        (crossed (cores_of ends) (to_rows ring_row ends) (from_rows ring_row' ends) i j (Some (ring_to p)) made.cores.1 (omega (arith, within, count)) (omega (arith, within', count))
+        (has-place (λ (end : RingEnd). map ring_row end.to.items) ends i j (λ end has. length-map end.to.items ring_row ∙ has.0) made within within')
+        (has-place (λ (end : RingEnd). map ring_row' end.from.items) ends j i (λ end has. length-map end.from.items ring_row' ∙ has.1) made within' within)
+        (linked-crossed ends made.linked))
 
-  tos-after : tos_of after ≡ set (tos_of ends) i (set (get_or (tos_of ends) i []) (core_at ends j).number (Some (ring_to p)))
-  tos-after =
-      read_same (λ (end : RingEnd). (end_id end).to) between j g g' beyond is' (ap (λ (v : Vec (Option Sender)). map (option_map ring_to) v.items) to')
-      ∙ map-set (λ (end : RingEnd). (end_id end).to) ends i e'
-      ∙ ap (set (tos_of ends) i) (ap (map (option_map ring_to)) to ∙ map-set (option_map ring_to) e.to.items (core_at ends j).number (Some p) ∙ ap (λ (row : List (Option RingId)). set row (core_at ends j).number (Some (ring_to p))) (sym row-of))
+    fresh-after : AllByRecursion HasFreshRings after
+    fresh-after =
+        all-kept HasFreshRings between j g g' beyond is' (λ fresh. rw (to', from') (fresh.0, all-set IsUntaken g.from.items (core_at ends i).number (Some c) fresh.1 (ap letters_of untaken)))
+        (all-kept HasFreshRings ends i e e' within is (λ fresh. rw (to, from) (all-set IsUnsent e.to.items (core_at ends j).number (Some p) fresh.0 (ap letters_of unsent), fresh.1)) made.fresh)
 
-  -- and the other table in the row of the other end
-  froms-between : froms_of between ≡ froms_of ends
-  froms-between = read_same (λ (end : RingEnd). (end_id end).from) ends i e e' within is (ap (λ (v : Vec (Option Taker)). map (option_map ring_from) v.items) from)
+    -- towards each core, the slots that are known to be free
+    free-after : (k : ℕ) (d : CoreId) → free_at after k d ≡ (if i == k && (core_at ends j).number == d.number then known_free p else free_at ends k d)
+    free-after k d =
+        rw (free-entry after k d, free-entry ends k d, to-after free_of)
+        (put-at (to_rows free_of ends) i (core_at ends j).number (known_free p) 0 (has-place (λ (end : RingEnd). map free_of end.to.items) ends i j (λ end has. length-map end.to.items free_of ∙ has.0) made within within') k d.number)
 
-  row-of' : get_or (froms_of ends) j [] ≡ (end_id g).from
-  row-of' = ap (λ (rows : Table). get_or rows j []) (sym froms-between) ∙ read_at (λ (end : RingEnd). (end_id end).from) between j g [] beyond is'
-
-  froms-after : froms_of after ≡ set (froms_of ends) j (set (get_or (froms_of ends) j []) (core_at ends i).number (Some (ring_to p)))
-  froms-after =
-      map-set (λ (end : RingEnd). (end_id end).from) between j g'
-      ∙ (λ s. set (froms-between s) j ((ap (map (option_map ring_from)) from' ∙ map-set (option_map ring_from) g.from.items (core_at ends i).number (Some c)) s))
-      ∙ (λ s. set (froms_of ends) j (set (sym row-of' s) (core_at ends i).number (Some (one-ring p c pair s))))
-
-  wide-to : (core_at ends j).number < length (get_or (tos_of ends) i [])
-  wide-to =
-      let below = all-get IsInRange (cores_of ends) j nobody (omega (arith, within', length-map ends core_of_end)) made.cores.0 in
-      let len = ap length row-of ∙ length-map e.to.items (option_map ring_to) ∙ e-places.0 in
-      omega (arith, below, len)
-
-  wide-from : (core_at ends i).number < length (get_or (froms_of ends) j [])
-  wide-from =
-      let below = all-get IsInRange (cores_of ends) i nobody (omega (arith, within, length-map ends core_of_end)) made.cores.0 in
-      let len = ap length row-of' ∙ length-map g.from.items (option_map ring_from) ∙ g-places.1 in
-      omega (arith, below, len)
-
-  crossed-after : AreCrossed after
-  crossed-after k l below below' =
-      let cores = cores_of ends in
-      let tos = length-map ends (λ (end : RingEnd). (end_id end).to) in
-      let froms = length-map ends (λ (end : RingEnd). (end_id end).from) in
-      let count = length-map ends core_of_end in
-      let same = ap length cores_kept in
-      ap (λ (rows : Table). entry rows k (number_at (cores_of after) l)) tos-after
-      ∙ ap (λ (cs : List CoreId). entry (set (tos_of ends) i (set (get_or (tos_of ends) i []) (core_at ends j).number (Some (ring_to p)))) k (number_at cs l)) cores_kept
-      ∙ crossed cores made.cores.1 (tos_of ends) (froms_of ends) i j (ring_to p) (omega (arith, within, tos)) (omega (arith, within', froms)) (omega (arith, within, count)) (omega (arith, within', count)) wide-to wide-from (linked-crossed ends made.linked) k l (omega (arith, below, same)) (omega (arith, below', same))
-      ∙ sym (ap (λ (cs : List CoreId). entry (set (froms_of ends) j (set (get_or (froms_of ends) j []) (core_at ends i).number (Some (ring_to p)))) l (number_at cs k)) cores_kept)
-      ∙ sym (ap (λ (rows : Table). entry rows l (number_at (cores_of after) k)) froms-after)
-
-  pub made_after : AreMade after
-  made_after = record {
-    cores = subst AreCores (sym cores_kept) made.cores;
-    places = places-after;
-    linked = crossed-linked after crossed-after;
-    fresh = fresh-after;
-  }
-
-  -- towards each core, the slots that are known to be free
-  free-between : (d : CoreId) → map (free_to d) after ≡ map (free_to d) between
-  free-between d = read_same (free_to d) between j g g' beyond is' (ap (λ (v : Vec (Option Sender)). get_or (map free_of v.items) d.number 0) to')
-
-  free-one : (d : CoreId) → free_to d e' ≡ get_or (set (map free_of e.to.items) (core_at ends j).number (known_free p)) d.number 0
-  free-one d = ap (λ (row : List (Option Sender)). get_or (map free_of row) d.number 0) to ∙ ap (λ (row : List ℕ). get_or row d.number 0) (map-set free_of e.to.items (core_at ends j).number (Some p))
-
-  free-here : (d : CoreId) → free_at after i d ≡ free_to d e'
-  free-here d =
-      ap (λ (row : List ℕ). get_or row i 0) (free-between d ∙ map-set (free_to d) ends i e')
-      ∙ get_or-set_same (map (free_to d) ends) i (free_to d e') 0 (omega (arith, within, length-map ends (free_to d)))
-
-  inside : (core_at ends j).number < length (map free_of e.to.items)
-  inside =
-      let below = all-get IsInRange (cores_of ends) j nobody (omega (arith, within', length-map ends core_of_end)) made.cores.0 in
-      omega (arith, below, e-places.0, length-map e.to.items free_of)
-
-  module _ (cap : ℕ) (free : known_free p ≡ cap) where
-    pub free_made : free_at after i (core_at ends j) ≡ cap
-    free_made = free-here (core_at ends j) ∙ free-one (core_at ends j) ∙ get_or-set_same (map free_of e.to.items) (core_at ends j).number (known_free p) 0 inside ∙ free
-
-    pub free_kept : (k : ℕ) (d : CoreId) → free_at ends k d ≡ cap → free_at after k d ≡ cap
-    free_kept k d was = by (cases_eq k i) (cases_eq d.number (core_at ends j).number)
-      where
-        by : (k ≡ i) ⊎ (k ≡ i → ⊥) → (d.number ≡ (core_at ends j).number) ⊎ (d.number ≡ (core_at ends j).number → ⊥) → free_at after k d ≡ cap
-        by (inl same) (inl same') =
-            ap (λ (n : ℕ). free_at after n d) same ∙ free-here d ∙ free-one d
-            ∙ ap (λ (n : ℕ). get_or (set (map free_of e.to.items) (core_at ends j).number (known_free p)) n 0) same'
-            ∙ get_or-set_same (map free_of e.to.items) (core_at ends j).number (known_free p) 0 inside ∙ free
-        by (inl same) (inr other) =
-            ap (λ (n : ℕ). free_at after n d) same ∙ free-here d ∙ free-one d
-            ∙ get_or-set_other (map free_of e.to.items) (core_at ends j).number d.number (known_free p) 0 other
-            ∙ sym (read_at (free_to d) ends i e 0 within is)
-            ∙ sym (ap (λ (n : ℕ). free_at ends n d) same) ∙ was
-        by (inr other) number =
-            ap (λ (row : List ℕ). get_or row k 0) (free-between d ∙ map-set (free_to d) ends i e')
-            ∙ get_or-set_other (map (free_to d) ends) i k (free_to d e') 0 other ∙ was
-
--- Each end has a place for each of their cores, also once one end has one ring more.
-pub place_for : (ends : List RingEnd) (i j : ℕ) (e g : RingEnd) → i < length ends → j < length ends → AreMade ends → e ≡ get_or ends i e → g ≡ get_or ends j g → g.core.number < length e.to.items
-place_for ends i j e g within within' made is is' =
-    let places : HasPlaces e = subst HasPlaces (sym is) (all-get HasPlaces ends i e within made.places) in
-    let below = all-get IsInRange (cores_of ends) j nobody (omega (arith, within', length-map ends core_of_end)) made.cores.0 in
-    let here = ap (λ (core : CoreId). core.number) (read_at core_of_end ends j g nobody within' is') in
-    omega (arith, places.0, below, here)
-
-abbrev HasTakers : RingEnd → Type 0
-HasTakers end = length end.from.items ≡ CORES
-
-pub place_after : (ends : List RingEnd) (i j : ℕ) (e e' g s : RingEnd) → i < length ends → j < length ends → AreMade ends → e ≡ get_or ends i e → e'.from ≡ e.from → g ≡ get_or (set ends i e') j g → s ≡ get_or ends i s → s.core.number < length g.from.items
-place_after ends i j e e' g s within within' made is from is' there =
-    let places : HasPlaces e = subst HasPlaces (sym is) (all-get HasPlaces ends i e within made.places) in
-    let all = all-set HasTakers ends i e' (all-map HasPlaces HasTakers ends (λ end both. both.1) made.places) (ap (λ (v : Vec (Option Taker)). length v.items) from ∙ places.1) in
-    let here : HasTakers g = subst HasTakers (sym is') (all-get HasTakers (set ends i e') j g (omega (arith, within', length-set ends i e')) all) in
-    let below = all-get IsInRange (cores_of ends) i nobody (omega (arith, within, length-map ends core_of_end)) made.cores.0 in
-    let number = ap (λ (core : CoreId). core.number) (read_at core_of_end ends i s nobody within there) in
-    omega (arith, here, below, number)
+    pub one_ring_more : AreMade after × (cores_of after ≡ cores_of ends) × ((cap : ℕ) → known_free p ≡ cap → ((k : ℕ) (d : CoreId) → free_at ends k d ≡ cap → free_at after k d ≡ cap) × (free_at after i (core_at ends j) ≡ cap))
+    one_ring_more = (
+      record {
+        cores = subst AreCores (sym cores_kept) made.cores;
+        places = all-kept HasPlaces between j g g' beyond is' (λ has. rw (to', from', length-set) has) places-between;
+        linked = crossed-linked after crossed-after;
+        fresh = fresh-after;
+      },
+      cores_kept,
+      λ cap free. (λ k d was. grind (arith, nat_tests, free-after k d), grind (arith, nat_tests, free-after i (core_at ends j))),
+    )
 
 -- ---- ends without rings
 
@@ -334,16 +217,10 @@ none-there f (suc n) (suc k) = none-there f n k
 pub bare_made : (ends : List RingEnd) → AreCores (map core_of_end ends) → AllByRecursion IsBare ends → AreMade ends
 bare_made ends cores bare = record {
   cores = cores;
-  places = all-map IsBare HasPlaces ends (λ end is. (ap length is.to ∙ length-replicate {A = Option Sender} CORES None, ap length is.from ∙ length-replicate {A = Option Taker} CORES None)) bare;
-  linked = all-mapped IsBare (λ (a : EndId). AllByRecursion (IsLinked a) (map end_id ends)) end_id ends (λ a is. all-mapped IsBare (IsLinked (end_id a)) end_id ends (λ b is'. to-none a b is ∙ sym (from-none a b is')) bare) bare;
-  fresh = all-map IsBare HasFreshRings ends (λ end is. (subst (AllByRecursion IsUnsent) (sym is.to) (all-replicate IsUnsent CORES None refl), subst (AllByRecursion IsUntaken) (sym is.from) (all-replicate IsUntaken CORES None refl))) bare;
+  places = all-map IsBare HasPlaces ends (λ end is. rw (is.to, is.from) (refl, refl)) bare;
+  linked = all-mapped IsBare (λ (a : EndId). AllByRecursion (IsLinked a) (map end_id ends)) end_id ends (λ a is. all-mapped IsBare (IsLinked (end_id a)) end_id ends (λ b is'. rw (is.to, is'.from) (none-there ring_to CORES b.core.number ∙ sym (none-there ring_from CORES a.core.number))) bare) bare;
+  fresh = all-map IsBare HasFreshRings ends (λ end is. rw (is.to, is.from) (recursion_from_All IsUnsent (replicate CORES None) (All-replicate IsUnsent CORES None refl), recursion_from_All IsUntaken (replicate CORES None) (All-replicate IsUntaken CORES None refl))) bare;
 }
-  where
-    to-none : (a b : RingEnd) → IsBare a → get_or (map (option_map ring_to) a.to.items) b.core.number None ≡ None
-    to-none a b is = ap (λ (row : List (Option Sender)). get_or (map (option_map ring_to) row) b.core.number None) is.to ∙ none-there ring_to CORES b.core.number
-
-    from-none : (a b : RingEnd) → IsBare b → get_or (map (option_map ring_from) b.from.items) a.core.number None ≡ None
-    from-none a b is = ap (λ (row : List (Option Taker)). get_or (map (option_map ring_from) row) a.core.number None) is.from ∙ none-there ring_from CORES a.core.number
 
 -- ---- ends that were not used
 
@@ -363,12 +240,4 @@ room_more P cores j within all one = subst (AllByRecursion P) (sym (take_more co
 
 -- All ends have room, where each does by its place.
 pub room_all : (ends : List RingEnd) (cores : List CoreId) (cap : ℕ) → ((k : ℕ) → k < length ends → AllByRecursion (λ d. free_at ends k d ≡ cap) cores) → AllByRecursion (HasRoom cores cap) ends
-room_all ends cores cap each = all-read (HasRoom cores cap) ends (λ k end within is. all-map (λ d. free_at ends k d ≡ cap) (λ d. free_to d end ≡ cap) cores (λ d free. sym (read_at (free_to d) ends k end 0 within is) ∙ free) (each k within))
-
--- And one end more.
-pub next_below : (P : ℕ → Type 0) (n : ℕ) → ((i : ℕ) → i < n → P i) → P n → (i : ℕ) → i < n + 1 → P i
-next_below P n all one i below = by (cases_eq i n)
-  where
-    by : (i ≡ n) ⊎ (i ≡ n → ⊥) → P i
-    by (inl same) = subst P (sym same) one
-    by (inr other) = all i (omega (arith, below, other))
+room_all ends cores cap each = recursion_from_All (HasRoom cores cap) ends (λ k d within. all-map (λ c. free_at ends k c ≡ cap) (λ c. free_to c (get_or ends k d) ≡ cap) cores (λ c free. sym (read_at (free_to c) ends k (get_or ends k d) 0 within (get_or_default ends k d (get_or ends k d) within)) ∙ free) (each k within))

@@ -1,5 +1,5 @@
 -- What a core's turn asks is its own.
-use Rattle.std.proofs.Common.{◌≡◌, Bool, true, false, cond, Option, Some, None, refl, sym, ◌∙◌}
+use Rattle.std.proofs.Common.{◌≡◌, Bool, true, false, cond, Option, Some, None, refl, sym, subst, ◌∙◌}
 use Rattle.std.proofs.lemmas.Bool.{false≢true}
 use Rattle.osbase.specs.{declared.items.Stimulus.Stimulus, declared.turns.Choice.Choice, Phases.is_going}
 use Rattle.osplan.specs.View.{View, is_configured}
@@ -8,7 +8,7 @@ use Rattle.osadmit.specs.Admission.{has_asked_halt}
 use Rattle.oskernel.specs.{declared.wants.Want.Want, declared.wants.Watch.Watch, Wants.want_in, Wants.watch_in}
 use Rattle.osboard.specs.declared.calls.BoardCall.TheVariants.{AskHalt, Drain, Enter, Start}
 use Rattle.osrun.specs.{declared.requests.Request.Request, declared.requests.Request.TheVariants.OfBoard, declared.requests.Request.TheVariants.StartUnknown, declared.requests.Request.TheVariants.TakeStimulus, Requests.request_by, Requests.look_request}
-use Rattle.osrun.proofs.Going.{WantsOwn, wants-own}
+use Rattle.osrun.proofs.Going.{asks-open, drains-down}
 
 -- What a core's turn requests is its own: it starts a configured core, names its own mode, takes its next stimulus, and drains where
 -- none is left or it is down or halted; for a shutdown of all cores it asks where that call is open.
@@ -21,23 +21,32 @@ IsOwnRequest v s next (Some (TakeStimulus stimulus)) = next ≡ Some stimulus
 IsOwnRequest v s next o = Unit {0}
 
 pub asks-own : (v : View) (s : KernelState) (next : Option Stimulus) (choice : Choice) → IsOwnRequest v s next (request_by v (want_in s) (watch_in s) next choice)
-asks-own v s next choice = by (want_in s) (watch_in s) next choice (wants-own s)
+asks-own v s next choice = by (want_in s) (watch_in s) next choice refl
   where
-    by : (want : Want) (watch : Watch) (next : Option Stimulus) (choice : Choice) → WantsOwn s want → IsOwnRequest v s next (request_by v want watch next choice)
-    by (Want.Start k) watch next Choice.Own own = start (is_configured v k) refl
+    by : (want : Want) (watch : Watch) (next : Option Stimulus) (choice : Choice) → want_in s ≡ want → IsOwnRequest v s next (request_by v want watch next choice)
+    by (Want.Start k) watch next Choice.Own wants = start (is_configured v k) refl
       where
         start : (b : Bool) → is_configured v k ≡ b → IsOwnRequest v s next (Some (cond b (OfBoard (Start k)) (StartUnknown k)))
         start true e = e
         start false e = tt
-    by Want.Enter watch next Choice.Own own = refl
-    by (Want.AskHalt status) watch next Choice.Own own = own
-    by Want.GoOn watch (Some stimulus) Choice.Own own = refl
-    by Want.GoOn watch None Choice.Own own = λ going. refl
-    by Want.Drain watch next Choice.Own own = λ going. absurd (false≢true (sym own ∙ going))
-    by want watch next Choice.Look own = looks watch
+    by Want.Enter watch next Choice.Own wants = refl
+    by (Want.AskHalt status) watch next Choice.Own wants = asks-open s status wants
+    by Want.GoOn watch (Some stimulus) Choice.Own wants = refl
+    by Want.GoOn watch None Choice.Own wants = λ going. refl
+    by Want.Drain watch next Choice.Own wants = λ going. absurd (false≢true (sym (drains-down s wants) ∙ going))
+    by want watch next Choice.Look wants = looks watch
       where
         looks : (watch : Watch) → IsOwnRequest v s next (Some (look_request watch))
         looks Watch.Halt = tt
         looks Watch.Last = tt
         looks watch = tt
-    by want watch next choice own = tt
+    by want watch next choice wants = tt
+
+-- Without such an open call it asks for no shutdown of all cores.
+abbrev pub is_halt_request : Request → Bool
+is_halt_request (OfBoard (AskHalt status)) = true
+is_halt_request request = false
+
+pub asks-none : (v : View) (s : KernelState) (next : Option Stimulus) (choice : Choice) (request : Request) → has_asked_halt s ≡ false → request_by v (want_in s) (watch_in s) next choice ≡ Some request → is_halt_request request ≡ false
+asks-none v s next choice (OfBoard (AskHalt status)) none asks = absurd (false≢true (sym none ∙ subst (IsOwnRequest v s next) asks (asks-own v s next choice)))
+asks-none v s next choice request none asks = refl

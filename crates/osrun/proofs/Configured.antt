@@ -1,10 +1,9 @@
 -- The configured cores, by ascending numbers.
-use Rattle.std.proofs.Common.{◌≡◌, ℕ, ◌+◌, ◌<◌, ◌≤◌, Bool, true, false, cond, is_some, List, [], ◌∷◌, ◌++◌, take, ap, ◌∙◌, arith, filter, append-nil}
+use Rattle.std.proofs.Common.{◌≡◌, ℕ, ◌+◌, ◌<◌, Bool, true, false, cond, is_some, List, [], ◌∷◌, ◌++◌, take, ap, ◌∙◌, arith, filter, append-nil}
 use Rattle.std.proofs.{lemmas.List.take_more, lemmas.List.Elements.filter-append}
 use Rattle.osbase.specs.{declared.references.CoreId.CoreId, declared.limits.TheConstants.CORES, Sets.core_ids}
 use Rattle.osplan.specs.{declared.plans.Plan.Plan, View.core_of}
 use Rattle.osbase.proofs.Tables.{table-at}
-use Rattle.osrun.specs.Fits.{ids_of}
 
 abbrev pub id_at : ℕ → CoreId
 id_at n = record { number = n }
@@ -28,6 +27,3 @@ ids_below-skip plan n lt nobody = ids_below-more plan n lt ∙ ap (λ (b : Bool)
 
 pub ids_below-push : (plan : Plan) (n : ℕ) → n < 16 → is_there plan (id_at n) ≡ true → ids_below plan (n + 1) ≡ ids_below plan n ++ id_at n ∷ []
 ids_below-push plan n lt there = ids_below-more plan n lt ∙ ap (λ (b : Bool). ids_below plan n ++ cond b (id_at n ∷ []) []) there
-
-pub ids_below-all : (plan : Plan) (n : ℕ) → 16 ≤ n → n ≤ 16 → ids_below plan n ≡ ids_of plan
-ids_below-all plan n low high = let whole : n ≡ 16 = omega arith in ap (ids_below plan) whole

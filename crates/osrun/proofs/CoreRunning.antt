@@ -1,10 +1,10 @@
 -- A core of a run by the items that it took.
-use Rattle.std.proofs.Common.{◌≡◌, ℕ, ◌+◌, Bool, true, Some, List, [], ◌∷◌, ◌++◌, drop, sym, ap, subst, ◌∙◌, arith, refl, Bor}
+use Rattle.std.proofs.Common.{◌≡◌, ℕ, ◌+◌, Bool, true, List, [], ◌∷◌, ◌++◌, drop, ap, ◌∙◌, arith, refl, Bor}
 use Rattle.std.proofs.lemmas.List.{drop-drop}
-use Rattle.osbase.specs.{declared.references.CoreId.CoreId, declared.items.Item.Item, declared.items.Stimulus.Stimulus, declared.turns.CoreStimuli.CoreStimuli, History.History, Runs.stimuli_of, declared.marks.Mark.Mark, declared.turns.Report.Report}
-use Rattle.osplan.specs.{declared.plans.Plan.Plan, View.View, View.view_of}
-use Rattle.osstate.specs.{State.KernelState, State.state_of, Does.Tracks}
-use Rattle.oskernel.specs.Step.{solo, takes, outbox_size}
+use Rattle.osbase.specs.{declared.references.CoreId.CoreId, declared.items.Item.Item, declared.items.Stimulus.Stimulus, declared.turns.CoreStimuli.CoreStimuli, Runs.stimuli_of, declared.marks.Mark.Mark, declared.turns.Report.Report}
+use Rattle.osplan.specs.{declared.plans.Plan.Plan, View.view_of}
+use Rattle.osstate.specs.State.{KernelState, state_of}
+use Rattle.oskernel.specs.Step.{takes, outbox_size}
 use Rattle.osrun.specs.{declared.core_runs.CoreRun.CoreRun, Fits.history_by, Sound.IsOwn, Sound.report_by}
 use Rattle.osrun.specs.CoreRuns.{Keeps, Took, stimulus_count, left_after, IsCoreRun, is_ended_phase, report_of}
 use Rattle.osrun.proofs.{Longer.history_from-push, Longer.solo-push, Longer.stimulus_count-push, Ending.ended-by}
@@ -30,23 +30,11 @@ left-on (Item.Stim s) n xs = drop-drop 1 n xs
 left-on i n xs = ap (λ (k : ℕ). drop k xs) (omega arith)
 
 pub seated-on : (plan : Plan) (stimuli : List CoreStimuli) (old new : CoreRun) (item : Item) → IsCoreRun plan stimuli old → takes outbox_size (view_of plan old.id) (history_by plan old.id old.items.items) item ≡ true → Took old new item → IsCoreRun plan stimuli new
-seated-on plan stimuli old new item seated taken took =
-    record {
-      tracks = subst (λ (i : CoreId). Tracks (view_of plan i) (history_by plan i new.items.items) [] [] new.kernel new.marks.items) (sym took.id)
-          (subst (λ (items : List Item). Tracks v (history_by plan old.id items) [] [] new.kernel new.marks.items) (sym took.items)
-          (subst (λ (h : History). Tracks v h [] [] new.kernel new.marks.items) (sym (history_from-push v [] old.items.items item))
-          (took.does v (history_by plan old.id old.items.items) [] [] seated.tracks)));
-      alone = subst (λ (i : CoreId). solo (view_of plan i) new.items.items ≡ Some (history_by plan i new.items.items)) (sym took.id)
-          (subst (λ (items : List Item). solo v items ≡ Some (history_by plan old.id items)) (sym took.items)
-          (solo-push v [] old.items.items item seated.alone taken ∙ ap Some (sym (history_from-push v [] old.items.items item))));
-      left = took.left ∙ ap (left_after item) seated.left ∙ left-on item (stimulus_count old.items.items) (stimuli_of stimuli old.id)
-          ∙ ap (λ (n : ℕ). drop n (stimuli_of stimuli old.id)) (sym (stimulus_count-push old.items.items item))
-          ∙ ap (λ (items : List Item). drop (stimulus_count items) (stimuli_of stimuli old.id)) (sym took.items)
-          ∙ ap (λ (i : CoreId). drop (stimulus_count new.items.items) (stimuli_of stimuli i)) (sym took.id);
-    }
-  where
-    v : View
-    v = view_of plan old.id
+seated-on plan stimuli old new item seated taken took = record {
+  tracks = rw (took.id, took.items, history_from-push (view_of plan old.id) [] old.items.items item) (took.does (view_of plan old.id) (history_by plan old.id old.items.items) [] [] seated.tracks);
+  alone = rw (took.id, took.items, history_from-push (view_of plan old.id) [] old.items.items item) (solo-push (view_of plan old.id) [] old.items.items item seated.alone taken);
+  left = rw (took.id, took.items, took.left, seated.left, stimulus_count-push old.items.items item) (left-on item (stimulus_count old.items.items) (stimuli_of stimuli old.id));
+}
 
 -- It makes room, and then takes an item.
 pub took-kept : (old roomy new : CoreRun) (item : Item) → Keeps old roomy → Took roomy new item → Took old new item

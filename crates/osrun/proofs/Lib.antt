@@ -1,8 +1,10 @@
 pub mod Beginnings
 pub mod Members
+pub mod OwnCore
 pub mod Sizes
 pub mod Configured
 pub mod Resulting
+pub mod Readings
 pub mod Going
 pub mod Asked
 pub mod Streams

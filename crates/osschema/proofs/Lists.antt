@@ -1,8 +1,7 @@
 -- Tests of lists and of the lists made of them.
-use Rattle.std.proofs.Common.{inl, inr, ◌≡◌, ◌&&◌, Bool, true, List, [], ◌∷◌, map, refl, sym, ◌∙◌, arith}
+use Rattle.std.proofs.Common.{◌≡◌, ◌&&◌, Bool, true, List, [], ◌∷◌, map, refl, sym, ◌∙◌, arith}
 use Rattle.std.specs.List.{list_all, list_any}
-use Rattle.std.proofs.lemmas.Bool.{and_from, true≢false, or_cases, or_left, or_right}
-use Rattle.std.proofs.{lemmas.List.Folds.list_all-map, lemmas.List.length-map}
+use Rattle.std.proofs.lemmas.{Bool.and_from, List.length-map, List.map-id, List.Folds.list_all-map}
 use Rattle.osplan.proofs.Tests.{all-weaker}
 
 pub list_all-by : {X Y : Type 0} (p : X → Bool) (q : Y → Bool) (f : X → Y) → ((x : X) → p x ≡ true → q (f x) ≡ true) → (xs : List X) → list_all p xs ≡ true → list_all q (map f xs) ≡ true
@@ -16,22 +15,17 @@ pub list_all-total : {X Y : Type 0} (q : Y → Bool) (f : X → Y) → ((x : X) 
 list_all-total q f each xs = list_all-map q f xs ∙ list_all-every (λ x. q (f x)) each xs
 
 pub list_any-by : {X Y : Type 0} (p : X → Bool) (q : Y → Bool) (f : X → Y) → ((x : X) → p x ≡ true → q (f x) ≡ true) → (xs : List X) → list_any p xs ≡ true → list_any q (map f xs) ≡ true
-list_any-by p q f each [] h = absurd (true≢false (sym h))
-list_any-by p q f each (x ∷ xs) h =
-    elim (or_cases (p x) (list_any p xs) h) as (λ _. list_any q (map f (x ∷ xs)) ≡ true) [
-      | inl here ↦ or_left _ _ (each x here)
-      | inr later ↦ or_right (q (f x)) _ (list_any-by p q f each xs later)
-    ]
+list_any-by p q f each [] h = cc
+list_any-by p q f each (x ∷ xs) h = grind (arith, each x, list_any-by p q f each xs)
 
 -- ---- lists that are made there and back
-
-pub map-back : {X Y : Type 0} (f : Y → X) (g : X → Y) (p : X → Bool) → ((x : X) → p x ≡ true → f (g x) ≡ x) → (xs : List X) → list_all p xs ≡ true → map f (map g xs) ≡ xs
-map-back f g p back [] a = refl
-map-back f g p back (x ∷ xs) a = rw (back x (grind arith), map-back f g p back xs (grind arith)) refl
 
 pub map-same : {X Y Z : Type 0} (f : Y → Z) (g : X → Y) (h : X → Z) (p : X → Bool) → ((x : X) → p x ≡ true → f (g x) ≡ h x) → (xs : List X) → list_all p xs ≡ true → map f (map g xs) ≡ map h xs
 map-same f g h p same [] a = refl
 map-same f g h p same (x ∷ xs) a = rw (same x (grind arith), map-same f g h p same xs (grind arith)) refl
+
+pub map-back : {X Y : Type 0} (f : Y → X) (g : X → Y) (p : X → Bool) → ((x : X) → p x ≡ true → f (g x) ≡ x) → (xs : List X) → list_all p xs ≡ true → map f (map g xs) ≡ xs
+map-back f g p back xs a = map-same f g (λ x. x) p back xs a ∙ map-id xs
 
 -- two tests of all, one after the other
 pub all-split : {X : Type 0} (p q r : X → Bool) → ((x : X) → p x ≡ (q x && r x)) → (xs : List X) → list_all p xs ≡ (list_all q xs && list_all r xs)

@@ -1,14 +1,14 @@
 -- The configuration of a separate core alone is within the limits, and a text can say it.
-use Rattle.std.proofs.Common.{◌≡◌, ℕ, ◌-◌, Bool, true, false, not, ◌&&◌, if◌then◌else◌, nat_eq, nat_le, List, [], ◌∷◌, ◌++◌, length, Option, Some, IsTrue, refl, sym, ap, subst, ◌∙◌, arith}
-use Rattle.std.specs.{List.list_all, List.list_any, List.flat_map}
+use Rattle.std.proofs.Common.{◌≡◌, ℕ, ◌-◌, Bool, true, false, not, ◌&&◌, nat_eq, List, [], ◌∷◌, ◌++◌, length, Option, Some, IsTrue, refl, sym, ap, subst, ◌∙◌, arith}
+use Rattle.std.specs.{List.list_all, List.list_any, List.flat_map, Option.option_copied, Borrow.Bor}
 use Rattle.std.proofs.{lemmas.List.append_assoc, lemmas.List.append-nil, lemmas.List.Folds.list_all-map, lemmas.List.Folds.list_any-append}
-use Rattle.std.proofs.lemmas.Bool.{and_parts, and_from, or_from, or_parts, or_left, or_right, not-false, not_from_false, not_from_true, eq-eqb}
-use Rattle.osbase.specs.{declared.limits.TheConstants.CORES, declared.limits.TheConstants.FIRST_CORES, declared.limits.TheConstants.MAILBOX, declared.references.CoreId.CoreId, declared.objects.Object.Object, History.same_core, declared.objects.ObjectKind.ObjectKind, Objects.counter_object, Objects.object_of_call, declared.items.CoreMode.CoreMode, declared.messages.RemoteCall.RemoteCall, declared.items.CoreMode.TheVariants.Named, declared.items.CoreMode.TheVariants.DontCare}
+use Rattle.std.proofs.lemmas.Bool.{and_from, or_from, or_parts, or_left, or_right, not-false, not_from_false, eq-eqb}
+use Rattle.osbase.specs.{declared.references.CoreId.CoreId, declared.objects.Object.Object, History.same_core, declared.objects.ObjectKind.ObjectKind, Objects.counter_object, Objects.object_of_call, declared.items.CoreMode.CoreMode, declared.messages.RemoteCall.RemoteCall, declared.items.CoreMode.TheVariants.Named, declared.items.CoreMode.TheVariants.DontCare}
 use Rattle.osbase.proofs.Same.{same_core-comm, same_core-refl, same_core-true}
-use Rattle.oscript.specs.{declared.Op.Op, Calls.is_action, Rows.halts_all, Rows.objects_of}
+use Rattle.oscript.specs.{declared.Op.Op, Rows.halts_all, Rows.objects_of}
 use Rattle.osplan.specs.{declared.plans.Plan.Plan, declared.plans.Core.Core, declared.plans.Alarm.Alarm, declared.plans.Table.Table, View.core_of}
-use Rattle.osplan.specs.Objects.{alarm_modes, common_names, core_scripts, table_actions, table_modes}
-use Rattle.osplan.specs.Limits.{CoreSizes, StartSizes, TableSizes, core_sizes, cores_by, sizes_of, is_action_known, is_alarm_known, is_alarm_local, is_by, is_core_timed, is_core_within, is_second, is_table_known, is_table_local, is_versioned, is_within, is_between, most_cores, most_of, number_of, is_object, is_op_known, is_mode, is_core_mode, is_script_known, is_core_known, has_local_references, is_within_limits}
+use Rattle.osplan.specs.Objects.{common_names, core_scripts, table_actions}
+use Rattle.osplan.specs.Limits.{CoreSizes, core_sizes, cores_by, sizes_of, is_action_known, is_alarm_known, is_alarm_local, is_core_timed, is_core_within, is_table_known, is_table_local, is_versioned, is_within, is_between, is_object, is_op_known, is_core_mode, is_script_known, is_core_known, has_local_references, is_within_limits}
 use Rattle.osplan.specs.Representable.{all_common_names, is_core_representable, is_representable, are_distinct, object_names}
 use Rattle.osplan.specs.Naming.{has_operation, is_off, is_on, names_other}
 use Rattle.osseparate.specs.Separate.{agree, alone_of, halts_somewhere, is_agreed_mode, is_named_elsewhere, is_separate, is_separate_core, is_started}
@@ -29,11 +29,6 @@ each-distinct [] h = refl
 each-distinct (c ∷ cs) h = and_from _ _ (distinct-front (object_names c) (flat_map object_names cs) h) (each-distinct cs (distinct-back (object_names c) (flat_map object_names cs) h))
 
 -- ---- the limits
-
--- By each version there may be one core.
-one-core : (second : Bool) → is_between 1 (if second then CORES else FIRST_CORES) (Some 1) ≡ true
-one-core true = refl
-one-core false = refl
 
 module _ (plan : Plan) (id : CoreId) (core : Core) (found : core_of plan id ≡ Some core) (same : core.id ≡ id) where
   mine : same_core core.id id ≡ true
@@ -63,26 +58,20 @@ module _ (plan : Plan) (id : CoreId) (core : Core) (found : core_of plan id ≡ 
   leaves action = is_off core.id (object_of_call action)
 
   own-action : (action : RemoteCall) → is_action_known plan action ≡ true → leaves action ≡ false → is_action_known alone action ≡ true
-  own-action action known inward =
-      let parts = and_parts (is_action action) (is_object plan (object_of_call action)) known in
-      and_from _ _ parts.0 (own-object (object_of_call action) parts.1 inward)
+  own-action action known inward = grind (arith, own-object (object_of_call action))
 
   -- an alarm names its counter, of this core, and an object that its action is for
   own-alarm : (alarm : Alarm) → (is_alarm_known plan alarm && is_alarm_local core.id alarm) ≡ true → leaves alarm.action ≡ false → is_alarm_known alone alarm ≡ true
   own-alarm alarm h inward =
-      let parts = and_parts (is_alarm_known plan alarm) (is_alarm_local core.id alarm) h in
-      let known = and_parts _ (list_all (is_mode plan) (alarm_modes alarm)) parts.0 in
-      let objects = and_parts (is_object plan (counter_object alarm.counter)) (is_action_known plan alarm.action) known.0 in
-      and_from _ _ (and_from _ _ (own-object (counter_object alarm.counter) objects.0 (not_from_true _ parts.1)) (own-action alarm.action objects.1 inward)) known.1
+      let counter = own-object (counter_object alarm.counter) (grind arith) (grind arith) in
+      let action = own-action alarm.action (grind arith) inward in
+      and_from _ _ (and_from _ _ counter action) (grind arith)
 
   -- and so does a table
   own-table : (table : Table) → (is_table_known plan table && is_table_local core.id table) ≡ true → list_any leaves (table_actions table) ≡ false → is_table_known alone table ≡ true
   own-table table h inward =
-      let parts = and_parts (is_table_known plan table) (is_table_local core.id table) h in
-      let known = and_parts _ (list_all (is_mode plan) (table_modes table)) parts.0 in
-      let objects = and_parts (is_object plan (counter_object table.counter)) (list_all (is_action_known plan) (table_actions table)) known.0 in
-      let actions = all-without (is_action_known plan) leaves (is_action_known alone) own-action (table_actions table) objects.1 inward in
-      and_from _ _ (and_from _ _ (own-object (counter_object table.counter) objects.0 (not_from_true _ parts.1)) actions) known.1
+      let actions = all-without (is_action_known plan) leaves (is_action_known alone) own-action (table_actions table) (grind arith) inward in
+      grind (arith, own-object (counter_object table.counter), actions)
 
   core-alone : is_core_known plan core ≡ true → NearParts core → SeparateParts plan core → is_core_known alone core ≡ true
   core-alone known near separate =
@@ -101,11 +90,10 @@ module _ (plan : Plan) (id : CoreId) (core : Core) (found : core_of plan id ≡ 
   by-itself = rw (same_core-refl core.id) refl
 
   same-sizes : NearParts core → core_sizes plan core ≡ core_sizes alone core
-  same-sizes near =
-      ap (λ (alarms : List (Option StartSizes)). let sizes : CoreSizes = record (core_sizes plan core) { alarms = alarms } in sizes)
-      (own-sizes plan core here near.alarms ∙ sym (own-sizes alone core by-itself near.alarms))
-      ∙ ap (λ (tables : List TableSizes). let sizes : CoreSizes = record (core_sizes alone core) { tables = tables } in sizes)
-      (own-tables plan core here near.tables ∙ sym (own-tables alone core by-itself near.tables))
+  same-sizes near = λ i. record (core_sizes alone core) {
+    alarms = (own-sizes plan core here near.alarms ∙ sym (own-sizes alone core by-itself near.alarms)) i;
+    tables = (own-tables plan core here near.tables ∙ sym (own-tables alone core by-itself near.tables)) i;
+  }
 
   timed-alone : NearParts core → is_core_timed plan core ≡ true → is_core_timed alone core ≡ true
   timed-alone near timed = own-timed alone core by-itself near.tables ∙ sym (own-timed plan core here near.tables) ∙ timed
@@ -113,22 +101,14 @@ module _ (plan : Plan) (id : CoreId) (core : Core) (found : core_of plan id ≡ 
   -- the version stays, by which there may be a core of this number
   version-alone : is_versioned (sizes_of plan) ≡ true → is_versioned (sizes_of alone) ≡ true
   version-alone whole =
-      let version : Option ℕ = Some plan.version in
-      let is_numbered = λ (s : CoreSizes). is_between 0 (cores_by version - 1) s.number in
-      let numbers = and_parts _ (list_all is_numbered (sizes_of plan).cores) whole in
-      let known = and_parts (is_between 1 2 version) (is_between 1 (cores_by version) (Some (length (sizes_of plan).cores))) numbers.0 in
-      let each = sym (list_all-map is_numbered (core_sizes plan) plan.cores) ∙ numbers.1 in
-      let number = find-passes (λ (c : Core). same_core c.id id) (λ (c : Core). is_between 0 (cores_by version - 1) (number_of c.id)) plan.cores core each found in
-      and_from _ _ (and_from _ _ known.0 (one-core (is_second version))) (and_from _ _ number refl)
+      let is_numbered = λ (s : CoreSizes). is_between 0 (cores_by (Some plan.version) - 1) s.number in
+      let each : list_all is_numbered (sizes_of plan).cores ≡ true = grind arith in
+      let number = find-passes (λ (c : Core). same_core c.id id) (λ (c : Core). is_numbered (core_sizes plan c)) plan.cores core (sym (list_all-map is_numbered (core_sizes plan) plan.cores) ∙ each) found in
+      grind (arith, number)
 
   -- the modes and the mailboxes stay too, and there is no spinlock
   sizes-alone : is_within (sizes_of plan) ≡ true → is_core_within (core_sizes alone core) ≡ true → is_within (sizes_of alone) ≡ true
-  sizes-alone whole one =
-      let parts = and_parts (is_versioned (sizes_of plan)) (is_by is_core_within (sizes_of plan)) whole in
-      let few = and_parts _ (is_between 1 most_cores (Some (length (sizes_of plan).cores))) (and_parts _ (list_all is_core_within (sizes_of plan).cores) parts.1).0 in
-      let cap = and_parts _ (is_between 1 MAILBOX (Some plan.cap)) few.0 in
-      let modes = and_parts (is_between 1 (most_of ObjectKind.Mode) (Some (length plan.modes))) (nat_le (length plan.spinlocks) (most_of ObjectKind.Spinlock)) cap.0 in
-      and_from _ _ (version-alone parts.0) (and_from _ _ (and_from _ _ (and_from _ _ (and_from _ _ modes.0 refl) cap.1) refl) (and_from _ _ one refl))
+  sizes-alone whole one = let version = version-alone (grind arith) in grind arith
 
   plan-alone : LimitParts plan → is_core_within (core_sizes plan core) ≡ true → is_core_known plan core ≡ true → has_local_references core ≡ true → is_core_timed plan core ≡ true → SeparateParts plan core → is_within_limits alone ≡ true
   plan-alone limits within known near timed separate =
@@ -147,26 +127,16 @@ module _ (plan : Plan) (id : CoreId) (core : Core) (found : core_of plan id ≡ 
       and_from _ _ (and_from _ _ (and_from _ _ said.modes refl) (and_from _ _ one refl)) (simp append-nil (simp append-nil at names))
 
   -- ---- the core alone is separate again
-  self : same_core core.id core.id ≡ true
-  self = same_core-refl core.id
-
-  started-alone : is_started alone core.id ≡ true
-  started-alone = rw (mine, self) (or_left _ _ self)
-
-  agreed-alone : is_agreed_mode alone core.mode ≡ true
-  agreed-alone = and_from _ _ (or_right (not (is_started alone core.id)) _ (agree-self core.mode)) refl
-
-  unnamed-alone : not (is_named_elsewhere alone core.id) ≡ true
-  unnamed-alone = rw self refl
-
-  unhalted-alone : SeparateParts plan core → halts_somewhere alone ≡ false
-  unhalted-alone parts = or_from _ _ (find-fails (λ (c : Core). same_core c.id id) (has_operation halts_all) plan.cores core parts.unhalted found) refl
-
   separate-alone : SeparateParts plan core → is_separate alone id ≡ true
   separate-alone parts =
-      let objects = and_from _ _ (and_from _ _ (and_from _ _ (and_from _ _ (and_from _ _ started-alone parts.names) agreed-alone)
-      (ap (λ (cores : List CoreId). nat_eq (length cores) 0) parts.no_start)) (not_from_false _ (or_from _ _ parts.inward parts.acting))) unnamed-alone in
-      rw mine (and_from _ _ (and_from _ _ objects (not_from_false _ parts.unshared)) (not_from_false _ (unhalted-alone parts)))
+      let started : is_started alone core.id ≡ true = rw (mine, same_core-refl core.id) (or_left _ _ (same_core-refl core.id)) in
+      let agreed : is_agreed_mode alone core.mode ≡ true = and_from _ _ (or_right (not (is_started alone core.id)) _ (agree-self core.mode)) refl in
+      let no_start : nat_eq (length core.start) 0 ≡ true = ap (λ (cores : List CoreId). nat_eq (length cores) 0) parts.no_start in
+      let unnamed : not (is_named_elsewhere alone core.id) ≡ true = rw (same_core-refl core.id) refl in
+      let unhalted : halts_somewhere alone ≡ false = or_from _ _ (find-fails (λ (c : Core). same_core c.id id) (has_operation halts_all) plan.cores core parts.unhalted found) refl in
+      let names = and_from _ _ (and_from _ _ (and_from _ _ started parts.names) agreed) no_start in
+      let objects = and_from _ _ (and_from _ _ names (not_from_false _ (or_from _ _ parts.inward parts.acting))) unnamed in
+      rw mine (and_from _ _ (and_from _ _ objects (not_from_false _ parts.unshared)) (not_from_false _ unhalted))
 
 -- ---- the whole
 
@@ -176,17 +146,21 @@ pub record IsWhole (plan : Plan) (id : CoreId) (core : Core) : Type 0 where
   pub representable : is_representable (alone_of plan id core) ≡ true
   pub separate : is_separate (alone_of plan id core) id ≡ true
 
-pub whole-alone : (plan : Plan) (id : CoreId) (core : Core) → IsTrue (is_within_limits plan) → IsTrue (is_representable plan) → core_of plan id ≡ Some core → is_separate_core plan core ≡ true → IsWhole plan id core
-whole-alone plan id core limits representable found separate =
+-- The core that was found in the configuration's plan, and passed the test.
+pub whole-alone : (plan config : Plan) (id : CoreId) (o : Option (Bor Core)) (own : Bor Core) (separate : Bool) → plan ≡ config → IsTrue (is_within_limits config) → IsTrue (is_representable config)
+    → option_copied o ≡ core_of plan id → o ≡ Some own → separate ≡ is_separate_core plan own.now → separate ≡ true → IsWhole plan id own.now
+whole-alone plan config id o own separate whole limits representable copied is test passes =
+    let core : Core = own.now in
+    let found : core_of plan id ≡ Some core = sym copied ∙ ap option_copied is in
     let pick : (q : Core → Bool) → list_all q plan.cores ≡ true → q core ≡ true = λ q a. find-passes (λ (c : Core). same_core c.id id) q plan.cores core a found in
-    let inside = limit-parts plan limits in
-    let said = text-parts plan representable in
-    let mine = pick is_core_representable said.cores in
-    let within = pick (λ (c : Core). is_core_within (core_sizes plan c)) inside.cores in
-    let parts = separate-parts plan core separate in
+    let inside = limit-parts plan (rw whole limits) in
+    let said = text-parts plan (rw whole representable) in
+    let parts = separate-parts plan core (sym test ∙ passes) in
     let same = same_core-true core.id id (find-holds (λ (c : Core). same_core c.id id) plan.cores core found) in
+    let within = pick (λ (c : Core). is_core_within (core_sizes plan c)) inside.cores in
+    let distinct = each-distinct plan.cores (distinct-back (all_common_names plan) (flat_map object_names plan.cores) said.names) in
     record {
       limits = plan-alone plan id core found same inside within (pick (is_core_known plan) inside.known) (pick has_local_references inside.near) (pick (is_core_timed plan) inside.timed) parts;
-      representable = representable-alone plan id core found same said mine (pick (λ (c : Core). are_distinct (object_names c)) (each-distinct plan.cores (distinct-back (all_common_names plan) (flat_map object_names plan.cores) said.names)));
+      representable = representable-alone plan id core found same said (pick is_core_representable said.cores) (pick (λ (c : Core). are_distinct (object_names c)) distinct);
       separate = separate-alone plan id core found same parts;
     }

@@ -1,13 +1,13 @@
 -- The started cores are closed under start lists: as many rounds as there are cores are enough.
 use Rattle.std.proofs.Common.{◌≡◌, ℕ, zero, suc, Bool, true, ◌&&◌, ◌||◌, Some, List, [], ◌∷◌, length, map, is_some, refl, sym, ap, subst, ◌∙◌}
 use Rattle.std.specs.List.{AllByRecursion, list_any}
-use Rattle.std.proofs.{lemmas.Bool.and_parts, lemmas.Bool.and_from, lemmas.Bool.or_left, lemmas.Bool.or_right, lemmas.List.length-map, lemmas.List.Elements.All-from_recursion, lemmas.List.Folds.Any-from_list_any}
+use Rattle.std.proofs.{lemmas.Bool.and_from, lemmas.Bool.or_left, lemmas.Bool.or_right, lemmas.List.length-map, lemmas.List.Elements.All-from_recursion, lemmas.List.Folds.Any-from_list_any}
 use Rattle.osbase.specs.{declared.references.CoreId.CoreId, History.same_core}
 use Rattle.osbase.proofs.Same.{same_core-true, same_core-refl}
 use Rattle.osplan.specs.{declared.plans.Plan.Plan, declared.plans.Core.Core, View.core_of}
 use Rattle.osseparate.specs.Separate.{configured_ids, is_among, is_named_by, is_started, started_within}
 use Rattle.osplan.proofs.{Tests.any-found, Tests.find-holds, Rounds.Stays, Rounds.settled}
-use Rattle.osseparate.proofs.Starting.{among-configured, kept}
+use Rattle.osseparate.proofs.Starting.{among-configured, kept, within-known}
 
 module _ (plan : Plan) where
   abbrev ids : List CoreId
@@ -19,12 +19,8 @@ module _ (plan : Plan) where
   next-round : (n : ℕ) (id : CoreId) → within (suc n) id ≡ ((within n id || is_named_by plan (started_within plan n) id) && is_among ids id)
   next-round n id = kept (λ i. within n i || is_named_by plan (started_within plan n) i) ids id
 
-  within-known : (n : ℕ) (id : CoreId) → within n id ≡ true → is_among ids id ≡ true
-  within-known zero id e = (and_parts (same_core id plan.master) (is_among ids id) (sym (kept (λ i. same_core i plan.master) ids id) ∙ e)).1
-  within-known (suc n) id e = (and_parts _ (is_among ids id) (sym (next-round n id) ∙ e)).1
-
   within-more : (n : ℕ) (id : CoreId) → within n id ≡ true → within (suc n) id ≡ true
-  within-more n id e = next-round n id ∙ and_from _ _ (or_left (within n id) _ e) (within-known n id e)
+  within-more n id e = next-round n id ∙ and_from _ _ (or_left (within n id) _ e) (within-known plan n id e)
 
   -- where a round changes nothing, the started cores name the same
   named-same : (n : ℕ) (id : CoreId) (cores : List Core) → AllByRecursion (λ (i : CoreId). within (suc n) i ≡ within n i) (map (λ (c : Core). c.id) cores)
@@ -33,9 +29,7 @@ module _ (plan : Plan) where
   named-same n id (c ∷ cs) stays = rw (stays.0, named-same n id cs stays.1) refl
 
   stays-on : (n : ℕ) → Stays within ids n → (id : CoreId) → within (suc n) id ≡ within n id → within (suc (suc n)) id ≡ within (suc n) id
-  stays-on n stays id same =
-      next-round (suc n) id ∙ ap (λ (b : Bool). (b || is_named_by plan (started_within plan (suc n)) id) && is_among ids id) same
-      ∙ ap (λ (b : Bool). (within n id || b) && is_among ids id) (named-same n id plan.cores stays) ∙ sym (next-round n id)
+  stays-on n stays id same = rw (next-round (suc n) id, same, named-same n id plan.cores stays) (sym (next-round n id) ∙ same)
 
   abbrev Same : CoreId → Type 0
   Same id = within (suc (length plan.cores)) id ≡ within (length plan.cores) id

@@ -1,12 +1,12 @@
 -- The flags of the code are those of the started cores.
 use Rattle.std.proofs.Common.{◌≡◌, ◌≢◌, ℕ, zero, suc, ◌+◌, ◌<◌, Bool, true, false, ◌&&◌, ◌||◌, nat_lt, List, [], ◌∷◌, length, map, filter, get_or, set, is_some, IsTrue, refl, sym, ap, ◌∙◌, get_or-set_same, get_or-set_other, below_more, add-one, arith}
-use Rattle.std.specs.{List.list_all, List.list_any}
+use Rattle.std.specs.{List.list_all}
 use Rattle.std.proofs.{Math.Bool.and-true, lemmas.Map.Views.any-filter_same}
-use Rattle.std.proofs.lemmas.Bool.{and_parts, and_from, and_right, or_right, ltb-true}
+use Rattle.std.proofs.lemmas.Bool.{and_parts, and_from, both_ways, false_from_ne_true, or_right, ltb-true}
 use Rattle.osbase.specs.{declared.references.CoreId.CoreId, declared.items.CoreSet.CoreSet, History.same_core, Sets.has_core}
 use Rattle.osbase.proofs.Same.{same_core-true, same_core-refl}
 use Rattle.osplan.specs.{declared.plans.Plan.Plan, declared.plans.Core.Core, View.core_of, Limits.is_within_limits}
-use Rattle.osplan.proofs.{Tests.all-weaker, Tests.all-both, Tests.any-same, Tests.any-find, Numbered.configured-low, Numbered.numbers-low}
+use Rattle.osplan.proofs.{Tests.all-weaker, Tests.all-both, Tests.any-same, Tests.any-find, Tests.any-mapped, Numbered.configured-low, Numbered.numbers-low}
 use Rattle.osseparate.specs.Flags.{is_named_by_one_of, is_next, AreStarted}
 use Rattle.osseparate.specs.Separate.{configured_ids, is_among, is_named_by, is_started, started_within}
 
@@ -43,23 +43,17 @@ all-known plan limits =
     (numbers-low plan limits) (all-among plan.cores)
 
 pub within-zero : (plan : Plan) (cores : CoreSet) → ((id : CoreId) → id.number < 16 → has_core cores id ≡ same_core id plan.master) → AreWithin plan 0 cores
-within-zero plan cores flags id lt = kept (λ i. same_core i plan.master) (configured_ids plan) id ∙ ap (λ b. b && is_among (configured_ids plan) id) (sym (flags id lt))
+within-zero plan cores flags id lt = rw (kept (λ i. same_core i plan.master) (configured_ids plan) id, flags id lt) refl
 
 -- the flags after a round, and the started cores after it
 round-same : (f a n : Bool) → (((f && a) || n) && a) ≡ ((f || n) && a)
-round-same true true n = refl
-round-same true false true = refl
-round-same true false false = refl
-round-same false true n = refl
-round-same false false true = refl
-round-same false false false = refl
+round-same f a n = grind arith
 
 flagged-known : (plan : Plan) (n : ℕ) (cores : CoreSet) → AreWithin plan n cores → (id : CoreId) (core : Core) → is_known plan core ≡ true
     → (is_among (started_within plan n) core.id && is_among core.start id) ≡ (has_core cores core.id && is_among core.start id)
 flagged-known plan n cores within id core known =
     let parts = and_parts (nat_lt core.id.number 16) (is_among (configured_ids plan) core.id) known in
-    let flag : is_among (started_within plan n) core.id ≡ has_core cores core.id = within core.id (ltb-true core.id.number 16 parts.0) ∙ ap (λ b. has_core cores core.id && b) parts.1 ∙ and-true (has_core cores core.id) in
-    ap (λ b. b && is_among core.start id) flag
+    rw (within core.id (ltb-true core.id.number 16 parts.0), parts.1, and-true) refl
 
 pub within-suc : (plan : Plan) (n : ℕ) (before after : CoreSet) → IsTrue (is_within_limits plan) → AreWithin plan n before
     → ((id : CoreId) → id.number < 16 → has_core after id ≡ is_next plan.cores before id)
@@ -67,29 +61,21 @@ pub within-suc : (plan : Plan) (n : ℕ) (before after : CoreSet) → IsTrue (is
 within-suc plan n before after limits within flags id lt =
     let named : is_named_by plan (started_within plan n) id ≡ is_named_by_one_of plan.cores before id
     = any-same _ _ (is_known plan) (flagged-known plan n before within id) plan.cores (all-known plan limits) in
-    rw add-one
-    (kept (λ i. is_among (started_within plan n) i || is_named_by plan (started_within plan n) i) (configured_ids plan) id
-    ∙ ap (λ b. (b || is_named_by plan (started_within plan n) id) && is_among (configured_ids plan) id) (within id lt)
-    ∙ ap (λ b. ((has_core before id && is_among (configured_ids plan) id) || b) && is_among (configured_ids plan) id) named
-    ∙ round-same (has_core before id) (is_among (configured_ids plan) id) _
-    ∙ ap (λ b. b && is_among (configured_ids plan) id) (sym (flags id lt)))
-
-among-map : (cores : List Core) (id : CoreId) → is_among (map (λ (c : Core). c.id) cores) id ≡ list_any (λ (c : Core). same_core c.id id) cores
-among-map [] id = refl
-among-map (c ∷ cs) id = ap (λ b. same_core c.id id || b) (among-map cs id)
+    rw (add-one, kept (λ i. is_among (started_within plan n) i || is_named_by plan (started_within plan n) i) (configured_ids plan) id, within id lt, named, flags id lt)
+    (round-same (has_core before id) (is_among (configured_ids plan) id) _)
 
 pub among-configured : (plan : Plan) (id : CoreId) → is_among (configured_ids plan) id ≡ is_some (core_of plan id)
-among-configured plan id = among-map plan.cores id ∙ any-find (λ (c : Core). same_core c.id id) plan.cores
+among-configured plan id = any-mapped (λ c. same_core c id) (λ (c : Core). c.id) plan.cores ∙ any-find (λ (c : Core). same_core c.id id) plan.cores
 
 -- after as many rounds as there are cores
 pub started-within : (plan : Plan) (n : ℕ) (cores : CoreSet) → IsTrue (is_within_limits plan) → n ≡ length plan.cores → AreWithin plan n cores → AreStarted plan cores
 started-within plan n cores limits e within id found =
-    rw (← e) (within id (configured-low plan id limits found) ∙ ap (λ b. has_core cores id && b) (among-configured plan id ∙ found) ∙ and-true (has_core cores id))
+    rw (← e, within id (configured-low plan id limits found), among-configured plan id, found) (and-true (has_core cores id))
 
--- a core that is not configured is never started
-unstarted-within : (plan : Plan) (n : ℕ) (id : CoreId) → is_some (core_of plan id) ≡ false → is_among (started_within plan n) id ≡ false
-unstarted-within plan zero id none = kept (λ i. same_core i plan.master) (configured_ids plan) id ∙ and_right _ _ (among-configured plan id ∙ none)
-unstarted-within plan (suc n) id none = kept (λ i. is_among (started_within plan n) i || is_named_by plan (started_within plan n) i) (configured_ids plan) id ∙ and_right _ _ (among-configured plan id ∙ none)
+-- a started core is configured
+pub within-known : (plan : Plan) (n : ℕ) (id : CoreId) → is_among (started_within plan n) id ≡ true → is_among (configured_ids plan) id ≡ true
+within-known plan zero id e = (and_parts _ (is_among (configured_ids plan) id) (sym (kept (λ i. same_core i plan.master) (configured_ids plan) id) ∙ e)).1
+within-known plan (suc n) id e = (and_parts _ (is_among (configured_ids plan) id) (sym (kept _ (configured_ids plan) id) ∙ e)).1
 
 pub unstarted : (plan : Plan) (id : CoreId) → is_some (core_of plan id) ≡ false → is_started plan id ≡ false
-unstarted plan id none = unstarted-within plan (length plan.cores) id none
+unstarted plan id none = false_from_ne_true _ (λ h. both_ways _ (among-configured plan id ∙ none) (within-known plan (length plan.cores) id h))

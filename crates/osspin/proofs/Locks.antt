@@ -1,7 +1,7 @@
 -- Each of the three kinds of step is one call of one lock.
-use Rattle.std.proofs.Common.{◌≡◌, ◌==◌, ℕ, ◌+◌, ◌-◌, ◌<◌, Bool, true, false, if◌then◌else◌, List, Option, Some, None, set, slice_set, get_or, sym, refl, ap, ◌∙◌, subst, ⊎_elim, arith, length-set}
+use Rattle.std.proofs.Common.{◌≡◌, ◌==◌, ℕ, ◌<◌, Bool, true, false, List, Option, Some, None, get_or, sym, refl, ap, ◌∙◌, subst, ⊎_elim, arith, length-set}
 use Rattle.std.proofs.{Math.ListN.get_or-map, lemmas.List.map-set, lemmas.List.set-get_or, lemmas.List.Elements.All-set}
-use Rattle.std.proofs.lemmas.Bool.{both_ways, eq-eqb, ne_eqb, cond-true, cond-false, cases_eq, lt-ltb}
+use Rattle.std.proofs.lemmas.Bool.{cases_Bool, eq-eqb, ne_eqb}
 use prog.Atomic.{either}
 use Rattle.osbase.specs.{declared.references.CoreId.CoreId, declared.references.SpinlockId.SpinlockId, declared.limits.TheConstants.SPINLOCKS}
 use Rattle.osshared.specs.{Histories.Continues, Histories.entry, Runs.AreIdle, Views.IsStep}
@@ -10,80 +10,46 @@ use Rattle.osspin.specs.{declared.calls.SpinAction.SpinAction, declared.calls.Sp
 use Rattle.osspin.specs.Spins.{IsRefusedCall, free_call, holder_of, holders_after, is_free, is_held_by, lock_after, lock_reply, look_call, spin_call, spin_reply, spinlocks, try_take_call}
 use Rattle.osspin.specs.Words.{FitsByte, Stands, answer, answer_to, word_of}
 
-if_fits : (b : Bool) (x y : Option CoreId) → FitsByte x → FitsByte y → FitsByte (if b then x else y)
-if_fits true x y p q = p
-if_fits false x y p q = q
-
 after_fits : (core : CoreId) (action : SpinAction) (h : Option CoreId) → core.number < 256 → FitsByte h → FitsByte (lock_after core action h)
 after_fits core Take None small fits = small
 after_fits core Take (Some d) small fits = fits
 after_fits core Free None small fits = fits
-after_fits core Free (Some d) small fits = if_fits (d.number == core.number) None (Some d) tt fits
+after_fits core Free (Some d) small fits = ⊎_elim (λ (e : (d.number == core.number) ≡ true). rw e tt) (λ (e : (d.number == core.number) ≡ false). rw e fits) (cases_Bool _)
 after_fits core Look h small fits = fits
 
 -- a step on a lock's word that does what the call does to the lock
 pub steps : (core : CoreId) (lock : SpinlockId) (action : SpinAction) (f : ℕ → ℕ) → lock.index < SPINLOCKS → core.number < 256
-    → ((h : Option CoreId) → f (word_of h) ≡ word_of (lock_after core action h))
-    → ((h : Option CoreId) → FitsByte h → answer_to core action (word_of h) ≡ lock_reply core action h)
+    → ((h : Option CoreId) → (f (word_of h) ≡ word_of (lock_after core action h)) × (answer_to core action (word_of h) ≡ lock_reply core action h))
     → IsStep spinlocks Stands answer core (spin_call lock action) lock.index f
-steps core lock action f lt small moves replies s words st found_small =
+steps core lock action f lt small does s words st found_small =
     let k : ℕ = lock.index in
     let h : Option CoreId = holder_of s lock in
     let after : Option CoreId = lock_after core action h in
     let found : get_or words k 0 ≡ word_of h = ap (λ (l : List ℕ). get_or l k 0) st.words_are ∙ get_or-map word_of s k None in
     let fits : FitsByte h = st.fit k None (subst (λ (n : ℕ). k < n) (sym st.count) lt) in (
       record {
-        words_are = ap (λ (n : ℕ). set words k (f n)) found ∙ (ap (λ (n : ℕ). set words k n) (moves h) ∙ (ap (λ (l : List ℕ). set l k (word_of after)) st.words_are ∙ sym (map-set word_of s k after)));
+        words_are = rw (found, (does h).0, st.words_are, map-set) refl;
         count = length-set s k after ∙ st.count;
         fit = All-set FitsByte s k after (after_fits core action h small fits) st.fit;
       },
-      ap (answer_to core action) found ∙ replies h fits,
+      ap (answer_to core action) found ∙ (does h).1,
     )
 
-some_is_taken : (d : CoreId) → (d.number + 1 == 0) ≡ false
-some_is_taken d = ne_eqb (d.number + 1) 0 (λ h. omega arith)
-
 -- taking: 0 becomes the core's word
-takes : (core : CoreId) (h : Option CoreId) → either (word_of h == 0) (word_of (Some core)) (word_of h) ≡ word_of (lock_after core Take h)
-takes core None = refl
-takes core (Some d) = ap (λ b. either b (core.number + 1) (d.number + 1)) (some_is_taken d)
-
-take_replies : (core : CoreId) (h : Option CoreId) → FitsByte h → answer_to core Take (word_of h) ≡ lock_reply core Take h
-take_replies core None fits = refl
-take_replies core (Some d) fits = ap Answered (some_is_taken d)
-
-same_word : (c d : CoreId) → (d.number + 1 == c.number + 1) ≡ (d.number == c.number)
-same_word c d = ⊎_elim
-    (λ e. eq-eqb (d.number + 1) (c.number + 1) (ap (λ (n : ℕ). n + 1) e) ∙ sym (eq-eqb d.number c.number e))
-    (λ ne. ne_eqb (d.number + 1) (c.number + 1) (λ e. ne (omega arith)) ∙ sym (ne_eqb d.number c.number ne))
-    (cases_eq d.number c.number)
-
-either_word : (b : Bool) (d : CoreId) → either b 0 (d.number + 1) ≡ word_of (if b then None else Some d)
-either_word true d = refl
-either_word false d = refl
+takes : (core : CoreId) (h : Option CoreId) → (either (word_of h == 0) (word_of (Some core)) (word_of h) ≡ word_of (lock_after core Take h)) × (answer_to core Take (word_of h) ≡ lock_reply core Take h)
+takes core None = (refl, refl)
+takes core (Some d) = (grind (arith, ne_eqb), grind (arith, ne_eqb))
 
 -- freeing: the core's word becomes 0
-frees : (core : CoreId) (h : Option CoreId) → either (word_of h == word_of (Some core)) 0 (word_of h) ≡ word_of (lock_after core Free h)
-frees core None = ap (λ b. either b 0 0) (ne_eqb 0 (core.number + 1) (λ h. omega arith))
-frees core (Some d) = ap (λ b. either b 0 (d.number + 1)) (same_word core d) ∙ either_word (d.number == core.number) d
-
-free_replies : (core : CoreId) (h : Option CoreId) → FitsByte h → answer_to core Free (word_of h) ≡ lock_reply core Free h
-free_replies core None fits = ap Answered (ne_eqb 0 (core.number + 1) (λ h. omega arith))
-free_replies core (Some d) fits = ap Answered (same_word core d)
-
--- looking: the word stays
-pub look_replies : (core : CoreId) (h : Option CoreId) → FitsByte h → answer_to core Look (word_of h) ≡ lock_reply core Look h
-look_replies core None fits = refl
-look_replies core (Some d) fits = ap Seen
-    (cond-false _ _ _ (some_is_taken d)
-    ∙ (cond-true _ _ _ (lt-ltb (d.number + 1 - 1) 256 (omega (arith, fits)))
-    ∙ ap (λ (n : ℕ). let x : CoreId = record { number = n } in Some x) (let e : d.number + 1 - 1 ≡ d.number = omega arith in e)))
+frees : (core : CoreId) (h : Option CoreId) → (either (word_of h == word_of (Some core)) 0 (word_of h) ≡ word_of (lock_after core Free h)) × (answer_to core Free (word_of h) ≡ lock_reply core Free h)
+frees core None = (grind (arith, ne_eqb), grind (arith, ne_eqb))
+frees core (Some d) = (grind (arith, eq-eqb, ne_eqb), grind (arith, eq-eqb, ne_eqb))
 
 pub take_steps : (core : CoreId) (lock : SpinlockId) → lock.index < SPINLOCKS → core.number < 256 → IsStep spinlocks Stands answer core (spin_call lock Take) lock.index (λ n. either (n == 0) (word_of (Some core)) n)
-take_steps core lock lt small = steps core lock Take (λ n. either (n == 0) (word_of (Some core)) n) lt small (takes core) (take_replies core)
+take_steps core lock lt small = steps core lock Take (λ n. either (n == 0) (word_of (Some core)) n) lt small (takes core)
 
 pub free_steps : (core : CoreId) (lock : SpinlockId) → lock.index < SPINLOCKS → core.number < 256 → IsStep spinlocks Stands answer core (spin_call lock Free) lock.index (λ n. either (n == word_of (Some core)) 0 n)
-free_steps core lock lt small = steps core lock Free (λ n. either (n == word_of (Some core)) 0 n) lt small (frees core) (free_replies core)
+free_steps core lock lt small = steps core lock Free (λ n. either (n == word_of (Some core)) 0 n) lt small (frees core)
 
 -- a call of one caller, and each of the three
 pub goes_on : (holders new : List (Option CoreId)) (core : CoreId) (call : SpinCall) (reply : SpinReply) → reply ≡ spin_reply core call holders
@@ -101,17 +67,13 @@ frees_on holders new core lock freed answer after = continues spinlocks holders 
 pub looks_on : (holders : List (Option CoreId)) (core : CoreId) (lock : SpinlockId) (seen : Option CoreId) → seen ≡ holder_of holders lock → Continues spinlocks holders (look_call core lock seen) holders
 looks_on holders core lock seen is = continues spinlocks holders holders (look_call core lock seen) (ap Seen is) (set-get_or holders lock.index None)
 
-abbrev granted : SpinReply → Bool
-granted (Answered b) = b
-granted (Seen h) = true
-
 refused : (core : CoreId) (h : Option CoreId) (action : SpinAction) → Answered false ≡ lock_reply core action h → lock_after core action h ≡ h
-refused core None Take e = absurd (both_ways false refl (ap granted e))
+refused core None Take e = cc
 refused core (Some d) Take e = refl
-refused core h Free e = cond-false _ _ _ (sym (ap granted e))
+refused core h Free e = cc
 refused core h Look e = refl
 
 -- a refused call leaves the holders
 pub refused_idle : AreIdle spinlocks IsRefusedCall
 refused_idle holders e is reply = let lock = e.call.lock in
-    ap (slice_set holders lock.index) (refused e.core (holder_of holders lock) e.call.action (sym is ∙ reply)) ∙ set-get_or holders lock.index None
+    rw (refused e.core (holder_of holders lock) e.call.action (sym is ∙ reply)) (set-get_or holders lock.index None)

@@ -2,14 +2,13 @@
 use native.Mathlib.Omega.{arith}
 use Rattle.std.proofs.Common.{◌≡◌, ℕ, ◌&&◌, Bool, true, false, Option, Some, None, is_some, List, [], ◌∷◌, map, refl, sym, ap, ◌∙◌}
 use Rattle.std.specs.{List.list_all, Option.option_map_or}
-use Rattle.std.proofs.lemmas.Bool.{true≢false}
 use Rattle.osbase.specs.{declared.objects.ObjectKind.ObjectKind, declared.objects.Place.Place, Objects.place_on}
 use Rattle.oscript.specs.{declared.Op.Op, declared.rows.Arg.Arg, declared.rows.Kind.Kind, declared.rows.Verb.Verb, Rows.parsed_op_of, Rows.kinds_of, Rows.op_of}
-use Rattle.oscript.specs.declared.rows.Arg.TheVariants.{Core, Object, Mask, Number, Int, Variable}
+use Rattle.oscript.specs.declared.rows.Arg.TheVariants.{Object, Number}
 use Rattle.oscript.proofs.Homes.{at_home}
 use Rattle.ossyntax.specs.{Action.is_action, Action.is_action_op, ParsedOp.form_of}
 use Rattle.ossyntax.specs.Operation.{op_of_text, place_of_any, resolve_arg, resolve_args}
-use Rattle.ossyntax.proofs.{KindTexts.mapped, Meant.any_of_text, Operations.meant-form, RoundTrip.both}
+use Rattle.ossyntax.proofs.{Meant.any_of_text, Operations.meant-form}
 
 -- An operation is an action by its verb, whatever its object and its other arguments are, and where that object has a name, as is
 -- seen before the name is looked up.
@@ -30,47 +29,23 @@ is_action_form form = is_action_verb form.0 && list_all is_named form.1
 action-form : (op : Op) → is_action_op op ≡ is_action_form (parsed_op_of op)
 action-form op = grind arith
 
--- An object has a name wherever it stands.
-home-named : (arg : Arg Place) → is_named (at_home arg) ≡ is_named arg
-home-named (Object kind None) = refl
-home-named (Object kind (Some place)) = refl
-home-named arg = refl
-
-homes-named : (args : List (Arg Place)) → list_all is_named (map at_home args) ≡ list_all is_named args
-homes-named [] = refl
-homes-named (arg ∷ args) = rw (home-named arg, homes-named args) refl
-
 module _ (place : ObjectKind → List ℕ → Option Place) where
-  arg-named : (shown : Arg (List ℕ)) (arg : Arg Place) → resolve_arg place shown ≡ Some arg → is_named arg ≡ is_named shown
-  arg-named (Object kind None) arg e = let is : Object kind None ≡ arg = cc in rw (← is) refl
-  arg-named (Object kind (Some name)) arg e =
-      let m = mapped (λ found. Object kind (Some found)) (place kind name) arg e in
-      rw (← m.2) refl
-  arg-named (Mask mask) arg e = let is : Mask mask ≡ arg = cc in rw (← is) refl
-  arg-named (Number n) arg e = let is : Number n ≡ arg = cc in rw (← is) refl
-  arg-named (Int z) arg e = let is : Int z ≡ arg = cc in rw (← is) refl
-  arg-named (Variable x) arg e = let is : Variable x ≡ arg = cc in rw (← is) refl
-  arg-named (Core target) arg e = let is : Core target ≡ arg = cc in rw (← is) refl
+  -- An object has a name wherever it stands.
+  arg-named : (shown : Arg (List ℕ)) (arg : Arg Place) → resolve_arg place shown ≡ Some arg → is_named (at_home arg) ≡ is_named shown
+  arg-named shown arg e = grind arith
 
-  args-named : (shown : List (Arg (List ℕ))) (args : List (Arg Place)) → resolve_args place shown ≡ Some args → list_all is_named args ≡ list_all is_named shown
-  args-named [] args e = let is : [] ≡ args = cc in rw (← is) refl
-  args-named (a ∷ shown) args e =
-      let m = both (resolve_arg place a) (resolve_args place shown) args e in
-      rw (← m.4, arg-named a m.0 m.2, args-named shown m.1 m.3) refl
+  args-named : (shown : List (Arg (List ℕ))) (args : List (Arg Place)) → resolve_args place shown ≡ Some args → list_all is_named (map at_home args) ≡ list_all is_named shown
+  args-named [] args e = grind arith
+  args-named (a ∷ shown) args e = grind (arith, arg-named, args-named shown)
 
   formed-action : (text : List ℕ) (op : Op) → op_of_text place text ≡ Some op → is_action_op op ≡ option_map_or is_action_form (form_of text) false
   formed-action text op e =
       let m = meant-form place text op e in
-      action-form op
-      ∙ ap (λ (verb : Verb). is_action_verb verb && list_all is_named (parsed_op_of op).1) m.verb_is
-      ∙ ap (λ (args : List (Arg Place)). is_action_verb m.form.0 && list_all is_named args) m.args_are
-      ∙ ap (λ b. is_action_verb m.form.0 && b) (homes-named m.args ∙ args-named m.form.1 m.args m.placed)
-      ∙ sym (ap (λ o. option_map_or is_action_form o false) m.formed)
+      rw (action-form op, m.verb_is, m.args_are, args-named m.form.1 m.args m.placed, m.formed)
 
 -- So whether a text is an action does not depend on what its name refers to.
 action-by : (o : Option (Verb × List (Arg (List ℕ)))) → is_some o ≡ false → option_map_or is_action_form o false ≡ false
-action-by None none = refl
-action-by (Some form) none = absurd (true≢false none)
+action-by o none = grind arith
 
 form-action : (text : List ℕ) → is_action text ≡ option_map_or is_action_form (form_of text) false
 form-action text = by (op_of_text place_of_any text) refl
@@ -85,8 +60,7 @@ meant_action place text op e = formed-action place text op e ∙ sym (form-actio
 
 -- An action is in form and in range.
 formed-by : (o : Option (Verb × List (Arg (List ℕ)))) → option_map_or is_action_form o false ≡ true → is_some o ≡ true
-formed-by None e = absurd (true≢false (sym e))
-formed-by (Some form) e = refl
+formed-by o e = grind arith
 
 pub action-formed : (text : List ℕ) → is_action text ≡ true → is_some (form_of text) ≡ true
 action-formed text e = formed-by (form_of text) (sym (form-action text) ∙ e)

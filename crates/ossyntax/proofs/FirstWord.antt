@@ -1,10 +1,10 @@
 -- Whether a text begins with a word, without looking for the end of its first one.
-use Rattle.std.proofs.Common.{inl, inr, ◌≡◌, ℕ, ◌==◌, true, false, not, List, [], ◌∷◌, ◌++◌, drop, find, length, Some, None, refl, sym, ap, subst, ◌∙◌}
-use Rattle.std.specs.{List.join_with_byte, Str.bytes_eq}
-use Rattle.std.proofs.{lemmas.Bool.and_parts, lemmas.Bool.cases_Bool, lemmas.List.append-nil, lemmas.List.append_cancel_left, lemmas.List.Splits.join_with_byte-slice_split, lemmas.Option.same_Some, lemmas.Slice.Eq.bytes_eq-Decides}
+use Rattle.std.proofs.Common.{◌≡◌, ℕ, ◌==◌, Bool, true, false, not, List, [], ◌∷◌, ◌++◌, cond, find, Option, option_map, length, Some, None, refl, sym, ap, ◌∙◌, arith}
+use Rattle.std.specs.{List.join_with_byte, Option.option_map_or, Option.option_or, Str.bytes_eq}
+use Rattle.std.proofs.{lemmas.Bool.and_parts, lemmas.List.append-nil, lemmas.List.append_cancel_left, lemmas.List.Splits.join_with_byte-slice_split, lemmas.Slice.Eq.bytes_eq-Decides}
 use Rattle.osbase.specs.Names.{is_name_part}
-use Rattle.oscript.specs.{declared.rows.Verb.Verb, Rows.word_of}
-use Rattle.ossyntax.specs.ParsedOp.{first_read, is_first, words_behind, words_of}
+use Rattle.oscript.specs.{declared.rows.TheConstants.VERBS, declared.rows.Verb.Verb, Rows.word_of}
+use Rattle.ossyntax.specs.{Operation.of_first, ParsedOp.first_read, ParsedOp.words_behind, ParsedOp.words_of}
 use Rattle.ossyntax.proofs.Joining.{all-none, has_none, split-cut, split-lone}
 use Rattle.ossyntax.proofs.Rows.{is-row}
 
@@ -16,11 +16,7 @@ module _ (word text : List ℕ) (alone : text ≡ word → ⊥) (more : (rest : 
 
   by-words : (words : List (List ℕ)) → join_with_byte 32 words ≡ text → words_behind word words ≡ None
   by-words [] e = refl
-  by-words (first ∷ words) e =
-      elim (cases_Bool (bytes_eq word first)) as (λ _. words_behind word (first ∷ words) ≡ None) [
-        | inl same ↦ absurd (starts first words ((bytes_eq-Decides word first).0 same) e)
-        | inr other ↦ rw other refl
-      ]
+  by-words (first ∷ words) e = grind (arith, starts first words, (bytes_eq-Decides word first).0, e)
 
   another : words_behind word (words_of text) ≡ None
   another = by-words (words_of text) (join_with_byte-slice_split 32 text)
@@ -31,12 +27,8 @@ lacks word text none = another word text (λ e. none [] (e ∙ sym (append-nil w
 pub goes_astray : (word text rest : List ℕ) → text ≡ word ++ rest → (length rest == 0) ≡ false → ((more : List ℕ) → rest ≡ 32 ∷ more → ⊥) → words_behind word (words_of text) ≡ None
 goes_astray word text rest is some no_space =
     another word text
-    (λ e. nonempty rest some (append_cancel_left word rest [] (sym is ∙ e ∙ sym (append-nil word))))
+    (λ e. let none = append_cancel_left word rest [] (sym is ∙ e ∙ sym (append-nil word)) in grind (arith, none))
     (λ more e. no_space more (append_cancel_left word rest (32 ∷ more) (sym is ∙ e)))
-  where
-    nonempty : (xs : List ℕ) → (length xs == 0) ≡ false → xs ≡ [] → ⊥
-    nonempty [] h e = cc
-    nonempty (x ∷ xs) h e = cc
 
 -- An operation's word has no space, and is the same as itself.
 no-space : (verb : Verb) → has_none 32 (word_of verb) ≡ true
@@ -46,43 +38,23 @@ same-word : (verb : Verb) → bytes_eq (word_of verb) (word_of verb) ≡ true
 same-word verb = (bytes_eq-Decides (word_of verb) (word_of verb)).1 refl
 
 -- A text that is an operation's word alone has no words behind it.
-pub goes_no_further : (verb : Verb) → words_behind (word_of verb) (words_of (word_of verb)) ≡ Some []
-goes_no_further verb = ap (words_behind (word_of verb)) (split-lone 32 (word_of verb) (no-space verb)) ∙ rw (same-word verb) refl
+pub goes_no_further : (verb : Verb) (text : List ℕ) → text ≡ word_of verb ++ [] → words_behind (word_of verb) (words_of text) ≡ Some []
+goes_no_further verb text is = rw (is, append-nil, split-lone 32 (word_of verb) (no-space verb), same-word verb)
 
 -- A text of an operation's word, a space and a rest has the words of the rest behind the first.
-pub goes_on : (verb : Verb) (rest : List ℕ) → words_behind (word_of verb) (words_of (word_of verb ++ 32 ∷ rest)) ≡ Some (words_of rest)
-goes_on verb rest = ap (words_behind (word_of verb)) (split-cut 32 (word_of verb) rest refl (no-space verb)) ∙ rw (same-word verb) refl
+pub goes_on : (verb : Verb) (text rest : List ℕ) → text ≡ word_of verb ++ 32 ∷ rest → words_behind (word_of verb) (words_of text) ≡ Some (words_of rest)
+goes_on verb text rest is = rw (is, split-cut 32 (word_of verb) rest refl (no-space verb), same-word verb)
 
--- The first verb that is read is the first whose word is the first word, with the words behind it.
-pub read-found : (words : List (List ℕ)) (verbs : List Verb) (verb : Verb) (behind : List (List ℕ)) → first_read words verbs ≡ Some (verb, behind) → (find (λ v. is_first (word_of v) words) verbs ≡ Some verb) × (words_behind (word_of verb) words ≡ Some behind)
-read-found words [] verb behind e = cc
-read-found words (v ∷ verbs) verb behind e =
-    elim (cases_Bool (is_first (word_of v) words)) as (λ _. (find (λ u. is_first (word_of u) words) (v ∷ verbs) ≡ Some verb) × (words_behind (word_of verb) words ≡ Some behind)) [
-      | inl first ↦
-          let here : first_read words (v ∷ verbs) ≡ Some (v, drop 1 words) = rw first refl in
-          let same : (v, drop 1 words) ≡ (verb, behind) = same_Some _ _ (sym here ∙ e) in
-          let is : v ≡ verb = ap (λ (f : Verb × List (List ℕ)). f.0) same in
-          let rest : drop 1 words ≡ behind = ap (λ (f : Verb × List (List ℕ)). f.1) same in
-          let found : find (λ u. is_first (word_of u) words) (v ∷ verbs) ≡ Some v = rw first refl in
-          let read : words_behind (word_of v) words ≡ Some (drop 1 words) = rw first refl in
-          (found ∙ ap Some is, subst (λ (u : Verb). words_behind (word_of u) words ≡ Some behind) is (read ∙ ap Some rest))
-      | inr other ↦
-          let later : first_read words (v ∷ verbs) ≡ first_read words verbs = rw other refl in
-          let sought : find (λ u. is_first (word_of u) words) (v ∷ verbs) ≡ find (λ u. is_first (word_of u) words) verbs = rw other refl in
-          let rest = read-found words verbs verb behind (sym later ∙ e) in
-          (sought ∙ rest.0, rest.1)
-    ]
+-- What is asked of the first verb that is read and the words behind it, is what is asked of the first word and those behind it.
+module _ {X : Type 0} (ask : List (List ℕ) → Verb → X) (none : X) where
+  step : (here : Bool) (v : Verb) (words : List (List ℕ)) (found : Option Verb) (read : Option (Verb × List (List ℕ))) → option_map_or (ask words) found none ≡ option_map_or (λ r. ask r.1 r.0) read none
+      → option_map_or (ask words) (cond here (Some v) found) none ≡ option_map_or (λ r. ask r.1 r.0) (option_or (option_map (λ behind. (v, behind)) (cond here (Some words) None)) read) none
+  step here v words found read later = grind arith
 
-pub read-none : (words : List (List ℕ)) (verbs : List Verb) → first_read words verbs ≡ None → find (λ v. is_first (word_of v) words) verbs ≡ None
-read-none words [] e = refl
-read-none words (v ∷ verbs) e =
-    elim (cases_Bool (is_first (word_of v) words)) as (λ _. find (λ u. is_first (word_of u) words) (v ∷ verbs) ≡ None) [
-      | inl first ↦
-          let found : Verb × List (List ℕ) = (v, drop 1 words) in
-          let here : first_read words (v ∷ verbs) ≡ Some found = rw first refl in
-          let never : Some found ≡ None = sym here ∙ e in cc
-      | inr other ↦
-          let later : first_read words (v ∷ verbs) ≡ first_read words verbs = rw other refl in
-          let sought : find (λ u. is_first (word_of u) words) (v ∷ verbs) ≡ find (λ u. is_first (word_of u) words) verbs = rw other refl in
-          sought ∙ read-none words verbs (sym later ∙ e)
-    ]
+  among : (word : List ℕ) (words : List (List ℕ)) (verbs : List Verb) → option_map_or (ask words) (find (λ v. bytes_eq (word_of v) word) verbs) none ≡ option_map_or (λ r. ask r.1 r.0) (first_read (word ∷ words) verbs) none
+  among word words [] = refl
+  among word words (v ∷ verbs) = step (bytes_eq (word_of v) word) v words _ _ (among word words verbs)
+
+  pub first-asked : (words : List (List ℕ)) → of_first ask none words ≡ option_map_or (λ r. ask r.1 r.0) (first_read words VERBS) none
+  first-asked [] = refl
+  first-asked (word ∷ words) = among word words VERBS

@@ -1,5 +1,5 @@
 -- Numbers and their words.
-use Rattle.std.proofs.Common.{rules, ◌≡◌, ◌≢◌, ℕ, ◌<◌, ◌≤◌, ◌^◌, ◌==◌, ◌&&◌, true, false, List, [], ◌∷◌, length, get_or, pos, option_map, None, Err, refl, sym, ap, ◌∙◌, arith}
+use Rattle.std.proofs.Common.{rules, ◌≡◌, ◌≢◌, ℕ, ◌<◌, ◌≤◌, ◌^◌, true, List, [], ◌∷◌, length, get_or, pos, option_map, None, Err, refl, arith}
 use Rattle.std.specs.{Char.is_ascii_digit, List.list_all, Str.Parse.digits_value, Str.Parse.ParsesUnsigned}
 use Rattle.std.proofs.{lemmas.Bool.and_parts, lemmas.Str.Parse.IsNumeralModel, lemmas.Str.Parse.numerals_by_value, lemmas.Str.Parse.parse_plain, lemmas.Grind.common_steps}
 use Rattle.ossyntax.specs.Word.{is_unpadded, is_decimal, bounded, number_in, int_of}
@@ -11,12 +11,11 @@ pub decimal-digits : (word : List ℕ) → is_decimal word ≡ true → list_all
 decimal-digits word e = (and_parts (is_unpadded word) _ e).1
 
 pub decimal-some : (word : List ℕ) → is_decimal word ≡ true → 0 < length word
-decimal-some [] e = cc
-decimal-some (d ∷ ds) e = omega arith
+decimal-some word e = grind arith
 
 pub lack-plus : (word : List ℕ) → list_all is_ascii_digit word ≡ true → get_or word 0 0 ≢ 43
 lack-plus [] e = grind arith
-lack-plus (d ∷ ds) e = λ is. let f = ap (λ x. is_ascii_digit x && list_all is_ascii_digit ds) (sym is) ∙ e in cc
+lack-plus (d ∷ ds) e = grind arith
 
 pub bounded-none : (low high n : ℕ) → (n ≤ high → ⊥) → bounded low high n ≡ None
 bounded-none low high n lack = let lt : high < n = omega arith in grind (arith, common_steps)
@@ -30,7 +29,4 @@ too-large low high word e lt is h =
 -- without a minus a signed number is one that is not
 pub int_of-plain : (word : List ℕ) → ((ys : List ℕ) → word ≢ 45 ∷ ys) → int_of word ≡ option_map (λ n. pos n) (number_in 0 9223372036854775807 word)
 int_of-plain [] lack = refl
-int_of-plain (c ∷ cs) lack =
-    let other : c ≢ 45 = λ is. lack cs (ap (λ x. x ∷ cs) is) in
-    let test : (c == 45) ≡ false = search (rules, other) in
-    rw test refl
+int_of-plain (c ∷ cs) lack = grind (arith, common_steps, lack cs)

@@ -1,14 +1,14 @@
 -- Operations and their texts, there and back, by what names stand for.
 use Rattle.std.proofs.Common.{◌≡◌, ℕ, ◌==◌, ◌≤◌, nat_le, not, Bool, true, false, Option, Some, None, is_some, option_map, option_and_then, List, [], ◌∷◌, length, map, refl, sym, ap, ◌∙◌, arith}
 use Rattle.std.specs.{List.list_all, Option.option_map_or}
-use Rattle.std.proofs.lemmas.Bool.{and_parts, and_from, false≢true, leb-true}
+use Rattle.std.proofs.lemmas.Bool.{and_parts, false≢true, leb-true}
 use Rattle.osbase.specs.{declared.objects.ObjectKind.ObjectKind, declared.objects.Place.Place, declared.objects.Object.Object as Named, Names.is_name}
 use Rattle.oscript.specs.{declared.Op.Op, declared.rows.Kind.Kind, declared.rows.Arg.Arg, declared.rows.Verb.Verb}
 use Rattle.oscript.specs.declared.rows.Arg.TheVariants.{Core, Object, Mask, Number, Int, Variable}
 use Rattle.oscript.specs.Rows as rows
 use Rattle.oscript.specs.Rows.{are_of, parsed_op_of, has_event, is_in_form, is_of, kinds_of, objects_in, objects_of, op_of}
 use Rattle.oscript.proofs.{Arguments.rest-pass, Homes.args-home, Homes.at_home, Homes.home}
-use Rattle.ossyntax.specs.ParsedOp.{form_of, words_of}
+use Rattle.ossyntax.specs.ParsedOp.{form_of, form_of_words, words_of}
 use Rattle.ossyntax.specs.Operation.{resolve_arg, resolve_args, resolved, named, op_of_text, place_of_any, has_masks, is_formed, is_known, op_text}
 use Rattle.ossyntax.proofs.{Alike.named-alike, Joining.has_none, Known.form-known, Meant.any_of_text, Rows.is-row, Rows.is-op, Fitting.args-fit, Fitting.formed-args}
 use Rattle.ossyntax.proofs.KindTexts.{mapped, is_kind, ReadsBack, invalid-back, name-back, mask-back, number-back, int-back, variable-back, core-back, IsApart}
@@ -17,23 +17,23 @@ use Rattle.ossyntax.proofs.RoundTrip.{both, chained, AreArgs, form_text-back, fo
 
 -- ---- what a text means
 
--- The operation that a text means has the text's form, with the places of its names: each object where its references are.
-pub record Meant (place : ObjectKind → List ℕ → Option Place) (text : List ℕ) (op : Op) : Type 0 where
+-- The operation that words mean has their form, with the places of its names: each object where its references are.
+pub record Meant (place : ObjectKind → List ℕ → Option Place) (words : List (List ℕ)) (op : Op) : Type 0 where
   pub form : Verb × List (Arg (List ℕ))
   pub args : List (Arg Place)
-  pub formed : form_of text ≡ Some form
+  pub formed : form_of_words words ≡ Some form
   pub placed : resolve_args place form.1 ≡ Some args
   pub fit : are_of (kinds_of form.0) args ≡ true
   pub verb_is : (parsed_op_of op).0 ≡ form.0
   pub args_are : (parsed_op_of op).1 ≡ map at_home args
 
-pub meant-form : (place : ObjectKind → List ℕ → Option Place) (text : List ℕ) (op : Op) → op_of_text place text ≡ Some op → Meant place text op
-meant-form place text op e =
-    let m = mapped op_of (option_and_then (resolved place) (form_of text)) op e in
-    let c = chained (resolved place) (form_of text) m.0 m.1 in
+pub meant-words : (place : ObjectKind → List ℕ → Option Place) (words : List (List ℕ)) (op : Op) → option_map op_of (option_and_then (resolved place) (form_of_words words)) ≡ Some op → Meant place words op
+meant-words place words op e =
+    let m = mapped op_of (option_and_then (resolved place) (form_of_words words)) op e in
+    let c = chained (resolved place) (form_of_words words) m.0 m.1 in
     let r = mapped (λ args. (c.0.0, args)) (resolve_args place c.0.1) m.0 c.2 in
-    let f = formed-args (words_of text) c.0 c.1 in
-    let fit : are_of (kinds_of c.0.0) r.0 ≡ true = args-fit place (kinds_of c.0.0) f.0 c.0.1 r.0 f.1 r.1 in
+    let f = formed-args words c.0 c.1 in
+    let fit = args-fit place (kinds_of c.0.0) f.0 c.0.1 r.0 f.1 r.1 in
     let back : op ≡ op_of (c.0.0, r.0) = sym m.2 ∙ ap op_of (sym r.2) in
     record {
       form = c.0;
@@ -45,40 +45,24 @@ meant-form place text op e =
       args_are = ap (λ (o : Op). (parsed_op_of o).1) back ∙ (is-row c.0.0).4 r.0 fit;
     }
 
--- Arguments stay of their kinds, and masks keep their events.
+pub meant-form : (place : ObjectKind → List ℕ → Option Place) (text : List ℕ) (op : Op) → op_of_text place text ≡ Some op → Meant place (words_of text) op
+meant-form place text op e = meant-words place (words_of text) op e
+
+-- Arguments stay of their kinds.
 home-of : (k : Kind) (a : Arg Place) → is_of k (at_home a) ≡ is_of k a
-home-of (Kind.Object k) (Object j target) = refl
-home-of k (Object j target) = refl
-home-of k a = refl
+home-of k a = grind arith
 
 homes-of : (ks : List Kind) (args : List (Arg Place)) → are_of ks (map at_home args) ≡ are_of ks args
-homes-of [] [] = refl
-homes-of [] (a ∷ args) = refl
+homes-of [] args = grind arith
 homes-of (k ∷ ks) [] = refl
 homes-of (k ∷ ks) (a ∷ args) = rw (home-of k a, homes-of ks args) refl
 
-home-event : (a : Arg Place) → has_event (at_home a) ≡ has_event a
-home-event (Object j target) = refl
-home-event a = refl
-
-homes-events : (args : List (Arg Place)) → list_all has_event (map at_home args) ≡ list_all has_event args
-homes-events [] = refl
-homes-events (a ∷ args) = rw (home-event a, homes-events args) refl
-
 module _ (place : ObjectKind → List ℕ → Option Place) (p : Named → Bool) (stays : (object : Named) → p object ≡ true → home object.kind object.place ≡ object.place) (passes : (kind : ObjectKind) (name : List ℕ) (found : Place) → place kind name ≡ Some found → p (record { kind = kind; place = found }) ≡ true) where
   arg-passes : (shown : Arg (List ℕ)) (arg : Arg Place) (args : List (Arg Place)) → resolve_arg place shown ≡ Some arg → list_all p (objects_in args) ≡ true → list_all p (objects_in (arg ∷ args)) ≡ true
-  arg-passes (Object kind None) arg args e all = let is : Object kind None ≡ arg = cc in rw (← is) all
-  arg-passes (Object kind (Some name)) arg args e all =
-      let m = mapped (λ found. Object kind (Some found)) (place kind name) arg e in
-      rw (← m.2) (and_from _ _ (passes kind name m.0 m.1) all)
-  arg-passes (Mask mask) arg args e all = let is : Mask mask ≡ arg = cc in rw (← is) all
-  arg-passes (Number n) arg args e all = let is : Number n ≡ arg = cc in rw (← is) all
-  arg-passes (Int z) arg args e all = let is : Int z ≡ arg = cc in rw (← is) all
-  arg-passes (Variable x) arg args e all = let is : Variable x ≡ arg = cc in rw (← is) all
-  arg-passes (Core target) arg args e all = let is : Core target ≡ arg = cc in rw (← is) all
+  arg-passes shown arg args e all = grind (arith, passes)
 
-  args-pass : (shown : List (Arg (List ℕ))) (args : List (Arg Place)) → resolve_args place shown ≡ Some args → list_all p (objects_in args) ≡ true
-  args-pass [] args e = let is : [] ≡ args = cc in rw (← is) refl
+  pub args-pass : (shown : List (Arg (List ℕ))) (args : List (Arg Place)) → resolve_args place shown ≡ Some args → list_all p (objects_in args) ≡ true
+  args-pass [] args e = grind arith
   args-pass (a ∷ shown) args e =
       let m = both (resolve_arg place a) (resolve_args place shown) args e in
       rw (← m.4) (arg-passes a m.0 m.1 m.2 (args-pass shown m.1 m.3))
@@ -101,40 +85,27 @@ module _ (place : ObjectKind → List ℕ → Option Place) where
       let m = meant-form place text op e in
       (ap is_some m.formed, form-known place text m.form m.formed ∙ ap is_some m.placed)
 
-  arg-event : (shown : Arg (List ℕ)) (arg : Arg Place) → resolve_arg place shown ≡ Some arg → has_event arg ≡ has_event shown
-  arg-event (Object kind None) arg e = let is : Object kind None ≡ arg = cc in rw (← is) refl
-  arg-event (Object kind (Some name)) arg e =
-      let m = mapped (λ found. Object kind (Some found)) (place kind name) arg e in
-      rw (← m.2) refl
-  arg-event (Mask mask) arg e = let is : Mask mask ≡ arg = cc in rw (← is) refl
-  arg-event (Number n) arg e = let is : Number n ≡ arg = cc in rw (← is) refl
-  arg-event (Int z) arg e = let is : Int z ≡ arg = cc in rw (← is) refl
-  arg-event (Variable x) arg e = let is : Variable x ≡ arg = cc in rw (← is) refl
-  arg-event (Core target) arg e = let is : Core target ≡ arg = cc in rw (← is) refl
+  -- Masks keep their events.
+  arg-event : (shown : Arg (List ℕ)) (arg : Arg Place) → resolve_arg place shown ≡ Some arg → has_event (at_home arg) ≡ has_event shown
+  arg-event shown arg e = grind arith
 
-  args-events : (shown : List (Arg (List ℕ))) (args : List (Arg Place)) → resolve_args place shown ≡ Some args → list_all has_event args ≡ list_all has_event shown
-  args-events [] args e = let is : [] ≡ args = cc in rw (← is) refl
-  args-events (a ∷ shown) args e =
-      let m = both (resolve_arg place a) (resolve_args place shown) args e in
-      rw (← m.4, arg-event a m.0 m.2, args-events shown m.1 m.3) refl
+  args-events : (shown : List (Arg (List ℕ))) (args : List (Arg Place)) → resolve_args place shown ≡ Some args → list_all has_event (map at_home args) ≡ list_all has_event shown
+  args-events [] args e = grind arith
+  args-events (a ∷ shown) args e = grind (arith, arg-event, args-events shown)
 
   -- The masks of the operation that a text means are those of its form,
   form-masks : (text : List ℕ) (op : Op) → op_of_text place text ≡ Some op → rows.has_masks op ≡ option_map_or (λ form. list_all has_event form.1) (form_of text) true
-  form-masks text op e =
-      let m = meant-form place text op e in
-      ap (list_all has_event) m.args_are ∙ homes-events m.args ∙ args-events m.form.1 m.args m.placed ∙ sym (ap (λ o. option_map_or (λ form. list_all has_event form.1) o true) m.formed)
+  form-masks text op e = let m = meant-form place text op e in rw (m.args_are, args-events m.form.1 m.args m.placed, m.formed)
 
 some-of : (o : Option Op) → is_some o ≡ true → (op : Op) × (o ≡ Some op)
-some-of None e = cc
-some-of (Some op) e = (op, refl)
+some-of o e = grind arith
 
 -- and so the text's.
 pub meant_masks : (place : ObjectKind → List ℕ → Option Place) (text : List ℕ) (op : Op) → op_of_text place text ≡ Some op → rows.has_masks op ≡ has_masks text
 meant_masks place text op e =
     let any = some-of (op_of_text place_of_any text) (any_of_text text ∙ (meant-known place text op e).0) in
     let alike = named-alike place_of_any text any.0 any.1 in
-    form-masks place text op e ∙ sym (form-masks place_of_any text any.0 any.1)
-    ∙ alike.2.masks ∙ sym (ap (λ o. option_map_or rows.has_masks o true) alike.1)
+    rw alike.1 (form-masks place text op e ∙ sym (form-masks place_of_any text any.0 any.1) ∙ alike.2.masks)
 
 -- ---- what an operation's text means
 
@@ -169,13 +140,8 @@ module _ (place : ObjectKind → List ℕ → Option Place) (name : ObjectKind �
   args-back ks args fit are some all = absurd (false≢true are)
 
   arg-resolved : (a : Arg Place) (args : List (Arg Place)) → list_all p (objects_in (a ∷ args)) ≡ true → resolve_arg place (named name a) ≡ Some a
-  arg-resolved (Object kind None) args all = refl
   arg-resolved (Object kind (Some found)) args all = rw (known (record { kind = kind; place = found }) (and_parts (p (record { kind = kind; place = found })) _ all).0).found refl
-  arg-resolved (Mask mask) args all = refl
-  arg-resolved (Number n) args all = refl
-  arg-resolved (Int z) args all = refl
-  arg-resolved (Variable x) args all = refl
-  arg-resolved (Core target) args all = refl
+  arg-resolved arg args all = grind arith
 
   args-resolved : (args : List (Arg Place)) → list_all p (objects_in args) ≡ true → resolve_args place (map (named name) args) ≡ Some args
   args-resolved [] all = refl
@@ -188,9 +154,7 @@ module _ (place : ObjectKind → List ℕ → Option Place) (name : ObjectKind �
   pub text-meant : (op : Op) → is_in_form op ≡ true → rows.has_masks op ≡ true → list_all p (objects_of op) ≡ true → op_of_text place (op_text name op) ≡ Some op
   text-meant op fit some all =
       let form = parsed_op_of op in
-      ap (λ f. option_map op_of (option_and_then (resolved place) f)) (form_text-back form.0 (map (named name) form.1) (are-args op fit some all))
-      ∙ ap (λ args. option_map op_of (option_map (λ as_. (form.0, as_)) args)) (args-resolved form.1 all)
-      ∙ ap Some (is-op op)
+      rw (form_text-back form.0 (map (named name) form.1) (are-args op fit some all), args-resolved form.1 all) (ap Some (is-op op))
 
   -- and has no byte that no argument has, other than the space.
   pub text-none : (byte : ℕ) → IsApart byte → (32 == byte) ≡ false → (op : Op) → is_in_form op ≡ true → rows.has_masks op ≡ true → list_all p (objects_of op) ≡ true → has_none byte (op_text name op) ≡ true

@@ -1,23 +1,21 @@
 -- An operation's form, its text and the form that the text has: by its row, and by the kinds of its arguments.
-use Rattle.std.proofs.Common.{◌≡◌, ℕ, ◌==◌, not, true, false, Option, Some, None, option_map, option_and_then, List, [], ◌∷◌, length, map, refl, ap, ◌∙◌}
+use Rattle.std.proofs.Common.{◌≡◌, ℕ, ◌==◌, not, true, false, Option, Some, option_map, option_and_then, List, [], ◌∷◌, length, map, refl, ap, ◌∙◌, arith}
 use Rattle.std.specs.List.{list_all}
 use Rattle.std.proofs.lemmas.Bool.{and_parts, and_from}
 use Rattle.osbase.specs.Names.{is_name_part}
 use Rattle.oscript.specs.{declared.rows.Kind.Kind, declared.rows.Verb.Verb, declared.rows.Arg.Arg, Rows.word_of, Rows.kinds_of}
 use Rattle.ossyntax.specs.ParsedOp.{arg_of, and_then_rest, args_of, form_of_verb, form_of_words, form_of, arg_text, form_text}
 use Rattle.ossyntax.proofs.Joining.{has_none, split-joined, joined-none, joined-some, all-none}
-use Rattle.ossyntax.proofs.KindTexts.{mapped, arg_of-none, ReadsBack, IsApart}
+use Rattle.ossyntax.proofs.KindTexts.{arg_of-none, ReadsBack, IsApart}
 use Rattle.ossyntax.proofs.Rows.{is-row}
 
 -- ---- arguments
 
 pub both : {A : Type 0} (o : Option A) (r : Option (List A)) (all : List A) → and_then_rest o r ≡ Some all → (a : A) × (rest : List A) × (o ≡ Some a) × (r ≡ Some rest) × (a ∷ rest ≡ all)
-both None r all e = cc
-both (Some a) r all e = let m = mapped (λ rest. a ∷ rest) r all e in (a, m.0, refl, m.1, m.2)
+both o r all e = grind arith
 
 args_of-none : (byte : ℕ) (ks : List Kind) (words : List (List ℕ)) (args : List (Arg (List ℕ))) → IsApart byte → args_of ks words ≡ Some args → list_all (has_none byte) words ≡ true
-args_of-none byte [] [] args apart e = refl
-args_of-none byte [] (w ∷ ws) args apart e = cc
+args_of-none byte [] ws args apart e = grind arith
 args_of-none byte (k ∷ ks) [] args apart e = cc
 args_of-none byte (k ∷ ks) (w ∷ ws) args apart e =
     let m = both (arg_of k w) (args_of ks ws) args e in
@@ -26,23 +24,20 @@ args_of-none byte (k ∷ ks) (w ∷ ws) args apart e =
 -- ---- options
 
 pub chained : {A B : Type 0} (f : A → Option B) (o : Option A) (b : B) → option_and_then f o ≡ Some b → (a : A) × (o ≡ Some a) × (f a ≡ Some b)
-chained f None b e = cc
-chained f (Some a) b e = (a, refl, e)
+chained f o b e = grind arith
 
 -- ---- from a form and back
 
 -- each argument reads back as its kind
 abbrev pub AreArgs : List Kind → List (Arg (List ℕ)) → Type 0
 AreArgs [] [] = Unit {0}
-AreArgs [] (a ∷ args) = ⊥
-AreArgs (k ∷ ks) [] = ⊥
 AreArgs (k ∷ ks) (a ∷ args) = ReadsBack k a × AreArgs ks args
+AreArgs ks args = ⊥
 
 args-back : (ks : List Kind) (args : List (Arg (List ℕ))) → AreArgs ks args → args_of ks (map arg_text args) ≡ Some args
 args-back [] [] are = refl
-args-back [] (a ∷ args) are = absurd are
-args-back (k ∷ ks) [] are = absurd are
-args-back (k ∷ ks) (a ∷ args) are = rw (are.0, args-back ks args are.1) refl
+args-back (k ∷ ks) (a ∷ args) are = rw (are.0, args-back ks args are.1)
+args-back ks args are = absurd are
 
 -- the words of such a form have no byte that no argument has
 words-none : (byte : ℕ) → IsApart byte → (v : Verb) (args : List (Arg (List ℕ))) → AreArgs (kinds_of v) args → list_all (has_none byte) (word_of v ∷ map arg_text args) ≡ true

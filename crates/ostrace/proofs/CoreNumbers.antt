@@ -1,18 +1,15 @@
 -- A core's number in decimal is read as that number, and ends where its word has no digit more.
 use Rattle.std.proofs.Common.{◌≡◌, ℕ, ◌+◌, ◌-◌, ◌*◌, ◌/◌, ◌%◌, ◌<◌, nat_lt, true, false, not, Some, List, [], ◌∷◌, ◌++◌, inl, inr, length, length-append, refl, ap, ◌∙◌, arith}
 use Rattle.std.specs.{Char.is_ascii_digit, Fmt.decimal, List.list_all, List.prefix_len}
-use Rattle.std.proofs.lemmas.Bool.{and_parts, cases_lt, lt-ltb, ne_eqb}
+use Rattle.std.proofs.lemmas.Bool.{and_parts, cases_lt, lt-ltb}
 use Rattle.std.proofs.{lemmas.Bool.Decides.nat_tests, lemmas.Fmt.decimal_digit, lemmas.Fmt.decimal_step}
 use Rattle.osinput.specs.{Word.core_number, Word.digit_of, Given.digits_in}
 
 digit-back : (d : ℕ) → d < 10 → digit_of (48 + d) ≡ Some d
-digit-back d low =
-    let digit : is_ascii_digit (48 + d) ≡ true = grind (arith, nat_tests) in
-    let value : 48 + d - 48 ≡ d = omega arith in
-    rw (digit, value) refl
+digit-back d low = grind (arith, nat_tests)
 
 two-back : (t o : ℕ) → 0 < t → t < 10 → o < 10 → core_number ((48 + t) ∷ (48 + o) ∷ []) ≡ Some (10 * t + o)
-two-back t o some tens ones = rw (ne_eqb (48 + t) 48 (λ e. omega arith), digit-back t tens, digit-back o ones) refl
+two-back t o some tens ones = grind (arith, nat_tests)
 
 pub number-back : (n : ℕ) → n < 100 → core_number (decimal n) ≡ Some n
 number-back n low = elim (cases_lt n 10) as (λ _. core_number (decimal n) ≡ Some n) [

@@ -1,21 +1,15 @@
 -- A text that needs no escape is read, in quotes, as the string of that text.
-use Rattle.std.proofs.Common.{◌≡◌, ℕ, ◌==◌, ◌||◌, nat_lt, true, Some, option_and_then, List, [], ◌∷◌, ◌++◌, refl, sym, ap, ◌∙◌, arith}
+use Rattle.std.proofs.Common.{◌≡◌, ℕ, true, Some, option_and_then, List, [], ◌∷◌, ◌++◌, sym, ap, ◌∙◌, arith}
 use Rattle.std.specs.List.{list_all}
-use Rattle.std.proofs.lemmas.Bool.{and_parts, eqb-false, ltb-false, not-true, or_parts}
+use Rattle.std.proofs.lemmas.List.Sums.{AllPass-from_list_all}
 use Rattle.json.specs.Json as json
-use Rattle.json.specs.{Lex.tokens, Print.escape, Run.is_plain, Run.is_stop, Token.Token}
-use Rattle.json.proofs.{Printed.Strings.escape_byte_plain, Printed.Tokens.tokens-print, Printed.Trees.ArePrintable-json_tokens, Printed.Trees.value-json_tokens}
+use Rattle.json.specs.{Lex.tokens, Print.escape, Run.is_plain, Token.Token}
+use Rattle.json.proofs.{Printed.Plain.escape_on_plain, Printed.Tokens.tokens-print, Printed.Trees.ArePrintable-json_tokens, Printed.Trees.value-json_tokens}
 use Rattle.serde_json.specs.{Data.string, Read.max_depth, Read.of_json, Read.read}
 use Rattle.serde_json.proofs.Texts.{print-outline}
 
 escape-plain : (text : List ℕ) → list_all is_plain text ≡ true → escape text ≡ text
-escape-plain [] plain = refl
-escape-plain (b ∷ bs) plain =
-    let parts = and_parts (is_plain b) (list_all is_plain bs) plain in
-    let tests = or_parts ((b == 34) || (b == 92)) (nat_lt b 32) (not-true (is_stop b) parts.0) in
-    let marks = or_parts (b == 34) (b == 92) tests.0 in
-    ap (λ (t : List ℕ). t ++ escape bs) (escape_byte_plain b (eqb-false b 34 marks.0) (eqb-false b 92 marks.1) (ltb-false b 32 tests.1))
-    ∙ ap (λ (t : List ℕ). b ∷ t) (escape-plain bs parts.1)
+escape-plain text plain = escape_on_plain true text (λ k _ lt. AllPass-from_list_all is_plain text plain k 0 lt)
 
 pub read-quoted : (text : List ℕ) → list_all is_plain text ≡ true → read (34 ∷ (text ++ 34 ∷ [])) ≡ Some (string text)
 read-quoted text plain =

@@ -1,16 +1,16 @@
 -- The text of a schedule is read as its turns.
-use Rattle.std.proofs.Common.{◌≡◌, ℕ, ◌<◌, ◌≤◌, ◌==◌, nat_le, Bool, true, false, not, Option, Some, None, is_some, option_and_then, List, [], ◌∷◌, ◌++◌, length, length-append, map, IsTrue, refl, ap, ◌∙◌, arith}
+use Rattle.std.proofs.Common.{codes, ◌≡◌, ℕ, ◌≤◌, ◌==◌, nat_le, Bool, true, not, Option, Some, is_some, option_and_then, List, [], ◌∷◌, ◌++◌, length, length-append, map, IsTrue, refl, ap, ◌∙◌, arith}
 use Rattle.std.specs.{Char.is_ascii_digit, Fmt.decimal, List.list_all}
-use Rattle.std.proofs.{Math.Seq.drop-append_seam, Math.Seq.take-append_seam, lemmas.Bool.Decides.nat_tests, lemmas.Fmt.digits_decimal, lemmas.List.length-map, lemmas.List.Folds.list_all-append, lemmas.List.Folds.list_all-map}
-use Rattle.std.proofs.lemmas.Bool.{and_from, and_parts, le-leb, ne_eqb, not-true, not_from_false}
+use Rattle.std.proofs.{Math.Seq.drop-append_seam, Math.Seq.take-append_seam, lemmas.Bool.Decides.nat_tests, lemmas.Fmt.digits_decimal, lemmas.List.length-map, lemmas.List.Folds.list_all-map}
+use Rattle.std.proofs.lemmas.Bool.{and_from, and_parts, le-leb}
 use Rattle.json.specs.Run.{is_plain}
 use Rattle.osbase.specs.{declared.references.CoreId.CoreId, declared.turns.Choice.Choice, declared.turns.Choice.TheVariants.Own, declared.turns.Choice.TheVariants.Serve, declared.turns.Choice.TheVariants.Look, History.same_core}
 use Rattle.osbase.proofs.Same.{same_core-true}
 use Rattle.ossyntax.proofs.{Joining.not-byte, Numerals.own}
 use Rattle.osplan.specs.{declared.faults.ConfFault.TheVariants.Limit, declared.faults.ConfFault.TheVariants.BadSchedule, declared.plans.Core.Core, declared.plans.Plan.Plan, Fault.failing, Fault.if_faultless, Limits.is_within_limits, View.core_of}
-use Rattle.osplan.proofs.{Numbered.configured-low, Tests.all-weaker, Tests.find-holds}
+use Rattle.osplan.proofs.{Numbered.configured-low, Tests.all-append, Tests.all-flat, Tests.all-weaker, Tests.find-holds}
 use Rattle.osjson.specs.Reading.{each, parts_of}
-use Rattle.osinput.specs.Given.{choice_of, core_named, digits_in, meaning_by, schedule_of_text, schedule_of_data, schedule_tests, turn_of, turns_of_text}
+use Rattle.osinput.specs.Given.{choice_of, core_named, digits_in, meaning_by, schedule_of_text, schedule_of_data, served, schedule_tests, turn_of, turns_of_text}
 use Rattle.ostrace_text.specs.Trace.{led, spaced}
 use Rattle.ostrace.specs.Schedules.{are_turns_of, choice_word, is_choice_of, is_turn_of, schedule_text, turn_word}
 use Rattle.ostrace.proofs.{CoreNumbers.digits-end, CoreNumbers.number-back, Quoted.read-quoted, Spaced.parts-spaced}
@@ -23,53 +23,38 @@ Turn = CoreId × Choice
 digit-plain : (b : ℕ) → is_ascii_digit b ≡ true → is_plain b ≡ true
 digit-plain b digit = grind (arith, nat_tests)
 
--- A choice begins with a letter.
-record Begins (choice : Choice) : Type 0 where
-  letter : ℕ
-  later : List ℕ
-  is : choice_word choice ≡ letter ∷ later
-  no_digit : is_ascii_digit letter ≡ false
-
-begins : (choice : Choice) → Begins choice
-begins Own = record { letter = 111; later = []; is = refl; no_digit = refl }
-begins Look = record { letter = 108; later = []; is = refl; no_digit = refl }
-begins (Serve from) = record { letter = 115; later = decimal from.number; is = refl; no_digit = refl }
+-- Behind the number of a core stands a letter.
+letter-ends : (digits : List ℕ) (choice : Choice) → list_all is_ascii_digit digits ≡ true → digits_in (digits ++ choice_word choice) ≡ length digits
+letter-ends digits Own all = digits-end digits 111 [] all refl
+letter-ends digits Look all = digits-end digits 108 [] all refl
+letter-ends digits (Serve from) all = digits-end digits 115 (decimal from.number) all refl
 
 -- So a word is not empty.
 word-some : (turn : Turn) → not (length (turn_word turn) == 0) ≡ true
-word-some turn =
-    let joined = length-append (decimal turn.0.number) (choice_word turn.1) in
-    let some : 0 < length (turn_word turn) = omega (arith, joined, ap length (begins turn.1).is) in
-    not_from_false _ (ne_eqb (length (turn_word turn)) 0 (λ none. omega (arith, some, none)))
+word-some turn = grind (arith, nat_tests, length-append (decimal turn.0.number) (choice_word turn.1))
 
 -- What holds of the bytes of words, and of the space, holds of those of the words with spaces between them.
 module _ (p : ℕ → Bool) (space : p 32 ≡ true) where
   led-all : (words : List (List ℕ)) → list_all (list_all p) words ≡ true → list_all p (led words) ≡ true
-  led-all [] all = refl
-  led-all (word ∷ words) all =
-      let parts = and_parts (list_all p word) (list_all (list_all p) words) all in
-      list_all-append p (32 ∷ word) (led words) ∙ and_from _ _ (and_from _ _ space parts.0) (led-all words parts.1)
+  led-all words all = all-flat p (λ word. codes " " ++ word) words (all-weaker (list_all p) (λ word. list_all p (codes " " ++ word)) (λ word h. and_from _ _ space h) words all)
 
   spaced-all : (words : List (List ℕ)) → list_all (list_all p) words ≡ true → list_all p (spaced words) ≡ true
   spaced-all [] all = refl
   spaced-all (word ∷ words) all =
       let parts = and_parts (list_all p word) (list_all (list_all p) words) all in
-      list_all-append p word (led words) ∙ and_from _ _ parts.0 (led-all words parts.1)
+      all-append p word (led words) parts.0 (led-all words parts.1)
 
 -- Turns that are read, and few enough, are what is meant.
 meant : (turns : List Turn) (o : Option (List Turn)) (few : Bool) → o ≡ Some turns → few ≡ true
     → option_and_then (if_faultless (failing ((Limit, few) ∷ (BadSchedule, is_some o) ∷ []))) o ≡ Some turns
 meant turns o few is within = rw (is, within) refl
 
+there : (o : Option Core) → is_some o ≡ true → (core : Core) × (o ≡ Some core)
+there o some = grind arith
+
 module _ (plan : Plan) (limits : IsTrue (is_within_limits plan)) where
   digits-all : (id : CoreId) → is_some (core_of plan id) ≡ true → list_all is_ascii_digit (decimal id.number) ≡ true
   digits-all id there = let low = configured-low plan id limits there in digits_decimal own id.number (omega (arith, low))
-
-  choice-parts : (core from : CoreId) → is_choice_of plan core (Serve from) ≡ true → (is_some (core_of plan from) ≡ true) × (not (same_core from core) ≡ true)
-  choice-parts core from h = and_parts (is_some (core_of plan from)) (not (same_core from core)) h
-
-  turn-parts : (turn : Turn) → is_turn_of plan turn ≡ true → (is_some (core_of plan turn.0) ≡ true) × (is_choice_of plan turn.0 turn.1 ≡ true)
-  turn-parts turn h = and_parts (is_some (core_of plan turn.0)) (is_choice_of plan turn.0 turn.1) h
 
   -- What holds of each digit and of the letters of choices holds of each byte of a word.
   module _ (p : ℕ → Bool) (digit : (b : ℕ) → is_ascii_digit b ≡ true → p b ≡ true) (o : p 111 ≡ true) (l : p 108 ≡ true) (s : p 115 ≡ true) where
@@ -79,13 +64,12 @@ module _ (plan : Plan) (limits : IsTrue (is_within_limits plan)) where
     choice-all : (core : CoreId) (choice : Choice) → is_choice_of plan core choice ≡ true → list_all p (choice_word choice) ≡ true
     choice-all core Own h = and_from _ _ o refl
     choice-all core Look h = and_from _ _ l refl
-    choice-all core (Serve from) h = and_from _ _ s (number-all from (choice-parts core from h).0)
+    choice-all core (Serve from) h = and_from _ _ s (number-all from (and_parts _ _ h).0)
 
     turn-all : (turn : Turn) → is_turn_of plan turn ≡ true → list_all p (turn_word turn) ≡ true
     turn-all turn h =
-        let parts = turn-parts turn h in
-        list_all-append p (decimal turn.0.number) (choice_word turn.1)
-        ∙ and_from _ _ (number-all turn.0 parts.0) (choice-all turn.0 turn.1 parts.1)
+        let parts = and_parts _ _ h in
+        all-append p (decimal turn.0.number) (choice_word turn.1) (number-all turn.0 parts.0) (choice-all turn.0 turn.1 parts.1)
 
     turns-all : (turns : List Turn) → are_turns_of plan turns ≡ true → list_all (list_all p) (map turn_word turns) ≡ true
     turns-all turns h =
@@ -94,53 +78,29 @@ module _ (plan : Plan) (limits : IsTrue (is_within_limits plan)) where
   -- ---- a word and its turn
 
   -- A configured core is found by its number.
-  record Named (id : CoreId) : Type 0 where
-    core : Core
-    named : core_named plan (decimal id.number) ≡ Some core
-    is_it : core.id ≡ id
+  core-named : (id : CoreId) → is_some (core_of plan id) ≡ true → core_named plan (decimal id.number) ≡ core_of plan id
+  core-named id there = let low = configured-low plan id limits there in rw (number-back id.number (omega (arith, low))) refl
 
-  core-back : (id : CoreId) → is_some (core_of plan id) ≡ true → Named id
-  core-back id there = by (core_of plan id) refl there
-    where
-      by : (found : Option Core) → core_of plan id ≡ found → is_some found ≡ true → Named id
-      by None is some = cc
-      by (Some core) is some =
-          let low = configured-low plan id limits there in
-          let number = number-back id.number (omega (arith, low)) in
-          record {
-            core = core;
-            named = ap (option_and_then (λ (number : ℕ). core_of plan (record { number = number }))) number ∙ is;
-            is_it = same_core-true core.id id (find-holds (λ (c : Core). same_core c.id id) plan.cores core is);
-          }
+  found-id : (id : CoreId) (core : Core) → core_of plan id ≡ Some core → core.id ≡ id
+  found-id id core is = same_core-true core.id id (find-holds (λ (c : Core). same_core c.id id) plan.cores core is)
+
+  serve-back : (core from : CoreId) → is_some (core_of plan from) ≡ true → not (same_core from core) ≡ true → served plan core (decimal from.number) ≡ Some (Serve from)
+  serve-back core from there other = rw (core-named from there) (grind (arith, found-id from))
 
   choice-back : (core : CoreId) (choice : Choice) → is_choice_of plan core choice ≡ true → choice_of plan core (choice_word choice) ≡ Some choice
   unfolding choice_of
   choice-back core Own h = refl
   choice-back core Look h = refl
-  choice-back core (Serve from) h =
-      let parts = choice-parts core from h in
-      let back = core-back from parts.0 in
-      let other : (back.core.id.number == core.number) ≡ false
-      = ap (λ (id : CoreId). same_core id core) back.is_it ∙ not-true (same_core from core) parts.1 in
-      rw (back.named, other) (ap (λ (id : CoreId). Some (Serve id)) back.is_it)
-
-  word-read : (core : Core) (digits word : List ℕ) (choice : Choice) → digits_in (digits ++ word) ≡ length digits → core_named plan digits ≡ Some core
-      → choice_of plan core.id word ≡ Some choice → turn_of plan (digits ++ word) ≡ Some (core.id, choice)
-  unfolding turn_of
-  word-read core digits word choice ends named chosen =
-      rw (ends, take-append_seam digits word, drop-append_seam digits word, named, chosen) refl
+  choice-back core (Serve from) h = let parts = and_parts (is_some (core_of plan from)) (not (same_core from core)) h in serve-back core from parts.0 parts.1
 
   turn-back : (turn : Turn) → is_turn_of plan turn ≡ true → turn_of plan (turn_word turn) ≡ Some turn
+  unfolding turn_of
   turn-back turn h =
-      let parts = turn-parts turn h in
-      let back = core-back turn.0 parts.0 in
+      let parts = and_parts (is_some (core_of plan turn.0)) (is_choice_of plan turn.0 turn.1) h in
+      let core : (core : Core) × (core_of plan turn.0 ≡ Some core) = there (core_of plan turn.0) parts.0 in
       let digits = decimal turn.0.number in
       let word = choice_word turn.1 in
-      let front = begins turn.1 in
-      let ends = digits-end digits front.letter front.later (digits-all turn.0 parts.0) front.no_digit in
-      let chosen = ap (λ (id : CoreId). choice_of plan id word) back.is_it ∙ choice-back turn.0 turn.1 parts.1 in
-      word-read back.core digits word turn.1 (ap (λ (w : List ℕ). digits_in (digits ++ w)) front.is ∙ ends) back.named chosen
-      ∙ ap (λ (id : CoreId). Some (id, turn.1)) back.is_it
+      rw (letter-ends digits turn.1 (digits-all turn.0 parts.0), take-append_seam digits word, drop-append_seam digits word, core-named turn.0 parts.0, core.1, found-id turn.0 core.0 core.1, choice-back turn.0 turn.1 parts.1) refl
 
   -- ---- the whole
 

@@ -1,12 +1,12 @@
 -- What a turn names by what a run holds is what the world's definition names.
-use Rattle.std.proofs.Common.{◌≡◌, ℕ, ◌+◌, ◌-◌, ◌<◌, ◌≤◌, Bool, true, false, ◌&&◌, cond, Option, Some, None, option_map, List, [], ◌∷◌, length, drop, refl, sym, ap, ◌∙◌, arith, nat_lt, length-drop}
-use Rattle.std.specs.{Option.option_map_or, List.slice_get}
-use Rattle.std.proofs.{lemmas.Bool.ltb-true, lemmas.Bool.eqb-true, lemmas.Bool.Decides.nat_tests}
-use Rattle.osbase.specs.{declared.references.CoreId.CoreId, declared.messages.Letter.Letter, declared.items.Item.Item, declared.items.Stimulus.Stimulus, declared.turns.Choice.Choice, declared.turns.CoreStimuli.CoreStimuli, declared.limits.TheConstants.CORES, History.History, History.posted, History.received_count, Runs.stimuli_of}
-use Rattle.osmail.specs.Mail.{box_of, has_room as room_in, oldest_of}
+use Rattle.std.proofs.Common.{◌≡◌, ◌<◌, false, ◌&&◌, cond, Option, Some, None, option_map, List, [], ◌∷◌, drop, refl, sym, ap, ◌∙◌, arith, nat_lt, length-drop}
+use Rattle.std.specs.{List.slice_get}
+use Rattle.std.proofs.{lemmas.Bool.Decides.nat_tests}
+use Rattle.osbase.specs.{declared.references.CoreId.CoreId, declared.items.Item.Item, declared.items.Stimulus.Stimulus, declared.turns.Choice.Choice, declared.turns.CoreStimuli.CoreStimuli, declared.limits.TheConstants.CORES, History.History, History.posted, History.received_count, Runs.stimuli_of}
+use Rattle.osmail.specs.Mail.{has_room as room_in, oldest_of}
 use Rattle.osplan.specs.{declared.plans.Plan.Plan, View.View, View.view_of}
 use Rattle.osstate.specs.State.{KernelState, state_of}
-use Rattle.oskernel.specs.{Step.history_from, declared.wants.Watch.Watch, Wants.want_in, Wants.watch_in, Wants.watch_of}
+use Rattle.oskernel.specs.{declared.wants.Watch.Watch, Wants.want_in, Wants.watch_in, Wants.watch_of}
 use Rattle.osboard.specs.{declared.calls.BoardState.BoardState, Boards.board_reply}
 use Rattle.osrun.specs.{declared.core_runs.CoreRun.CoreRun, declared.requests.Request.Request, declared.requests.Reply.Reply, CoreRuns.stimulus_count}
 use Rattle.osspin.specs.Spins.{spin_reply}
@@ -15,50 +15,22 @@ use Rattle.osrun.specs.declared.requests.Request.TheVariants.{OfBoard, OfSpins, 
 use Rattle.osrun.specs.declared.requests.Reply.TheVariants.{Replied, Spun, HasRoom, Found}
 use Rattle.osrun.specs.Requests.{request_of_turn, request_by, next_item, item_by, spin_call_of}
 use Rattle.osworld.specs.World.{World, reply_in, board_in, has_room, history_in, holders_in, items_in, next_in, next_stimulus}
-use Rattle.osworld.proofs.{Listed.is_seat_of, Listed.list_of, Waiting.front-drop}
+use Rattle.osworld.proofs.{Listed.list_of, Waiting.front-drop}
 
 -- no seat is of a core that is numbered 16 or above
 pub list_of-beyond : (id : CoreId) (core_runs : List CoreRun) → nat_lt id.number CORES ≡ false → list_of id (lists_of core_runs) ≡ None
 list_of-beyond id [] e = refl
-list_of-beyond id (s ∷ ss) e = by (is_seat_of id s) refl (list_of-beyond id ss e)
-  where
-    by : (b : Bool) → is_seat_of id s ≡ b → list_of id (lists_of ss) ≡ None → cond b (Some (s.id, s.items.items)) (list_of id (lists_of ss)) ≡ None
-    by true t rest =
-        let same : s.id.number ≡ id.number = eqb-true s.id.number id.number t in
-        let below : s.id.number < CORES = s.known in
-        grind (arith, nat_tests, e)
-    by false t rest = rest
-
-room-agrees : (r n cap : ℕ) → r ≤ n → nat_lt n (r + cap) ≡ nat_lt (n - r) cap
-room-agrees r n cap le = grind (arith, nat_tests)
+list_of-beyond id (s ∷ ss) e = let below : s.id.number < CORES = s.known in grind (arith, nat_tests, below, list_of-beyond id ss e)
 
 module _ (plan : Plan) (w : World) (core : CoreId) (known : core.number < CORES) (shared : Shared) (m : IsMail plan w shared.mail) (shown : shared.board ≡ board_in plan w) (held : shared.spins ≡ holders_in w) (core_runs : List CoreRun) (lists : w.items ≡ lists_of core_runs) where
   room-same : (to : CoreId) → has_room plan w core to ≡ (nat_lt to.number CORES && room_in shared.mail core to)
-  room-same to = by (nat_lt to.number CORES) refl
-    where
-      sends : List Letter
-      sends = posted to (history_in plan w core)
-
-      taken : ℕ
-      taken = received_count core (history_in plan w to)
-
-      by : (b : Bool) → nat_lt to.number CORES ≡ b → (b && nat_lt (length sends) (taken + plan.cap)) ≡ (b && nat_lt (length (box_of shared.mail core to)) shared.mail.cap)
-      by true e =
-          room-agrees taken (length sends) plan.cap (m.order core to)
-          ∙ ap (λ (n : ℕ). nat_lt n plan.cap) (sym (ap (λ (xs : List Letter). length xs) (m.boxes core to known (ltb-true to.number CORES e)) ∙ length-drop taken sends))
-          ∙ ap (λ (n : ℕ). nat_lt (length (box_of shared.mail core to)) n) (sym m.cap)
-      by false e = refl
+  room-same to =
+      grind (arith, nat_tests, m.order core to, m.cap, m.boxes core to known, length-drop (received_count core (history_in plan w to)) (posted to (history_in plan w core)))
 
   oldest-same : (from : CoreId) → slice_get (posted core (history_in plan w from)) (received_count from (history_in plan w core)) ≡ cond (nat_lt from.number CORES) (oldest_of shared.mail from core) None
-  oldest-same from = by (nat_lt from.number CORES) refl
-    where
-      by : (b : Bool) → nat_lt from.number CORES ≡ b → slice_get (posted core (history_in plan w from)) (received_count from (history_in plan w core)) ≡ cond b (oldest_of shared.mail from core) None
-      by true e =
-          sym (front-drop (received_count from (history_in plan w core)) (posted core (history_in plan w from)))
-          ∙ ap (λ (xs : List Letter). slice_get xs 0) (sym (m.boxes from core (ltb-true from.number CORES e) known))
-      by false e =
-          ap (λ (o : Option (CoreId × List Item)). slice_get (posted core (history_from (view_of plan from) [] (option_map_or (λ (p : CoreId × List Item). p.1) o []))) (received_count from (history_in plan w core)))
-          (ap (list_of from) lists ∙ list_of-beyond from core_runs e)
+  oldest-same from =
+      let front = front-drop (received_count from (history_in plan w core)) (posted core (history_in plan w from)) in
+      grind (arith, nat_tests, front, lists, m.boxes from core, list_of-beyond from core_runs)
 
   answer-agrees : (request : Request) → reply_in plan w core request ≡ reply_by shared core request
   answer-agrees (OfBoard call) = ap (λ (b : BoardState). Replied (board_reply core call b)) (sym shown)

@@ -1,10 +1,9 @@
 -- The histories and the mailboxes after a turn that appends an item.
-use Rattle.std.proofs.Common.{◌≡◌, ℕ, suc, ◌<◌, ◌≤◌, Bool, true, false, ◌&&◌, cond, Option, Some, None, IsSome, List, [], ◌∷◌, ◌++◌, length, drop, refl, sym, ap, subst, ◌∙◌, arith, append-nil, length-append, length-set}
-use Rattle.std.specs.List.{slice_get}
-use Rattle.std.proofs.{lemmas.List.drop-append-le, lemmas.Option.slice_get_within, Math.Bool.and-true}
+use Rattle.std.proofs.Common.{◌≡◌, ℕ, suc, ◌<◌, ◌≤◌, Bool, false, ◌&&◌, cond, Option, Some, List, [], ◌∷◌, ◌++◌, length, refl, sym, ap, subst, ◌∙◌, arith, append-nil, length-append, length-drop, length-set}
+use Rattle.std.proofs.{lemmas.List.drop-append-le, lemmas.Option.slice_get_past}
 use Rattle.osbase.specs.{declared.references.CoreId.CoreId, declared.messages.Letter.Letter, declared.messages.Message.Message, declared.items.Item.Item, declared.limits.TheConstants.CORES, declared.histories.Sent.Sent}
 use Rattle.osbase.specs.History.{front_letter, outbox, posted, received_count, same_core}
-use Rattle.osmail.specs.Mail.{Mail, after_take, box_of, oldest_of, with_box}
+use Rattle.osmail.specs.Mail.{Mail, after_take, box_of, with_box}
 use Rattle.osplan.specs.{declared.plans.Plan.Plan, View.view_of}
 use Rattle.osbase.proofs.Same.{same_core-true}
 use Rattle.oskernel.specs.{Step.after, Step.history_from, Wants.front_of}
@@ -13,11 +12,11 @@ use Rattle.osworld.specs.{World.World, World.appends, World.history_in, Answerin
 use Rattle.osworld.proofs.Listed.{items_by, list_of, list_of-same, list_of-other}
 use Rattle.osrun.proofs.Longer.{history_from-push}
 use Rattle.osrun.proofs.Streams.{is_post_to, is_from, posted-after, received-after}
-use Rattle.osworld.proofs.Waiting.{box-changed, front-drop, waiting-shorter}
+use Rattle.osworld.proofs.Waiting.{box-changed, box-taken}
 
-pub and_false : {A : Type 0} (b : Bool) (x y : A) → cond (b && false) x y ≡ y
-and_false true x y = refl
-and_false false x y = refl
+-- What an item of this core may add for it is added for no other one.
+pub added-in : {A : Type 0} (now more less : CoreId → A) (b : Bool) (core c : CoreId) → now core ≡ cond b (more core) (less core) → (same_core core c ≡ false → now c ≡ less c) → now c ≡ cond (b && same_core core c) (more c) (less c)
+added-in now more less b core c here there = grind (arith, same_core-true core c)
 
 module _ (plan : Plan) (w : World) (core : CoreId) (request : Request) (item : Item) (p : CoreId × List Item) (listed : list_of core w.items ≡ Some p) where
   abbrev pub next : World
@@ -42,38 +41,23 @@ module _ (plan : Plan) (w : World) (core : CoreId) (request : Request) (item : I
   front = front_letter (outbox (history_in plan w core))
 
   pub posted-in : (from to : CoreId) → posted to (history_in plan next from) ≡ cond (same_core core from && is_post_to item to) (sends from to ++ front) (sends from to)
-  posted-in from to = by (same_core core from) refl
-    where
-      by : (b : Bool) → same_core core from ≡ b → posted to (history_in plan next from) ≡ cond (b && is_post_to item to) (sends from to ++ front) (sends from to)
-      by true e =
-          subst (λ (c : CoreId). posted to (history_in plan next c) ≡ cond (is_post_to item to) (sends c to ++ front) (sends c to)) (same_core-true core from e)
-          (ap (posted to) history-same ∙ posted-after (view_of plan core) to item (history_in plan w core))
-      by false e = ap (posted to) (history-other from e)
+  posted-in from to = grind (arith, same_core-true core from, history-same, history-other from, posted-after (view_of plan core) to item (history_in plan w core))
 
   pub received-in : (from to : CoreId) → received_count from (history_in plan next to) ≡ cond (is_from item from && same_core core to) (suc (takes_in from to)) (takes_in from to)
-  received-in from to = by (same_core core to) refl
-    where
-      by : (b : Bool) → same_core core to ≡ b → received_count from (history_in plan next to) ≡ cond (is_from item from && b) (suc (takes_in from to)) (takes_in from to)
-      by true e =
-          subst (λ (c : CoreId). received_count from (history_in plan next c) ≡ cond (is_from item from && true) (suc (takes_in from c)) (takes_in from c)) (same_core-true core to e)
-          (ap (received_count from) history-same ∙ received-after (view_of plan core) from item (history_in plan w core)
-          ∙ ap (λ (b : Bool). cond b (suc (takes_in from core)) (takes_in from core)) (sym (and-true (is_from item from))))
-      by false e = ap (received_count from) (history-other to e) ∙ sym (and_false (is_from item from) (suc (takes_in from to)) (takes_in from to))
+  received-in from to = grind (arith, same_core-true core to, history-same, history-other to, received-after (view_of plan core) from item (history_in plan w core))
 
   -- nothing is on its way that was not, and nothing was received
   pub unmoved : (mail : Mail) → IsMail plan w mail → ((from to : CoreId) → posted to (history_in plan next from) ≡ sends from to) → ((from to : CoreId) → received_count from (history_in plan next to) ≡ takes_in from to) → IsMail plan next mail
   unmoved mail m same_posted same_received = record {
     cap = m.cap;
     places = m.places;
-    boxes = λ from to a b. m.boxes from to a b ∙ ap (λ (n : ℕ). drop n (sends from to)) (sym (same_received from to)) ∙ ap (drop (received_count from (history_in plan next to))) (sym (same_posted from to));
-    order = λ from to. subst (λ (n : ℕ). n ≤ length (posted to (history_in plan next from))) (sym (same_received from to)) (subst (λ (xs : List Letter). takes_in from to ≤ length xs) (sym (same_posted from to)) (m.order from to));
+    boxes = λ from to a b. cc (m.boxes from to a b, same_received from to, same_posted from to);
+    order = λ from to. rw (same_received from to, same_posted from to) (m.order from to);
   }
 
   pub aside : (mail : Mail) → IsMail plan w mail → ((d : CoreId) → is_post_to item d ≡ false) → ((s : CoreId) → is_from item s ≡ false) → IsMail plan next mail
   aside mail m no_post no_receipt =
-      unmoved mail m
-      (λ from to. posted-in from to ∙ ap (λ (b : Bool). cond (same_core core from && b) (sends from to ++ front) (sends from to)) (no_post to) ∙ and_false (same_core core from) (sends from to ++ front) (sends from to))
-      (λ from to. received-in from to ∙ ap (λ (b : Bool). cond (b && same_core core to) (suc (takes_in from to)) (takes_in from to)) (no_receipt from))
+      unmoved mail m (λ from to. grind (arith, posted-in from to, no_post to)) (λ from to. grind (arith, received-in from to, no_receipt from))
 
 -- a post: the outbox's front joins its stream, and its mailbox
 module _ (plan : Plan) (w : World) (core to : CoreId) (request : Request) (p : CoreId × List Item) (listed : list_of core w.items ≡ Some p) (mail : Mail) (m : IsMail plan w mail) (known : core.number < CORES) (placed : IsPlaced mail core (Item.Posted to)) where
@@ -85,35 +69,19 @@ module _ (plan : Plan) (w : World) (core to : CoreId) (request : Request) (p : C
 
   module _ (e : Letter) (ahead : front_letter (outbox (history_in plan w core)) ≡ e ∷ []) where
     sent : (c d : CoreId) → posted d (history_in plan posts c) ≡ cond (same_core core c && same_core to d) (posted d (history_in plan w c) ++ e ∷ []) (posted d (history_in plan w c))
-    sent c d = posted-in plan w core request (Item.Posted to) p listed c d ∙ ap (λ (xs : List Letter). cond (same_core core c && same_core to d) (posted d (history_in plan w c) ++ xs) (posted d (history_in plan w c))) ahead
+    sent c d = cc (posted-in plan w core request (Item.Posted to) p listed c d)
 
     got : (c d : CoreId) → received_count c (history_in plan posts d) ≡ received_count c (history_in plan w d)
     got c d = received-in plan w core request (Item.Posted to) p listed c d
 
     box : (c d : CoreId) → c.number < CORES → d.number < CORES → box_of (with_front e) c d ≡ waiting plan posts c d
     box c d c-known d-known =
-        box-changed mail core to (box_of mail core to ++ e ∷ []) c d known placed.0 d-known m.places
-        ∙ by (same_core core c) (same_core to d) refl refl
-        ∙ ap (λ (n : ℕ). drop n (cond (same_core core c && same_core to d) (posted d (history_in plan w c) ++ e ∷ []) (posted d (history_in plan w c)))) (sym (got c d))
-        ∙ ap (drop (received_count c (history_in plan posts d))) (sym (sent c d))
-      where
-        by : (a b : Bool) → same_core core c ≡ a → same_core to d ≡ b → cond (a && b) (box_of mail core to ++ e ∷ []) (box_of mail c d) ≡ drop (received_count c (history_in plan w d)) (cond (a && b) (posted d (history_in plan w c) ++ e ∷ []) (posted d (history_in plan w c)))
-        by true true same_c same_d =
-            subst (λ (x : CoreId). box_of mail core to ++ e ∷ [] ≡ drop (received_count x (history_in plan w d)) (posted d (history_in plan w x) ++ e ∷ [])) (same_core-true core c same_c)
-            (subst (λ (y : CoreId). box_of mail core to ++ e ∷ [] ≡ drop (received_count core (history_in plan w y)) (posted y (history_in plan w core) ++ e ∷ [])) (same_core-true to d same_d)
-            (ap (λ (xs : List Letter). xs ++ e ∷ []) (m.boxes core to known placed.0)
-            ∙ sym (drop-append-le (received_count core (history_in plan w to)) (posted to (history_in plan w core)) (e ∷ []) (m.order core to))))
-        by true false same_c same_d = m.boxes c d c-known d-known
-        by false b same_c same_d = m.boxes c d c-known d-known
+        let changed = box-changed mail core to (box_of mail core to ++ e ∷ []) c d known placed.0 d-known m.places in
+        let longer = drop-append-le (received_count core (history_in plan w to)) (posted to (history_in plan w core)) (e ∷ []) (m.order core to) in
+        grind (arith, changed, longer, sent c d, got c d, m.boxes c d c-known d-known, m.boxes core to known placed.0, same_core-true core c, same_core-true to d)
 
     order : (c d : CoreId) → received_count c (history_in plan posts d) ≤ length (posted d (history_in plan posts c))
-    order c d =
-        subst (λ (n : ℕ). n ≤ length (posted d (history_in plan posts c))) (sym (got c d))
-        (subst (λ (xs : List Letter). received_count c (history_in plan w d) ≤ length xs) (sym (sent c d)) (by (same_core core c && same_core to d)))
-      where
-        by : (b : Bool) → received_count c (history_in plan w d) ≤ length (cond b (posted d (history_in plan w c) ++ e ∷ []) (posted d (history_in plan w c)))
-        by true = let some = m.order c d in let longer = length-append (posted d (history_in plan w c)) (e ∷ []) in omega arith
-        by false = m.order c d
+    order c d = grind (arith, sent c d, got c d, m.order c d, length-append (posted d (history_in plan w c)) (e ∷ []))
 
     sends_on : IsMail plan posts (with_front e)
     sends_on = record { cap = m.cap; places = length-set mail.boxes _ _ ∙ m.places; boxes = box; order = order }
@@ -124,14 +92,8 @@ module _ (plan : Plan) (w : World) (core to : CoreId) (request : Request) (p : C
       by : (out : List Sent) → outbox (history_in plan w core) ≡ out → IsMail plan posts (mail_after core (front_of out) (Item.Posted to) mail)
       by [] e =
           unmoved plan w core request (Item.Posted to) p listed mail m
-          (λ c d. posted-in plan w core request (Item.Posted to) p listed c d
-          ∙ ap (λ (sends : List Sent). cond (same_core core c && same_core to d) (posted d (history_in plan w c) ++ front_letter sends) (posted d (history_in plan w c))) e
-          ∙ none (same_core core c && same_core to d) (posted d (history_in plan w c)))
+          (λ c d. grind (arith, e, posted-in plan w core request (Item.Posted to) p listed c d, append-nil (posted d (history_in plan w c))))
           (λ c d. received-in plan w core request (Item.Posted to) p listed c d)
-        where
-          none : (b : Bool) (xs : List Letter) → cond b (xs ++ []) xs ≡ xs
-          none true xs = append-nil xs
-          none false xs = refl
       by (s ∷ ss) e = subst (λ (b : Bool). IsMail plan posts (cond b (with_front s.letter) mail)) (sym placed.1) (sends_on s.letter (ap front_letter e))
 
 -- a receipt: the oldest envelope leaves its mailbox
@@ -141,49 +103,21 @@ module _ (plan : Plan) (w : World) (core from : CoreId) (request : Request) (num
 
   -- what stands in front is the next one
   some : suc (received_count from (history_in plan w core)) ≤ length (posted core (history_in plan w from))
-  some = by (oldest_of mail from core) refl placed.1
-    where
-      by : (o : Option Letter) → oldest_of mail from core ≡ o → IsSome o → suc (received_count from (history_in plan w core)) ≤ length (posted core (history_in plan w from))
-      by None e x = cc
-      by (Some letter) e x =
-          let inside = slice_get_within (posted core (history_in plan w from)) (received_count from (history_in plan w core)) letter
-          (sym (front-drop (received_count from (history_in plan w core)) (posted core (history_in plan w from)))
-          ∙ ap (λ (xs : List Letter). slice_get xs 0) (sym (m.boxes from core placed.0 known)) ∙ e) in
-          omega arith
+  some = grind (arith, placed.1, m.boxes from core placed.0 known, slice_get_past (box_of mail from core) 0, length-drop (received_count from (history_in plan w core)) (posted core (history_in plan w from)))
 
   sent_as_before : (c d : CoreId) → posted d (history_in plan receives c) ≡ posted d (history_in plan w c)
-  sent_as_before c d = posted-in plan w core request (Item.Received from number message) p listed c d ∙ and_false (same_core core c) _ _
+  sent_as_before c d = grind (arith, posted-in plan w core request (Item.Received from number message) p listed c d)
 
   one_more_got : (c d : CoreId) → received_count c (history_in plan receives d) ≡ cond (same_core from c && same_core core d) (suc (received_count c (history_in plan w d))) (received_count c (history_in plan w d))
   one_more_got c d = received-in plan w core request (Item.Received from number message) p listed c d
 
   box_after : (c d : CoreId) → c.number < CORES → d.number < CORES → box_of (after_take mail from core) c d ≡ waiting plan receives c d
   box_after c d c-known d-known =
-      box-changed mail from core (drop 1 (box_of mail from core)) c d placed.0 known d-known m.places
-      ∙ by (same_core from c) (same_core core d) refl refl
-      ∙ ap (λ (n : ℕ). drop n (posted d (history_in plan w c))) (sym (one_more_got c d))
-      ∙ ap (drop (received_count c (history_in plan receives d))) (sym (sent_as_before c d))
-    where
-      by : (a b : Bool) → same_core from c ≡ a → same_core core d ≡ b → cond (a && b) (drop 1 (box_of mail from core)) (box_of mail c d) ≡ drop (cond (a && b) (suc (received_count c (history_in plan w d))) (received_count c (history_in plan w d))) (posted d (history_in plan w c))
-      by true true same_c same_d =
-          subst (λ (x : CoreId). drop 1 (box_of mail from core) ≡ drop (suc (received_count x (history_in plan w d))) (posted d (history_in plan w x))) (same_core-true from c same_c)
-          (subst (λ (y : CoreId). drop 1 (box_of mail from core) ≡ drop (suc (received_count from (history_in plan w y))) (posted y (history_in plan w from))) (same_core-true core d same_d)
-          (ap (drop 1) (m.boxes from core placed.0 known) ∙ sym (waiting-shorter (received_count from (history_in plan w core)) (posted core (history_in plan w from)))))
-      by true false same_c same_d = m.boxes c d c-known d-known
-      by false b same_c same_d = m.boxes c d c-known d-known
+      rw (one_more_got c d, sent_as_before c d)
+      (box-taken mail (λ x y. posted y (history_in plan w x)) (λ x y. received_count x (history_in plan w y)) from core c d placed.0 known d-known m.places (m.boxes from core placed.0 known) (m.boxes c d c-known d-known))
 
   order_after : (c d : CoreId) → received_count c (history_in plan receives d) ≤ length (posted d (history_in plan receives c))
-  order_after c d =
-      subst (λ (n : ℕ). n ≤ length (posted d (history_in plan receives c))) (sym (one_more_got c d))
-      (subst (λ (xs : List Letter). cond (same_core from c && same_core core d) (suc (received_count c (history_in plan w d))) (received_count c (history_in plan w d)) ≤ length xs) (sym (sent_as_before c d))
-      (by (same_core from c) (same_core core d) refl refl))
-    where
-      by : (a b : Bool) → same_core from c ≡ a → same_core core d ≡ b → cond (a && b) (suc (received_count c (history_in plan w d))) (received_count c (history_in plan w d)) ≤ length (posted d (history_in plan w c))
-      by true true same_c same_d =
-          subst (λ (x : CoreId). suc (received_count x (history_in plan w d)) ≤ length (posted d (history_in plan w x))) (same_core-true from c same_c)
-          (subst (λ (y : CoreId). suc (received_count from (history_in plan w y)) ≤ length (posted y (history_in plan w from))) (same_core-true core d same_d) some)
-      by true false same_c same_d = m.order c d
-      by false b same_c same_d = m.order c d
+  order_after c d = grind (arith, some, sent_as_before c d, one_more_got c d, m.order c d, same_core-true from c, same_core-true core d)
 
   pub receiving_on : IsMail plan receives (after_take mail from core)
   receiving_on = record { cap = m.cap; places = length-set mail.boxes _ _ ∙ m.places; boxes = box_after; order = order_after }

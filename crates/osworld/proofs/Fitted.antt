@@ -1,8 +1,9 @@
 -- Every world fits: what it was before a turn did, and so does what the turn appends.
 use mathlib.Core.List.{IsPrefix}
+use native.Mathlib.Omega.{arith}
 use Rattle.std.proofs.Common.{◌≡◌, Bool, true, false, ◌&&◌, cond, Option, Some, List, [], ◌∷◌, ◌++◌, refl, sym, ap, subst, ◌∙◌, append-nil}
 use Rattle.std.specs.List.{slice_get}
-use Rattle.std.proofs.{lemmas.Bool.false≢true, Math.Bool.and-true}
+use Rattle.std.proofs.lemmas.Bool.{false≢true}
 use Rattle.osbase.specs.{declared.references.CoreId.CoreId, declared.messages.Letter.Letter, declared.items.Item.Item, declared.turns.Choice.Choice, declared.turns.CoreStimuli.CoreStimuli, Runs.stimuli_of}
 use Rattle.osbase.specs.History.{History, course_of, front_letter, outbox, posted, received, received_count, same_core, letter_with}
 use Rattle.osplan.specs.{declared.plans.Plan.Plan, View.view_of}
@@ -19,7 +20,7 @@ use Rattle.osworld.specs.World.{World, reply_in, appends, board_in, first_world,
 use Rattle.osrun.proofs.{Beginnings.begins-longer, Beginnings.begins-next, Beginnings.begins-through, Longer.length-stimuli_in, Longer.IsInTurn, Longer.core-on, Asked.IsOwnRequest, Asked.asks-own}
 use Rattle.osworld.proofs.{Listed.items_by, Listed.list_of-same, Listed.list_of-other, Started.no_history, Started.nothing_of, Turns.Appends, Turns.turns-keep, Fitting.IsNext, Fitting.follows}
 use Rattle.osrun.proofs.Streams.{is_from, is_post_to, received_letter, length-received, received-is}
-use Rattle.osworld.proofs.Carrying.{and_false, history-same, history-other, posted-in}
+use Rattle.osworld.proofs.Carrying.{added-in, history-same, history-other, posted-in}
 use Rattle.osrun.proofs.Answered.{answered-push, calls_of-joined, joined-none, told-other, told-own}
 
 -- the world's lists fit by its own calls of the board
@@ -39,6 +40,14 @@ in-turn plan stimuli w core (Item.Stim s) next = ap (slice_get (stimuli_of stimu
 in-turn plan stimuli w core Item.Drained next = λ going. ap (slice_get (stimuli_of stimuli core)) (length-stimuli_in (items_in w core)) ∙ next going
 in-turn plan stimuli w core item next = tt
 
+-- what holds of this core, and of every other one
+here-or-there : (P : CoreId → Type 0) (core id : CoreId) → P core → (same_core core id ≡ false → P id) → P id
+here-or-there P core id here there = by (same_core core id) refl
+  where
+    by : (b : Bool) → same_core core id ≡ b → P id
+    by true e = subst P (same_core-true core id e) here
+    by false e = there e
+
 -- a world in which a turn appended an item
 module _ (plan : Plan) (stimuli : List CoreStimuli) (w : World) (fits : WorldFits plan stimuli w) (core : CoreId) (request : Request) (item : Item) (p : CoreId × List Item) (turn : Appends plan stimuli w core request item p) where
   abbrev next : World
@@ -55,29 +64,18 @@ module _ (plan : Plan) (stimuli : List CoreStimuli) (w : World) (fits : WorldFit
   items-other c other = ap items_by (list_of-other core c item w.items other)
 
   cores-on : (id : CoreId) → FitsCore plan stimuli id (items_in next id)
-  cores-on id = by (same_core core id) refl
-    where
-      by : (b : Bool) → same_core core id ≡ b → FitsCore plan stimuli id (items_in next id)
-      by true e =
-          subst (λ (c : CoreId). FitsCore plan stimuli c (items_in next c)) (same_core-true core id e)
-          (subst (FitsCore plan stimuli core) (sym items-same) (core-on plan stimuli core (items_in w core) (fits.cores core) item (in-turn plan stimuli w core item follows-on) turn.taken))
-      by false e = subst (FitsCore plan stimuli id) (sym (items-other id e)) (fits.cores id)
+  cores-on id = here-or-there (λ c. FitsCore plan stimuli c (items_in next c)) core id
+      (subst (FitsCore plan stimuli core) (sym items-same) (core-on plan stimuli core (items_in w core) (fits.cores core) item (in-turn plan stimuli w core item follows-on) turn.taken))
+      (λ e. subst (FitsCore plan stimuli id) (sym (items-other id e)) (fits.cores id))
 
   received-in : (from to : CoreId) → received from (history_in plan next to) ≡ cond (is_from item from && same_core core to) (received from (history_in plan w to) ++ received_letter item) (received from (history_in plan w to))
-  received-in from to = by (same_core core to) refl
-    where
-      by : (b : Bool) → same_core core to ≡ b → received from (history_in plan next to) ≡ cond (is_from item from && b) (received from (history_in plan w to) ++ received_letter item) (received from (history_in plan w to))
-      by true e =
-          subst (λ (c : CoreId). received from (history_in plan next c) ≡ cond (is_from item from && true) (received from (history_in plan w c) ++ received_letter item) (received from (history_in plan w c))) (same_core-true core to e)
-          (ap (received from) (history-same plan w core request item p turn.listed) ∙ received-is (view_of plan core) from item (history_in plan w core)
-          ∙ ap (λ (b : Bool). cond b (received from (history_in plan w core) ++ received_letter item) (received from (history_in plan w core))) (sym (and-true (is_from item from))))
-      by false e = ap (received from) (history-other plan w core request item p turn.listed to e) ∙ sym (and_false (is_from item from) _ _)
+  received-in from to =
+      added-in (λ c. received from (history_in plan next c)) (λ c. received from (history_in plan w c) ++ received_letter item) (λ c. received from (history_in plan w c)) (is_from item from) core to
+      (ap (received from) (history-same plan w core request item p turn.listed) ∙ received-is (view_of plan core) from item (history_in plan w core))
+      (λ e. ap (received from) (history-other plan w core request item p turn.listed to e))
 
   streams-on : (from to : CoreId) → IsPrefix (received from (history_in plan next to)) (posted to (history_in plan next from))
-  streams-on from to =
-      subst (λ (xs : List Letter). IsPrefix xs (posted to (history_in plan next from))) (sym (received-in from to))
-      (subst (λ (ys : List Letter). IsPrefix (cond (is_from item from && same_core core to) (received from (history_in plan w to) ++ received_letter item) (received from (history_in plan w to))) ys) (sym (posted-in plan w core request item p turn.listed from to))
-      (by (is_from item from) (same_core core to) refl refl))
+  streams-on from to = rw (received-in from to, posted-in plan w core request item p turn.listed from to) (by (is_from item from) (same_core core to) refl refl)
     where
       front : List Letter
       front = front_letter (outbox (history_in plan w core))
@@ -86,18 +84,17 @@ module _ (plan : Plan) (stimuli : List CoreStimuli) (w : World) (fits : WorldFit
       longer true = begins-through _ _ _ (fits.streams from to) (begins-longer (posted to (history_in plan w from)) front)
       longer false = fits.streams from to
 
-      got : (c : CoreId) → same_core core c ≡ true → is_from item from ≡ true → IsPrefix (received from (history_in plan w c) ++ received_letter item) (cond (same_core core from && is_post_to item c) (posted c (history_in plan w from) ++ front) (posted c (history_in plan w from)))
-      got c here is =
-          subst (λ (c : CoreId). IsPrefix (received from (history_in plan w c) ++ received_letter item) (cond (same_core core from && is_post_to item c) (posted c (history_in plan w from) ++ front) (posted c (history_in plan w from)))) (same_core-true core c here)
-          (let e = next-letter plan stimuli w core from item is follows-on in
-          subst (λ (b : Bool). IsPrefix (received from (history_in plan w core) ++ received_letter item) (cond (same_core core from && b) (posted core (history_in plan w from) ++ front) (posted core (history_in plan w from)))) (sym (e.3 core))
-          (subst (λ (ys : List Letter). IsPrefix (received from (history_in plan w core) ++ received_letter item) ys) (sym (and_false (same_core core from) (posted core (history_in plan w from) ++ front) (posted core (history_in plan w from))))
-          (subst (λ (xs : List Letter). IsPrefix (received from (history_in plan w core) ++ xs) (posted core (history_in plan w from))) (sym e.1)
+      -- what is received was posted before
+      got : is_from item from ≡ true → IsPrefix (received from (history_in plan w core) ++ received_letter item) (cond (same_core core from && is_post_to item core) (posted core (history_in plan w from) ++ front) (posted core (history_in plan w from)))
+      got is =
+          let e = next-letter plan stimuli w core from item is follows-on in
+          let unposted : cond (same_core core from && is_post_to item core) (posted core (history_in plan w from) ++ front) (posted core (history_in plan w from)) ≡ posted core (history_in plan w from) = grind (arith, e.3 core) in
+          rw (unposted, e.1)
           (begins-next (received from (history_in plan w core)) (posted core (history_in plan w from)) e.0 (fits.streams from core)
-          (ap (slice_get (posted core (history_in plan w from))) (length-received from (history_in plan w core)) ∙ e.2)))))
+          (ap (slice_get (posted core (history_in plan w from))) (length-received from (history_in plan w core)) ∙ e.2))
 
       by : (a b : Bool) → is_from item from ≡ a → same_core core to ≡ b → IsPrefix (cond (a && b) (received from (history_in plan w to) ++ received_letter item) (received from (history_in plan w to))) (cond (same_core core from && is_post_to item to) (posted to (history_in plan w from) ++ front) (posted to (history_in plan w from)))
-      by true true is here = got to here is
+      by true true is here = rw (← same_core-true core to here) (got is)
       by true false is here = longer (same_core core from && is_post_to item to)
       by false b is here = longer (same_core core from && is_post_to item to)
 
@@ -113,17 +110,11 @@ module _ (plan : Plan) (stimuli : List CoreStimuli) (w : World) (fits : WorldFit
   spins-on request = subst (IsLegal spinlocks tt) (sym (append-nil w.calls.spins)) fits.spins
 
   answers-on : (id : CoreId) → AreAnswered (view_of plan id) [] (items_in next id) (calls_of id next.calls)
-  answers-on id = subst (λ (es : Calls). AreAnswered (view_of plan id) [] (items_in next id) es) (sym (calls_of-joined id w.calls calls)) (by (same_core core id) refl)
-    where
-      by : (b : Bool) → same_core core id ≡ b → AreAnswered (view_of plan id) [] (items_in next id) (joined (calls_of id w.calls) (calls_of id calls))
-      by true e =
-          subst (λ (c : CoreId). AreAnswered (view_of plan c) [] (items_in next c) (joined (calls_of c w.calls) (calls_of c calls))) (same_core-true core id e)
-          (subst (λ (xs : List Item). AreAnswered (view_of plan core) [] xs (joined (calls_of core w.calls) (calls_of core calls))) (sym items-same)
-          (subst (λ (es : Calls). AreAnswered (view_of plan core) [] (items_in w core ++ item ∷ []) (joined (calls_of core w.calls) es)) (sym (told-own core request (reply_in plan w core request)))
-          (answered-push (view_of plan core) [] (items_in w core) (calls_of core w.calls) request (reply_in plan w core request) item (fits.answers core) (record { choice = turn.choice; next = next_stimulus stimuli w core; asks = turn.asks; names = turn.names }))))
-      by false e =
-          subst (λ (xs : List Item). AreAnswered (view_of plan id) [] xs (joined (calls_of id w.calls) (calls_of id calls))) (sym (items-other id e))
-          (subst (λ (es : Calls). AreAnswered (view_of plan id) [] (items_in w id) es) (sym (ap (λ (es : Calls). joined (calls_of id w.calls) es) (told-other id core request (reply_in plan w core request) e) ∙ joined-none (calls_of id w.calls))) (fits.answers id))
+  answers-on id = rw (calls_of-joined id w.calls calls) (here-or-there (λ c. AreAnswered (view_of plan c) [] (items_in next c) (joined (calls_of c w.calls) (calls_of c calls))) core id
+      (subst (λ (es : Calls). AreAnswered (view_of plan core) [] (items_in next core) (joined (calls_of core w.calls) es)) (sym (told-own core request (reply_in plan w core request)))
+      (rw items-same (answered-push (view_of plan core) [] (items_in w core) (calls_of core w.calls) request (reply_in plan w core request) item (fits.answers core) (record { choice = turn.choice; next = next_stimulus stimuli w core; asks = turn.asks; names = turn.names }))))
+      (λ e. subst (λ (es : Calls). AreAnswered (view_of plan id) [] (items_in next id) es) (sym (ap (joined (calls_of id w.calls)) (told-other id core request (reply_in plan w core request) e) ∙ joined-none (calls_of id w.calls)))
+      (rw (items-other id e) (fits.answers id))))
 
   fits_on : WorldFits plan stimuli next
   fits_on = record { cores = cores-on; streams = streams-on; board = board-on request; spins = spins-on request; answers = answers-on }

@@ -1,5 +1,6 @@
 -- Every world fits: a turn's item fits the items of the cores and the calls of the board.
-use Rattle.std.proofs.Common.{◌≡◌, Bool, true, false, Option, Some, None, List, refl}
+use native.Mathlib.Omega.{arith}
+use Rattle.std.proofs.Common.{◌≡◌, true, Option, Some, None, List, refl}
 use Rattle.std.specs.List.{slice_get}
 use Rattle.osbase.specs.{declared.references.CoreId.CoreId, declared.messages.Letter.Letter, declared.items.Item.Item, declared.turns.CoreStimuli.CoreStimuli, Phases.is_going, Runs.stimuli_of}
 use Rattle.osbase.specs.History.{course_of, posted, received_count, letter_with}
@@ -8,9 +9,9 @@ use Rattle.osstate.specs.State.{state_of}
 use Rattle.oskernel.specs.declared.wants.Watch.{Watch}
 use Rattle.osboard.specs.declared.calls.BoardCall.TheVariants.{Drain, Look, LookDrained, LookHalt}
 use Rattle.osspin.specs.Spins.{spin_reply}
-use Rattle.osrun.specs.{declared.requests.Request.Request, declared.requests.Reply.TheVariants.HasRoom, declared.requests.Reply.TheVariants.Found, Requests.item_by, Requests.spin_call_of, CoreRuns.stimulus_count}
+use Rattle.osrun.specs.{declared.requests.Request.Request, declared.requests.Reply.TheVariants.Found, Requests.item_by, Requests.spin_call_of, CoreRuns.stimulus_count}
 use Rattle.osrun.specs.declared.requests.Request.TheVariants.{OfBoard, OfSpins, Room, Oldest, StartUnknown, TakeStimulus}
-use Rattle.osworld.specs.World.{World, reply_in, board_in, has_room, history_in, holders_in, items_in, next_stimulus}
+use Rattle.osworld.specs.World.{World, reply_in, board_in, history_in, holders_in, items_in, next_stimulus}
 use Rattle.osrun.proofs.Asked.{IsOwnRequest}
 use Rattle.osrun.proofs.Resulting.{drained-item, halt-item, is-item, look-item, spinlock-item}
 
@@ -32,11 +33,7 @@ module _ (plan : Plan) (stimuli : List CoreStimuli) (w : World) (id : CoreId) wh
   follows watch (OfBoard LookHalt) i own e = halt-item (IsNext plan stimuli w id) (λ asked. tt) (λ core status. tt) watch (board_in plan w).halt i e
   follows watch (OfBoard call) i own e = is _ i e tt
   follows watch (OfSpins wish) i own e = spinlock-item (IsNext plan stimuli w id) (λ l. tt) (λ l taken. tt) (λ l. tt) wish (spin_reply id (spin_call_of wish) (holders_in w)) i e
-  follows watch (Room to) i own e = by (has_room plan w id to) e
-    where
-      by : (b : Bool) → item_by id watch (Room to) (HasRoom b) ≡ Some i → IsNext plan stimuli w id i
-      by true e = is (Item.Posted to) i e tt
-      by false e = cc
+  follows watch (Room to) i own e = grind (arith, e)
   follows watch (Oldest from) i own e = by (slice_get (posted id (history_in plan w from)) (received_count from (history_in plan w id))) refl e
     where
       by : (o : Option Letter) → slice_get (posted id (history_in plan w from)) (received_count from (history_in plan w id)) ≡ o → item_by id watch (Oldest from) (Found o) ≡ Some i → IsNext plan stimuli w id i

@@ -1,4 +1,3 @@
-mod Undisturbed
 pub mod Listed
 pub mod Turns
 pub mod Waiting

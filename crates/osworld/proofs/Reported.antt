@@ -1,15 +1,16 @@
 -- The reports of a run that stands for a world are sound, and have the world's items.
-use Rattle.std.proofs.Common.{◌≡◌, ◌<◌, ℕ, List, [], ◌∷◌, ◌++◌, map, take, length, Bool, true, false, cond, IsTrue, refl, ap, sym, subst, ◌∙◌}
+use native.Mathlib.Omega.{arith}
+use Rattle.std.proofs.Common.{◌≡◌, get_or, ◌<◌, ℕ, List, [], ◌∷◌, map, take, length, IsTrue, refl, ap, sym, subst, ◌∙◌}
 use Rattle.std.specs.List.{All, AllByRecursion}
-use Rattle.std.proofs.{lemmas.List.Elements.All-head, lemmas.List.Elements.All-tail, lemmas.Simd.map-map}
+use Rattle.std.proofs.{lemmas.List.map-id, lemmas.List.Elements.All-map, lemmas.List.Elements.recursion_from_All, lemmas.Simd.map-map}
 use Rattle.osbase.specs.{declared.references.CoreId.CoreId, declared.items.Item.Item, declared.turns.Choice.Choice, declared.turns.CoreStimuli.CoreStimuli, declared.turns.Report.Report}
 use Rattle.osplan.specs.{Stimuli.AreKnown, declared.plans.Plan.Plan, Limits.is_within_limits}
-use Rattle.osworld.specs.{declared.answering.Shared.Shared, Runs.AppendsAt, Runs.AreReports, Playing.IsCutShort, Playing.IsPlayed, Playing.Plays}
+use Rattle.osworld.specs.{declared.answering.Shared.Shared, Runs.AppendsAt, Runs.AreReports, Playing.IsCutShort, Playing.Plays}
 use Rattle.osrun.specs.{declared.core_runs.CoreRun.CoreRun, Fits.Fits, Fits.ids_of, CoreRuns.IsCoreRun, CoreRuns.report_of}
 use Rattle.osrun.specs.Sound.{IsOwn, lists_in, report_by, unclocked}
 use Rattle.osworld.specs.World.{World, first_world, with_item, world}
 use Rattle.osrun.proofs.{Alone.fits-alone, Grouped.fits-apart, CoreRunning.seated-own}
-use Rattle.osworld.proofs.{Fitted.world_fits, Listed.Lists, Listed.is_of, Turns.turns-keep}
+use Rattle.osworld.proofs.{Fitted.world_fits, Listed.Lists, Turns.turns-keep}
 
 -- a turn leaves the cores that have lists
 abbrev ids : Lists → List CoreId
@@ -17,26 +18,17 @@ ids ls = map (λ (p : CoreId × List Item). p.0) ls
 
 same-ids : (id : CoreId) (item : Item) (ls : Lists) → ids (with_item id item ls) ≡ ids ls
 same-ids id item [] = refl
-same-ids id item (q ∷ qs) = by (is_of id q) (same-ids id item qs)
-  where
-    by : (b : Bool) → ids (with_item id item qs) ≡ ids qs → ids (cond b ((q.0, q.1 ++ item ∷ []) ∷ qs) (q ∷ with_item id item qs)) ≡ q.0 ∷ ids qs
-    by true rest = refl
-    by false rest = ap (λ (cores : List CoreId). q.0 ∷ cores) rest
+same-ids id item (q ∷ qs) = grind (arith, same-ids id item qs)
 
-ids-world : (plan : Plan) (stimuli : List CoreStimuli) (turns : List (CoreId × Choice)) → ids (world plan stimuli turns).items ≡ ids_of plan
+pub ids-world : (plan : Plan) (stimuli : List CoreStimuli) (turns : List (CoreId × Choice)) → ids (world plan stimuli turns).items ≡ ids_of plan
 ids-world plan stimuli turns =
     turns-keep plan stimuli (λ (w : World). ids w.items ≡ ids_of plan) (λ w core request item p turn same. same-ids core item w.items ∙ same) (first_world plan) turns
-    (map-map (λ (p : CoreId × List Item). p.0) (λ (id : CoreId). let p : CoreId × List Item = (id, []) in p) (ids_of plan) ∙ itself (ids_of plan))
-  where
-    itself : (xs : List CoreId) → map (λ (id : CoreId). id) xs ≡ xs
-    itself [] = refl
-    itself (x ∷ xs) = ap (λ (ys : List CoreId). x ∷ ys) (itself xs)
+    (map-map (λ (p : CoreId × List Item). p.0) (λ (id : CoreId). let p : CoreId × List Item = (id, []) in p) (ids_of plan) ∙ map-id (ids_of plan))
 
 -- each seat's report is its items' own
 each-own : (plan : Plan) (stimuli : List CoreStimuli) (core_runs : List CoreRun) → All (IsCoreRun plan stimuli) core_runs → AllByRecursion (IsOwn plan) (map report_of core_runs)
-each-own plan stimuli [] seated = tt
-each-own plan stimuli (s ∷ ss) seated =
-    (seated-own plan stimuli s (All-head (IsCoreRun plan stimuli) s ss seated), each-own plan stimuli ss (All-tail (IsCoreRun plan stimuli) s ss seated))
+each-own plan stimuli core_runs seated =
+    recursion_from_All (IsOwn plan) (map report_of core_runs) (All-map (IsOwn plan) report_of core_runs (λ k d within. seated-own plan stimuli (get_or core_runs k d) (seated k d within)))
 
 -- reports that say what their items say are known by their items
 abbrev pub reports_by : Plan → List (CoreId × List Item) → List Report
@@ -64,14 +56,8 @@ reports-played plan limits stimuli known turns core_runs shared plays =
       };
     }
 
--- turns that were played from the beginning, and turns before which memory was wanting
-module _ (plan plan' : Plan) (same : plan' ≡ plan) (limits : IsTrue (is_within_limits plan)) (stimuli : List CoreStimuli) (known : AreKnown plan stimuli) (turns : List (CoreId × Choice)) (core_runs core_runs' : List CoreRun) (shared shared' : Shared) (begun : Plays plan stimuli (first_world plan) core_runs shared) where
-  pub reported-played : (changed : Bool) → ((w : World) → Plays plan' stimuli w core_runs shared → IsPlayed plan' stimuli w turns changed core_runs' shared') → AreReports plan stimuli turns (map report_of core_runs')
-  reported-played changed played =
-      reports-played plan limits stimuli known turns core_runs' shared'
-      (subst (λ (p : Plan). (w : World) → Plays p stimuli w core_runs shared → IsPlayed p stimuli w turns changed core_runs' shared') same played (first_world plan) begun).plays
-
-  pub reported-cut : ((w : World) → Plays plan' stimuli w core_runs shared → IsCutShort plan' stimuli w turns core_runs' shared') → (before : ℕ) × (before < length turns) × AppendsAt plan stimuli (first_world plan) turns before × AreReports plan stimuli (take before turns) (map report_of core_runs')
-  reported-cut cut =
-      let short = subst (λ (p : Plan). (w : World) → Plays p stimuli w core_runs shared → IsCutShort p stimuli w turns core_runs' shared') same cut (first_world plan) begun in
-      (short.before, short.within, short.appends, reports-played plan limits stimuli known (take short.before turns) core_runs' shared' short.plays)
+-- turns before which memory was wanting
+pub reported-cut : (plan : Plan) → IsTrue (is_within_limits plan) → (stimuli : List CoreStimuli) → AreKnown plan stimuli → (turns : List (CoreId × Choice)) (core_runs : List CoreRun) (shared : Shared) → IsCutShort plan stimuli (first_world plan) turns core_runs shared
+    → (before : ℕ) × (before < length turns) × AppendsAt plan stimuli (first_world plan) turns before × AreReports plan stimuli (take before turns) (map report_of core_runs)
+reported-cut plan limits stimuli known turns core_runs shared short =
+    (short.before, short.within, short.appends, reports-played plan limits stimuli known (take short.before turns) core_runs shared short.plays)

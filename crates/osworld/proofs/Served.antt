@@ -1,5 +1,5 @@
 -- A core for which no envelope waits serves the others, and nothing changes.
-use Rattle.std.proofs.Common.{◌≡◌, ◌<◌, ℕ, Bool, true, false, not, ◌&&◌, cond, nat_lt, Option, Some, None, slice_get, List, [], nat_eq, ◌≤◌, ◌∷◌, ◌++◌, filter, length, get_or, map, refl, sym, ap, subst, ◌∙◌, arith, ◌⊎◌, inl, inr}
+use Rattle.std.proofs.Common.{◌≡◌, ◌<◌, ℕ, Bool, true, false, not, ◌&&◌, cond, nat_lt, Option, Some, None, slice_get, List, [], ◌≤◌, ◌∷◌, ◌++◌, filter, length, get_or, map, refl, sym, ap, subst, ◌∙◌, arith, ◌⊎◌, inl, inr}
 use Rattle.std.specs.List.{position}
 use Rattle.std.proofs.{lemmas.Bool.ltb-true, lemmas.Bool.Decides.nat_tests, lemmas.List.map-append, lemmas.List.Elements.filter-append, lemmas.Option.slice_get_cases}
 use Rattle.osbase.specs.{declared.references.CoreId.CoreId, declared.messages.Letter.Letter, declared.turns.Choice.Choice, declared.turns.Choice.TheVariants.Serve, declared.turns.CoreStimuli.CoreStimuli, declared.limits.TheConstants.CORES, History.same_core}
@@ -9,7 +9,7 @@ use Rattle.osplan.specs.declared.plans.Plan.{Plan}
 use Rattle.oskernel.specs.Wants.{watch_in}
 use Rattle.osworld.specs.{declared.answering.Shared.Shared, Answering.next_by, Playing.IsPlayed, Playing.Plays, Runs.serves_of}
 use Rattle.osrun.specs.{declared.requests.Request.TheVariants.Oldest, declared.requests.Reply.TheVariants.Found, declared.core_runs.CoreRun.CoreRun, Requests.request_and_item}
-use Rattle.osworld.specs.World.{World, is_unchanged, item_total, turn, world_from}
+use Rattle.osworld.specs.World.{World, turn, world_from}
 use Rattle.osworld.proofs.{Listed.is_seat_of, Listed.core_run_place, Turned.at_core, Turned.turn-nowhere, Turned.turn-unanswered}
 
 abbrev serves : CoreId → List CoreId → List (CoreId × Choice)
@@ -44,12 +44,9 @@ module _ (plan : Plan) (stimuli : List CoreStimuli) (w : World) (core_runs : Lis
 
   pub unserved-played : (froms : List CoreId) → IsPlayed plan stimuli w (map (λ (from : CoreId). (core, Serve from)) froms) false core_runs shared
   unserved-played froms = record {
-    plays = subst (λ (next : World). Plays plan stimuli next core_runs shared) (sym (unserved froms)) plays;
-    tells = subst (λ (next : World). false ≡ not (is_unchanged w next)) (sym (unserved froms)) (unchanged-itself (item_total w));
+    plays = rw (unserved froms) plays;
+    tells = rw (unserved froms) (grind (arith, nat_tests));
   }
-    where
-      unchanged-itself : (n : ℕ) → false ≡ not (nat_eq n n)
-      unchanged-itself n = grind (arith, nat_tests)
 
 -- what a core serves of more cores
 pub serves-append : (ids more : List CoreId) (id : CoreId) → serves_of (ids ++ more) id ≡ serves_of ids id ++ serves_of more id

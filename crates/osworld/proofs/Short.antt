@@ -1,6 +1,5 @@
 -- No core takes more than 2 ^ 48 items, so a world's items are bounded.
-use Rattle.std.proofs.Common.{◌≡◌, ℕ, suc, ◌+◌, ◌*◌, ◌^◌, ◌<◌, ◌≤◌, Bool, true, false, cond, Option, Some, is_some, List, [], ◌∷◌, ◌++◌, length, map, refl, ap, sym, subst, ◌∙◌, arith, nat_lt, sum_by, length-append}
-use Rattle.std.specs.Option.{option_map_or}
+use Rattle.std.proofs.Common.{◌≡◌, ℕ, ◌+◌, ◌*◌, ◌^◌, ◌<◌, ◌≤◌, Some, is_some, List, [], ◌∷◌, length, map, refl, ap, sym, ◌∙◌, arith, nat_lt, sum_by, length-append}
 use Rattle.std.proofs.{lemmas.Bool.and_parts, lemmas.Bool.ltb-true, lemmas.List.length-map, lemmas.List.Sums.sum_by-cons}
 use Rattle.osbase.specs.{declared.references.CoreId.CoreId, declared.items.Item.Item, declared.turns.Choice.Choice, declared.turns.CoreStimuli.CoreStimuli, History.History, History.item_count, Sets.core_ids}
 use Rattle.osplan.specs.{declared.plans.Plan.Plan, View.View, View.core_of, View.view_of}
@@ -11,7 +10,7 @@ use Rattle.oskernel.specs.Step.{after, history_from, outbox_size}
 use Rattle.osrun.specs.{Fits.ids_of, declared.requests.Request.Request}
 use Rattle.osworld.specs.World.{World, appends, first_world, history_in, turn, with_item, world, item_total}
 use Rattle.oskernel.proofs.Holding.{quiet_after}
-use Rattle.osworld.proofs.{Listed.Lists, Listed.is_of, Listed.list_of, Turns.Appends, Turns.turns-keep}
+use Rattle.osworld.proofs.{Listed.Lists, Listed.list_of, Reported.ids-world, Turns.Appends, Turns.turns-keep}
 
 -- Each list has at most 2 ^ 48 items.
 abbrev are_short : Lists → Type 0
@@ -37,49 +36,23 @@ counted v h (i ∷ items) =
 
 short-push : (id : CoreId) (item : Item) (ls : Lists) (p : CoreId × List Item) → list_of id ls ≡ Some p → length p.1 < 2 ^ 48 → are_short ls → are_short (with_item id item ls)
 short-push id item [] p e lt short = cc
-short-push id item (q ∷ qs) p e lt short = by (is_of id q) refl e (λ later. short-push id item qs p later lt short.1)
-  where
-    by : (b : Bool) → is_of id q ≡ b → cond b (Some q) (list_of id qs) ≡ Some p → (list_of id qs ≡ Some p → are_short (with_item id item qs)) → are_short (cond b ((q.0, q.1 ++ item ∷ []) ∷ qs) (q ∷ with_item id item qs))
-    by true t e rest =
-        let same : q ≡ p = cc in let below = subst (λ (r : CoreId × List Item). length r.1 < 2 ^ 48) (sym same) lt in let longer = length-append q.1 (item ∷ []) in
-        (omega arith, short.1)
-    by false t e rest = (short.0, rest e)
+short-push id item (q ∷ qs) p e lt short = grind (arith, short.0, short.1, length-append q.1 (item ∷ []), short-push id item qs p)
 
-length-with_item : (id : CoreId) (item : Item) (ls : Lists) → length (with_item id item ls) ≡ length ls
-length-with_item id item [] = refl
-length-with_item id item (q ∷ qs) = by (is_of id q) (length-with_item id item qs)
-  where
-    by : (b : Bool) → length (with_item id item qs) ≡ length qs → length (cond b ((q.0, q.1 ++ item ∷ []) ∷ qs) (q ∷ with_item id item qs)) ≡ suc (length qs)
-    by true rest = refl
-    by false rest = ap suc rest
-
--- what holds of a world's lists at all times
-abbrev Bounded : World → Type 0
-Bounded w = are_short w.items × (length w.items ≤ 16)
-
-bounded-on : (plan : Plan) (stimuli : List CoreStimuli) (w : World) (core : CoreId) (request : Request) (item : Item) (p : CoreId × List Item) → Appends plan stimuli w core request item p → Bounded w → Bounded (appends plan w core request item)
-bounded-on plan stimuli w core request item p turn bounded =
-    let items : history_in plan w core ≡ history_from (view_of plan core) [] p.1 = ap (λ (o : Option (CoreId × List Item)). history_from (view_of plan core) [] (option_map_or (λ (q : CoreId × List Item). q.1) o [])) turn.listed in
-    let few : item_count (history_in plan w core) < 2 ^ 48 = ltb-true (item_count (history_in plan w core)) (2 ^ 48) (and_parts (nat_lt (item_count (history_in plan w core)) (2 ^ 48)) (admits outbox_size (state_of (view_of plan core) (history_in plan w core)) item) turn.taken).0 in
-    let all : item_count (history_in plan w core) ≡ item_count [] + length p.1 = ap item_count items ∙ counted (view_of plan core) [] p.1 in
-    let same = length-with_item core item w.items in let before = bounded.1 in
-    (short-push core item w.items p turn.listed (omega arith) bounded.0, omega arith)
+short-on : (plan : Plan) (stimuli : List CoreStimuli) (w : World) (core : CoreId) (request : Request) (item : Item) (p : CoreId × List Item) → Appends plan stimuli w core request item p → are_short w.items → are_short (appends plan w core request item).items
+short-on plan stimuli w core request item p turn short =
+    let few = ltb-true (item_count (history_in plan w core)) (2 ^ 48) (and_parts (nat_lt (item_count (history_in plan w core)) (2 ^ 48)) (admits outbox_size (state_of (view_of plan core) (history_in plan w core)) item) turn.taken).0 in
+    let all : item_count (history_in plan w core) ≡ item_count [] + length p.1 = rw turn.listed (counted (view_of plan core) [] p.1) in
+    short-push core item w.items p turn.listed (omega (arith, few, all)) short
 
 empty-short : (ids : List CoreId) → are_short (map (λ (id : CoreId). (id, [])) ids)
 empty-short [] = tt
 empty-short (i ∷ is) = (omega arith, empty-short is)
 
-as_many : (ids : List CoreId) → length (map {B = CoreId × List Item} (λ (id : CoreId). (id, [])) ids) ≡ length ids
-as_many ids = length-map ids (λ (id : CoreId). let p : CoreId × List Item = (id, []) in p)
-
-first-bounded : (plan : Plan) → Bounded (first_world plan)
-first-bounded plan =
-    let few = length-filter-le (λ (id : CoreId). is_some (core_of plan id)) core_ids in let same = as_many (ids_of plan) in
-    (empty-short (ids_of plan), omega arith)
-
 -- a world has at most 2 ^ 52 items
 pub world-bounded : (plan : Plan) (stimuli : List CoreStimuli) (ts : List (CoreId × Choice)) → item_total (world plan stimuli ts) ≤ 2 ^ 52
 world-bounded plan stimuli ts =
-    let bounded = turns-keep plan stimuli Bounded (bounded-on plan stimuli) (first_world plan) ts (first-bounded plan) in
-    let total = total-bounded (world plan stimuli ts).items bounded.0 in let few = bounded.1 in
-    omega arith
+    let lists = (world plan stimuli ts).items in
+    let total = total-bounded lists (turns-keep plan stimuli (λ (w : World). are_short w.items) (short-on plan stimuli) (first_world plan) ts (empty-short (ids_of plan))) in
+    let cores = sym (length-map lists (λ (p : CoreId × List Item). p.0)) ∙ ap length (ids-world plan stimuli ts) in
+    let few = length-filter-le (λ (id : CoreId). is_some (core_of plan id)) core_ids in
+    omega (arith, total, cores, few)

@@ -1,7 +1,7 @@
 -- A turn of a run is a turn of the world.
 use Rattle.std.proofs.Common.{◌≡◌, ℕ, suc, ◌<◌, ◌≤◌, Bool, true, false, cond, Option, Some, None, is_some, List, [], ◌∷◌, ◌++◌, length, drop, get_or, set, sym, ap, subst, ◌∙◌, append-nil}
-use Rattle.std.specs.List.{All, position_or_len}
-use Rattle.std.proofs.lemmas.List.Elements.{All-get_or, All-set}
+use Rattle.std.specs.List.{position_or_len}
+use Rattle.std.proofs.lemmas.List.Elements.{All-set}
 use Rattle.osbase.specs.{declared.references.CoreId.CoreId, declared.items.Item.Item, declared.turns.Choice.Choice, declared.turns.CoreStimuli.CoreStimuli, History.History, Runs.stimuli_of}
 use Rattle.osplan.specs.{declared.plans.Plan.Plan, View.view_of}
 use Rattle.osstate.specs.State.{KernelState, state_of}
@@ -41,7 +41,7 @@ module _ (plan : Plan) (stimuli : List CoreStimuli) (w : World) (core_runs : Lis
   past = history_by plan core_run.id core_run.items.items
 
   seated : IsCoreRun plan stimuli core_run
-  seated = subst (λ (s : CoreRun). IsCoreRun plan stimuli s) is (All-get_or (IsCoreRun plan stimuli) core_runs at core_run within plays.seated)
+  seated = subst (λ (s : CoreRun). IsCoreRun plan stimuli s) is (plays.seated at core_run within)
 
   listed : list_of core_run.id w.items ≡ Some (core_run.id, core_run.items.items)
   listed = ap (list_of core_run.id) plays.lists ∙ list_of-core_run core_run.id core_runs at core_run here within ∙ ap (λ (s : CoreRun). Some (s.id, s.items.items)) is
@@ -82,27 +82,16 @@ module _ (plan : Plan) (stimuli : List CoreStimuli) (w : World) (core_runs : Lis
         ∙ total-push core_run.id item w.items (core_run.id, core_run.items.items) listed
 
     module _ (new : CoreRun) (took : Took core_run new item) (placed : IsPlaced shared.mail core_run.id item) where
-      core_runs-on : takes outbox_size (view_of plan core_run.id) past item ≡ true → All (IsCoreRun plan stimuli) (set core_runs at new)
-      core_runs-on taken = All-set (IsCoreRun plan stimuli) core_runs at new (seated-on plan stimuli core_run new item seated taken took) plays.seated
-
-      lists-on : (appends plan w core_run.id request item).items ≡ lists_of (set core_runs at new)
-      lists-on =
-          ap (with_item core_run.id item) plays.lists
-          ∙ lists_of-set core_run.id item core_runs at new core_run here within (took.id ∙ ap (λ (s : CoreRun). s.id) (sym is)) (took.items ∙ ap (λ (s : CoreRun). s.items.items ++ item ∷ []) (sym is))
-
-      carries-on : IsMail plan (appends plan w core_run.id request item) (mail_after core_run.id (front_of core_run.kernel.border.outbox) item shared.mail)
-      carries-on =
-          subst (λ (s : KernelState). IsMail plan (appends plan w core_run.id request item) (mail_after core_run.id (front_of s.border.outbox) item shared.mail)) (sym kernel)
-          (carries_on plan w core_run.id request item (core_run.id, core_run.items.items) listed shared.mail plays.carries core_run.known placed)
-
-      board-on : board_by core_run.id request shared.board ≡ board_in plan (appends plan w core_run.id request item)
-      board-on = ap (board_by core_run.id request) plays.shown ∙ board-told core_run.id plan w request
-
-      spins-on : holders_by core_run.id request shared.spins ≡ holders_in (appends plan w core_run.id request item)
-      spins-on = ap (holders_by core_run.id request) plays.held ∙ spins-told core_run.id plan w request
-
       pub turn-taken : takes outbox_size (view_of plan core_run.id) past item ≡ true → Plays plan stimuli (turn plan stimuli w (core_run.id, choice)) (set core_runs at new) (settled core_run.id request (front_of core_run.kernel.border.outbox) item shared)
       turn-taken taken =
           subst (λ (next : World). Plays plan stimuli next (set core_runs at new) (settled core_run.id request (front_of core_run.kernel.border.outbox) item shared))
           (sym (by_taking ∙ ap (λ (b : Bool). cond b (appends plan w core_run.id request item) w) taken))
-          (record { seated = core_runs-on taken; lists = lists-on; carries = carries-on; shown = board-on; held = spins-on })
+          (record {
+            seated = All-set (IsCoreRun plan stimuli) core_runs at new (seated-on plan stimuli core_run new item seated taken took) plays.seated;
+            lists = ap (with_item core_run.id item) plays.lists
+                ∙ lists_of-set core_run.id item core_runs at new core_run here within (took.id ∙ ap (λ (s : CoreRun). s.id) (sym is)) (took.items ∙ ap (λ (s : CoreRun). s.items.items ++ item ∷ []) (sym is));
+            carries = subst (λ (s : KernelState). IsMail plan (appends plan w core_run.id request item) (mail_after core_run.id (front_of s.border.outbox) item shared.mail)) (sym kernel)
+                (carries_on plan w core_run.id request item (core_run.id, core_run.items.items) listed shared.mail plays.carries core_run.known placed);
+            shown = ap (board_by core_run.id request) plays.shown ∙ board-told core_run.id plan w request;
+            held = ap (holders_by core_run.id request) plays.held ∙ spins-told core_run.id plan w request;
+          })

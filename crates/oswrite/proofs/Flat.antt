@@ -1,5 +1,5 @@
 -- The data of a configuration has no float, and does not nest deeply.
-use Rattle.std.proofs.Common.{◌≡◌, ℕ, ◌-◌, ◌≤◌, ◌&&◌, Bool, true, false, not, nat_lt, Option, Some, None, List, [], ◌∷◌, map, refl, ap, arith}
+use Rattle.std.proofs.Common.{◌≡◌, ℕ, ◌-◌, ◌≤◌, ◌&&◌, Bool, true, false, not, nat_lt, Option, List, [], ◌∷◌, map, refl, ap, arith}
 use Rattle.std.specs.{List.list_all, Option.option_map_or}
 use Rattle.std.proofs.lemmas.Bool.{and_parts, ltb-true, not-true}
 use Rattle.serde_json.specs.Data.{Data, Items, Members, array, object, no_items, item, no_members, member, depth, items_depth, members_depth}
@@ -52,8 +52,7 @@ list-plain n f [] = refl
 list-plain n f (x ∷ xs) = ap (λ b. is_plain n (f x) && b) (list-plain n f xs)
 
 null-plain : {X : Type 0} (n : ℕ) (f : X → Data) (o : Option X) → is_plain n (or_null_data f o) ≡ option_map_or (λ (x : X). is_plain n (f x)) o true
-null-plain n f None = refl
-null-plain n f (Some x) = refl
+null-plain n f o = grind arith
 
 either : {X : Type 0} (o : Option X) → option_map_or (λ (x : X). true) o true ≡ true
 either o = grind arith

@@ -2,9 +2,9 @@
 use Rattle.std.proofs.Common.{◌≡◌, ℕ, zero, suc, ◌+◌, ◌≤◌, true, not, List, [], ◌∷◌, length, map, get_or, Option, Some, option_and_then, refl, sym, ap, ◌∙◌, subst, arith, ◌<◌, nat_lt, None, option_map, unwrap_or, IsTrue, is_some}
 use Rattle.std.specs.{List.list_any, List.enumerate_from, List.find, List.flat_map, List.slice_get, List.list_all, List.Contains, List.position_or_len, Str.bytes_eq, Option.option_map_or}
 use Rattle.std.proofs.lemmas.Bool.{and_parts, not-true, false_from_ne_true, false≢true, eqb-true, ltb-true}
-use Rattle.std.proofs.lemmas.{List.length-map, List.get_or-map, Simd.map-map, Slice.Eq.bytes_eq-Decides, List.Folds.flat_map-map, List.Folds.list_all-map, List.Folds.find_at, Option.slice_get-map, Option.slice_get-get_or}
+use Rattle.std.proofs.lemmas.{List.length-map, List.map-id, List.get_or-map, Simd.map-map, Slice.Eq.bytes_eq-Decides, List.Folds.flat_map-map, List.Folds.list_all-map, List.Folds.find_at, Option.slice_get-map, Option.slice_get-get_or}
 use Rattle.std.proofs.lemmas.{List.Elements.Contains-append_left, List.Elements.Contains-append_right, List.FromFn.get_or-enumerate_from, List.FromFn.length-enumerate_from, Option.get_or_from_slice_get, Option.slice_get_within}
-use Rattle.osvalidate.specs.Words.{Core, CoreId, Declaration, Named, ObjectKind, Plan, Object, Spinlock, SpinlockText}
+use Rattle.osvalidate.specs.Words.{Core, CoreId, Declaration, Named, ObjectKind, Plan, Object, Spinlock}
 use Rattle.osbase.specs.{History.same_core, Objects.same_kind, declared.objects.TheConstants.NOBODY, Names.is_name}
 use Rattle.osbase.proofs.{Same.same_core-true, Same.same_kind-self, Places.passes-at}
 use Rattle.ossyntax.proofs.Operations.{IsNamed}
@@ -14,9 +14,9 @@ use Rattle.osplan.specs.Objects.{common_names, is_common, names_in, object_count
 use Rattle.osplan.proofs.{Tests.all-weaker, Tests.find-holds, Tests.find-passes, Within.core-fits, Within.core-text-parts, Within.few-modes, Within.few-objects, Within.few-spinlocks, Within.limit-parts, Within.names-formed, Within.text-parts}
 use Rattle.osschema.specs.Declarations.{common_of, id_of, declaration, declarations, declared_as, declared_by, has_name, names_of, place_in, place_of}
 use Rattle.osschema.specs.Shape.{common_in, objects_in, unnumbered}
-use Rattle.osschema.proofs.{Indexing.among, Naming.common-named, Naming.names-of-all, Naming.names-of-text}
+use Rattle.osschema.proofs.{Indexing.among, Naming.names-text}
 use Rattle.osload.proofs.Found.{byte-small}
-use Rattle.oswrite.proofs.Said.{config_as_text, core_as_text, spinlock_as_text}
+use Rattle.oswrite.proofs.Said.{config_as_text, core_as_text}
 
 -- Where no name stands twice, each object is found by its name.
 stands-found : (objects : List Declaration) (d : Declaration) → are_distinct (names_of objects) ≡ true → Contains objects d → find (has_name d.name) objects ≡ Some d
@@ -62,17 +62,16 @@ module _ (plan : Plan) where
   -- ---- the names that a text declares are the configuration's
 
   kind-named : (core : Core) (kind : ObjectKind) → names_in kind core ≡ map (λ (named : Named). named.name) (objects_in kind (core_as_text plan core))
-  kind-named core ObjectKind.Mode = refl
   kind-named core kind = grind (arith, map-map)
 
   common-said : (kind : ObjectKind) → common_names kind plan ≡ map (λ (named : Named). named.name) (common_in kind (config_as_text plan))
-  common-said = common-named plan (config_as_text plan) refl (sym (map-map (λ (spinlock : SpinlockText). spinlock.name) (spinlock_as_text plan) plan.spinlocks))
+  common-said ObjectKind.Mode = simp (map-map, map-id)
+  common-said kind = grind (arith, map-map)
 
   names-said : declared_names plan ≡ names_of (declarations (config_as_text plan))
-  names-said = names-of-text plan (config_as_text plan) common-said (sym (ap names_of (flat_map-map declared_by (core_as_text plan) plan.cores) ∙ names-of-all (λ core. core) (core_as_text plan) kind-named plan.cores))
+  names-said = (simp (map-map, map-id, flat_map-map)) ∙ sym (names-text (config_as_text plan))
 
   kind-many : (core : Core) (kind : ObjectKind) → length (names_in kind core) ≡ object_count kind core
-  kind-many core ObjectKind.Mode = refl
   kind-many core kind = grind (arith, length-map)
 
 -- ---- what the name of an object stands for

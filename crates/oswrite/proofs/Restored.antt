@@ -1,15 +1,15 @@
 -- The data of a configuration has the shape of one. So its text has no fault, and means the configuration.
 use Rattle.std.proofs.Common.{◌≡◌, ℕ, ◌&&◌, Bool, true, List, [], ◌∷◌, map, Option, Some, None, option_map, IsTrue, refl, sym, ap, ◌∙◌, arith, ◌<◌, is_some, unwrap_or, length, option_and_then}
 use Rattle.std.specs.{List.list_all, List.AllByRecursion, Option.option_map_or, Str.bytes_eq}
-use Rattle.std.proofs.lemmas.{Bool.and_parts, Bool.and_from, Bool.or_right, List.Folds.list_all-map, Simd.map-map, List.length-map, List.map-append, List.map-id}
+use Rattle.std.proofs.lemmas.{Bool.Decides.nat_tests, Bool.and_parts, Bool.and_from, Bool.or_right, List.Folds.list_all-map, Simd.map-map, List.length-map, List.map-append, List.map-id}
 use Rattle.serde_json.specs.{Data.Data, Data.string, Find.as_str, Read.read}
 use Rattle.osbase.specs.{declared.objects.TheConstants.NOBODY, declared.items.CoreMode.TheVariants.Named, declared.items.CoreMode.TheVariants.DontCare, Names.is_name, History.same_core, Objects.counter_object, Objects.mode_object, Objects.mode_place, Objects.spinlock_object}
 use Rattle.osvalidate.specs.Words.{Alarm, AlarmStart, Core, CoreText, Counter, CounterRef, ExpiryPoint, Isr, IsrText, ModeId, Plan, RemoteCall, Resource, Table, TableStart, Task, CoreId, CoreMode, Declaration, Object, ObjectKind, Op, AlarmStartText, Spinlock, SpinlockId, TableStartText}
 use Rattle.osplan.specs.Limits as limits
-use Rattle.osplan.specs.Limits.{number_of, CoreSizes, CounterSizes, TableSizes, are_counters_within, is_alarm_within, is_between, is_start, is_table_start_within, is_table_timed, is_table_within, is_task_within, is_isr_within, is_core_within, same_number, has_number, are_numbers_distinct}
+use Rattle.osplan.specs.Limits.{number_of, CoreSizes, CounterSizes, TableSizes, are_counters_within, is_alarm_within, is_between, is_table_start_within, is_table_timed, is_table_within, is_task_within, is_isr_within, is_core_within, same_number, has_number, are_numbers_distinct}
 use Rattle.osplan.specs.Representable as said
 use Rattle.osplan.specs.Objects as plans
-use Rattle.osplan.specs.{Names.name_of_mode, Names.name_of, Names.spinlock_name, Spinlocks.are_links_ordered, Spinlocks.links_of, Protection.protection_named, Protection.protection_word, declared.protection.Protection.Protection, View.core_of, View.counter_in, Fault.if_faultless, Fault.failing}
+use Rattle.osplan.specs.{Names.name_of_mode, Names.name_of, Names.spinlock_name, Spinlocks.are_links_ordered, Spinlocks.links_of, Protection.protection_named, Protection.protection_word, declared.protection.Protection.Protection, View.core_of, View.counter_in, Fault.failing}
 use Rattle.osplan.proofs.{Scripts.all_scripts, SpinlockObjects.there-spinlock, Found.IsFound, Found.each-found, Numbered.master-low, ModeObjects.mode-named, ModeObjects.mode-said, ModeObjects.nobody, ModeObjects.there-mode, Tests.each-flat, Tests.any-find, Tests.any-mapped, Within.between, Within.cap-within, Within.version-within, Within.limit-parts, Within.text-parts, Within.core-text-parts, Within.TextParts, Within.LimitParts}
 use Rattle.oscript.specs.{declared.Op.TheVariants.Work, Calls.action_of_op, Calls.op_of_call, Rows.has_masks, Rows.is_in_form}
 use Rattle.oscript.proofs.Acting.{action-back as action-of, call-objects}
@@ -22,13 +22,12 @@ use Rattle.osschema.proofs.Lists.{all-apart}
 use Rattle.osvalidate.specs.{Action.action_of, Action.any_action, Operation.is_operation, Operation.is_operation_known, Operation.operations_of, Operation.op_of}
 use Rattle.osvalidate.specs.Check.{core_scripts, counter_sizes, start_sizes, alarm_sizes, table_sizes, core_sizes, sizes_of, numbers_of, is_text_within, is_unreserved, is_each_once, is_core_mode_known, is_mode_known, is_spinlock_known, are_known, are_near, are_ordered, are_timed, tests_of}
 use Rattle.osvalidate.specs.Verdict.{action_verdict, alarm_verdict, core_verdict, each as each_verdict, isr_verdict, op_verdict, point_verdict, script_verdict, table_verdict, task_verdict}
-use Rattle.osload.specs.Meaning.{core_mode, task_plan, isr_plan, resource_plan, counter_plan, start_plan, alarm_plan, point_plan, spinlock_plan, table_start_plan, table_plan, core_plan, plan_of, config_of, config_of_shape}
-use Rattle.osload.proofs.Found.{IsByte, byte-small, is-byte, HasCounters, named-counter}
+use Rattle.osload.specs.Meaning.{core_mode, task_plan, isr_plan, resource_plan, counter_plan, start_plan, alarm_plan, point_plan, spinlock_plan, table_start_plan, table_plan, core_plan, plan_of, config_of}
+use Rattle.osload.proofs.Found.{IsByte, NamedCounter, byte-small, is-byte, HasCounters, named-counter}
 use Rattle.osload.proofs.Right.{three-parts, acting-right, each-right, is_right}
-use Rattle.osload.proofs.Meant.{near_kept, table-limits, posted-same}
+use Rattle.osload.proofs.Meant.{core-parts, near_kept, table-limits, posted-same}
 use Rattle.osvalues.specs.Data.{core_mode_word, name_data, id_data, list_data, mode_data, task_data, isr_data, resource_data, counter_data, start_data, or_null_data, alarm_data, action_data, point_data, spinlock_data, spinlock_name_data, table_start_data, table_data, core_data, op_text, script_text}
 use Rattle.oswrite.specs.Writing.{config_data}
-use Rattle.std.proofs.lemmas.Bool.Decides.{nat_tests}
 use Rattle.oswrite.proofs.{Placed.object-named, Placed.apart, Joining.parts-pieces}
 use Rattle.oswrite.proofs.Said.{task_as_text, isr_as_text, resource_as_text, counter_as_text, start_as_text, counter_name, action_as_text, alarm_as_text, point_as_text, spinlock_as_text, table_start_said, table_as_text, core_as_text, config_as_text}
 
@@ -65,26 +64,15 @@ map-in f g h [] same = refl
 map-in f g h (x ∷ xs) same = rw (same x (first-in x xs), map-in f g h xs (λ y here. same y (later-in x xs y here))) refl
 
 option_map-map : {X Y Z : Type 0} (f : Y → Z) (g : X → Y) (o : Option X) → option_map f (option_map g o) ≡ option_map (λ x. f (g x)) o
-option_map-map f g None = refl
-option_map-map f g (Some x) = refl
-
-inside-some : {x y : ℕ} → Some x ≡ Some y → x ≡ y
-inside-some e = cc
+option_map-map f g o = grind arith
 
 id-back : (id : CoreId) → IsByte (number_of id) → number_id (number_of id) ≡ id
-id-back id byte = rw (inside-some byte) refl
+id-back id byte = grind arith
 
 -- the word of an answer is read as the answer; the first clause is only there to make a case of each
 protection-back : (p : Protection) → protection_named (protection_word p) ≡ Some p
 protection-back Protection.Ignore = refl
 protection-back p = refl
-
--- ---- the parts of what is known of a core
-
-core-limits : (s : CoreSizes) → is_core_within s ≡ true → (is_between 0 15 s.number ≡ true) × (list_all is_start s.start ≡ true) × (list_all is_task_within s.tasks ≡ true) × (list_all limits.is_resource_within s.resources ≡ true)
-    × (are_counters_within s.counters ≡ true) × (list_all limits.is_counter_within s.counters ≡ true) × (list_all is_alarm_within s.alarms ≡ true) × (list_all is_table_within s.tables ≡ true)
-    × (list_all is_isr_within s.isrs ≡ true)
-core-limits s h = (grind arith, grind arith, grind arith, grind arith, grind arith, grind arith, grind arith, grind arith, grind arith)
 
 module _ (plan : Plan) (inside : IsTrue (limits.is_within_limits plan)) (sayable : IsTrue (said.is_representable plan)) where
   abbrev objects : List Declaration
@@ -173,28 +161,20 @@ module _ (plan : Plan) (inside : IsTrue (limits.is_within_limits plan)) (sayable
   cores-have [] within found = tt
   cores-have (core ∷ cores) within found =
       let tests = and_parts _ _ within in
-      let limit = core-limits (limits.core_sizes plan core) tests.0 in
+      let limit = core-parts (limits.core_sizes plan core) tests.0 in
       let same : map counter_sizes (map counter_as_text core.counters) ≡ map limits.counter_sizes core.counters = map-map counter_sizes counter_as_text core.counters in
-      let id = id-back core.id (is-byte 0 15 (number_of core.id) limit.0 (omega arith)) in
-      (record { core = core; found = ap (core_of plan) id ∙ found.0; same = sym same; within = ap are_counters_within same ∙ limit.4 }, cores-have cores tests.1 found.1)
+      let id = id-back core.id (is-byte 0 15 (number_of core.id) limit.number (omega arith)) in
+      (record { core = core; found = ap (core_of plan) id ∙ found.0; same = sym same; within = ap are_counters_within same ∙ limit.counters }, cores-have cores tests.1 found.1)
 
   -- The name of a counter of the configuration stands for it, and has its numbers.
-  record CounterBack (counter : CounterRef) : Type 0 where
-    names : IsNamed (place_of objects) (name_of plan) (counter_object counter)
-    sizes : CounterSizes
-    declared : option_map declared_sizes (counter_declared objects (counter_name plan counter)) ≡ Some sizes
-    planned : option_map limits.counter_sizes (counter_in plan counter) ≡ Some sizes
-    within : limits.is_counter_within sizes ≡ true
-
-  named-back : (counter : CounterRef) → limits.is_object plan (counter_object counter) ≡ true → CounterBack counter
+  named-back : (counter : CounterRef) → limits.is_object plan (counter_object counter) ≡ true → IsNamed (place_of objects) (name_of plan) (counter_object counter) × NamedCounter plan objects (counter_name plan counter) counter
   named-back counter known =
       let names = named (counter_object counter) known in
-      let found = named-counter plan (config_as_text plan) counter.core (counter_name plan counter) once (cores-have plan.cores bounds.cores (each-found plan.cores bounds.distinct)) (ap is_some names.found) in
       let stands : counter_ref objects counter.core (counter_name plan counter) ≡ counter = rw names.found refl in
-      record { names = names; sizes = found.sizes; declared = found.declared; planned = ap (λ r. option_map limits.counter_sizes (counter_in plan r)) (sym stands) ∙ found.planned; within = found.within }
+      (names, rw stands at (named-counter plan (config_as_text plan) counter.core (counter_name plan counter) once (cores-have plan.cores bounds.cores (each-found plan.cores bounds.distinct)) (ap is_some names.found)))
 
   counter-same : (counter : CounterRef) → limits.is_object plan (counter_object counter) ≡ true → option_map declared_sizes (counter_declared objects (counter_name plan counter)) ≡ option_map limits.counter_sizes (counter_in plan counter)
-  counter-same counter known = let back = named-back counter known in back.declared ∙ sym back.planned
+  counter-same counter known = let back = (named-back counter known).1 in back.declared ∙ sym back.planned
 
   -- ---- the objects of a core
 
@@ -258,11 +238,11 @@ module _ (plan : Plan) (inside : IsTrue (limits.is_within_limits plan)) (sayable
       let known = alarm-known alarm there in
       let counter = named-back alarm.counter known.0 in
       let action = action-back alarm.action known.1 tests.1 in
-      let auto = start-back (option_map limits.counter_sizes (counter_in plan alarm.counter)) counter.sizes alarm.auto counter.planned counter.within within known.2 in
+      let auto = start-back (option_map limits.counter_sizes (counter_in plan alarm.counter)) counter.1.sizes alarm.auto counter.1.planned counter.1.within within known.2 in
       record {
-        shaped = rw (tests.0, counter.names.in_form, auto.shaped) refl;
-        meant = rw (counter.names.found, action.meant, auto.meant) refl;
-        passed = acting-right _ _ _ _ _ (ap is_some counter.names.found) action.passed auto.passed;
+        shaped = rw (tests.0, counter.0.in_form, auto.shaped) refl;
+        meant = rw (counter.0.found, action.meant, auto.meant) refl;
+        passed = acting-right _ _ _ _ _ (ap is_some counter.0.found) action.passed auto.passed;
       }
 
   point-back : (point : ExpiryPoint) → is_between 0 1000000000 (Some point.offset) ≡ true → list_all (limits.is_action_known plan) point.actions ≡ true → list_all said.is_action_representable point.actions ≡ true
@@ -288,11 +268,11 @@ module _ (plan : Plan) (inside : IsTrue (limits.is_within_limits plan)) (sayable
       let actions = each-flat (limits.is_action_known plan) (λ (point : ExpiryPoint). point.actions) table.points known.1 in
       let spoken = each-flat said.is_action_representable (λ (point : ExpiryPoint). point.actions) table.points tests.1 in
       let points = backs table.points (λ point here. point-back point (here _ (simp list_all-map at limit.offsets)) (here _ actions) (here _ spoken)) in
-      let auto = table-start-back sizes counter.sizes table.auto counter.planned counter.within limit.start known.2 in
+      let auto = table-start-back sizes counter.1.sizes table.auto counter.1.planned counter.1.within limit.start known.2 in
       record {
-        shaped = rw (tests.0, counter.names.in_form, points.shaped, auto.shaped) refl;
-        meant = rw (counter.names.found, points.meant, auto.meant) (grind (arith, nat_tests, limit.duration));
-        passed = acting-right _ _ _ _ _ (ap is_some counter.names.found) (each-right (point_verdict objects) (map (point_as_text plan) table.points) ∙ points.passed) auto.passed;
+        shaped = rw (tests.0, counter.0.in_form, points.shaped, auto.shaped) refl;
+        meant = rw (counter.0.found, points.meant, auto.meant) (grind (arith, nat_tests, limit.duration));
+        passed = acting-right _ _ _ _ _ (ap is_some counter.0.found) (each-right (point_verdict objects) (map (point_as_text plan) table.points) ∙ points.passed) auto.passed;
       }
 
   -- ---- the cores
@@ -305,25 +285,24 @@ module _ (plan : Plan) (inside : IsTrue (limits.is_within_limits plan)) (sayable
   unfolding core_shape
   core-back core here =
       let id = id_of (core_as_text plan core) in
-      let sizes = core-limits (limits.core_sizes plan core) (here _ bounds.cores) in
-      let limit = simp list_all-map at sizes in
+      let limit = core-parts (limits.core_sizes plan core) (here _ bounds.cores) in
       let known = core-known core (here _ bounds.known) in
-      let within = sym (list_all-map is_table_within (limits.table_sizes (counter_in plan)) core.tables) ∙ sizes.7 in
+      let within = sym (list_all-map is_table_within (limits.table_sizes (counter_in plan)) core.tables) ∙ limit.tables in
       let timed : list_all (λ (table : Table). is_table_timed (limits.table_sizes (counter_in plan) table)) core.tables ≡ true = here _ bounds.timed in
       let scripts = and_parts (list_all (λ (task : Task). limits.is_script_known plan task.script) core.tasks) (list_all (λ (isr : Isr). limits.is_script_known plan isr.script) core.isrs) (sym (all_scripts (limits.is_script_known plan) core) ∙ known.1) in
       let texts = core-text-parts core (here _ parts.cores) in
       let mode = core-mode-back core.mode known.0 in
       let start = backs {write = id_data} {text_of = number_of} {shape = whole_of} {mean = number_id} {test = λ _. true} core.start
-      (λ id here. record { shaped = refl; meant = id-back id (is-byte 0 255 (number_of id) (here _ limit.1) (omega arith)); passed = refl }) in
-      let tasks = backs core.tasks (λ task here. task-back id task (here _ limit.2) (here _ scripts.0) (here _ known.2) (here _ texts.tasks)) in
-      let isrs = backs core.isrs (λ isr here. isr-back id isr (here _ limit.8) (here _ scripts.1) (here _ texts.isrs)) in
-      let resources = backs core.resources (λ resource here. resource-back resource (here _ limit.3) (here _ texts.resources)) in
-      let counters = backs core.counters (λ counter here. counter-back counter (here _ limit.5) (here _ texts.counters)) in
-      let alarms = backs core.alarms (λ alarm here. alarm-back id alarm (here _ limit.6) (here _ known.3) (here _ texts.alarms)) in
+      (λ id here. record { shaped = refl; meant = id-back id (is-byte 0 255 (number_of id) (here _ (simp list_all-map at limit.start)) (omega arith)); passed = refl }) in
+      let tasks = backs core.tasks (λ task here. task-back id task (here _ (simp list_all-map at limit.tasks)) (here _ scripts.0) (here _ known.2) (here _ texts.tasks)) in
+      let isrs = backs core.isrs (λ isr here. isr-back id isr (here _ (simp list_all-map at limit.isrs)) (here _ scripts.1) (here _ texts.isrs)) in
+      let resources = backs core.resources (λ resource here. resource-back resource (here _ (simp list_all-map at limit.resources)) (here _ texts.resources)) in
+      let counters = backs core.counters (λ counter here. counter-back counter (here _ (simp list_all-map at (and_parts _ (list_all limits.is_counter_within (map limits.counter_sizes core.counters)) limit.counters).1)) (here _ texts.counters)) in
+      let alarms = backs core.alarms (λ alarm here. alarm-back id alarm (here _ (simp list_all-map at limit.alarms)) (here _ known.3) (here _ texts.alarms)) in
       let tables = backs core.tables (λ table here. table-back id table (here _ within) (here _ timed) (here _ known.4) (here _ texts.tables)) in
       record {
         shaped = rw (alarms.shaped, counters.shaped, isrs.shaped, mode.shaped, protection-back core.protection, resources.shaped, start.shaped, tables.shaped, tasks.shaped) refl;
-        meant = rw (mode.meant, start.meant, tasks.meant, isrs.meant, resources.meant, counters.meant, alarms.meant, tables.meant, id-back core.id (is-byte 0 15 (number_of core.id) limit.0 (omega arith))) refl;
+        meant = rw (mode.meant, start.meant, tasks.meant, isrs.meant, resources.meant, counters.meant, alarms.meant, tables.meant, id-back core.id (is-byte 0 15 (number_of core.id) limit.number (omega arith))) refl;
         passed = grind (
           arith,
           mode.passed,
@@ -410,8 +389,4 @@ module _ (plan : Plan) (inside : IsTrue (limits.is_within_limits plan)) (sayable
 
 -- so it means the configuration
 pub config-back : (plan : Plan) (text : List ℕ) → IsTrue (limits.is_within_limits plan) → IsTrue (said.is_representable plan) → read text ≡ Some (config_data plan) → config_of text ≡ Some plan
-config-back plan text inside sayable reads =
-    ap (λ (o : Option Data). option_and_then config_of_shape (option_and_then config_shape o)) reads
-    ∙ ap (option_and_then config_of_shape) (shape-back plan inside sayable)
-    ∙ ap (λ faults. if_faultless faults (plan_of (config_as_text plan))) (faultless plan inside sayable)
-    ∙ ap Some (plan-back plan inside sayable)
+config-back plan text inside sayable reads = rw (reads, shape-back plan inside sayable, faultless plan inside sayable, plan-back plan inside sayable) refl

@@ -19,7 +19,7 @@ returns-in_err-core_stimuli_of c =
     let is = rest_more deref_pair c.loop-key.key-iterator c.next.new.self c.next.result (c.in-Some.key, c.in-Some.value) c.in-Some.is c.next.ensures.steps in
     let here = rw c.as_str.ensures.value at c.in_err-core_stimuli_of.ensures in
     rw (p.1, p.2, entries-members_view c.args.members.now.entries, each-map (core_stimuli_of c.args.plan.now) entry_view c.args.members.now.entries)
-    (each-stop (read c.args.plan.now) (c.in-Some.key.now, c.in-Some.value.now) c.next.new.self c.loop-key.key-iterator c.loop-key.stimuli _ c.in_err-core_stimuli_of.field-0.0 is here c.loop-key.invariant)
+    (each-stop (read c.args.plan.now) c.loop-key.stimuli is c.in_err-core_stimuli_of.field-0.0 here c.loop-key.invariant)
 
 pub loop-key-init : goal.loop-key-init
 loop-key-init c =
@@ -30,10 +30,10 @@ pub loop-key-preserved : goal.loop-key-preserved
 loop-key-preserved c =
     let is = rest_more deref_pair c.loop-key.key-iterator c.next.new.self c.next.result (c.in-Some.key, c.in-Some.value) c.in-Some.is c.next.ensures.steps in
     let here = rw c.as_str.ensures.value at c.in_ok-core_stimuli_of.ensures in
-    rw c.in_ok-push.ensures.ok (each-more (read c.args.plan.now) (c.in-Some.key.now, c.in-Some.value.now) c.next.new.self c.loop-key.key-iterator c.loop-key.stimuli _ c.in_ok-core_stimuli_of.field-0 is here c.loop-key.invariant)
+    rw c.in_ok-push.ensures.ok (each-more (read c.args.plan.now) c.loop-key.stimuli is c.in_ok-core_stimuli_of.field-0 here c.loop-key.invariant)
 
 pub returns : goal.returns
 returns c =
     let is = rest_all deref_pair c.loop-key.key-iterator c.next.new.self c.next.result c.in-None.is c.next.ensures.steps in
     rw (entries-members_view c.args.members.now.entries, each-map (core_stimuli_of c.args.plan.now) entry_view c.args.members.now.entries)
-    (each-end (read c.args.plan.now) c.loop-key.key-iterator c.loop-key.stimuli _ is c.loop-key.invariant)
+    (each-end (read c.args.plan.now) is c.loop-key.invariant)

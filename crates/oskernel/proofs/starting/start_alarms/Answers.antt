@@ -1,6 +1,6 @@
-use Rattle.std.proofs.Common.{◌≡◌, ◌<◌, ◌^◌, ℕ, Some, IsTrue, rules, sym, subst, arith}
+use Rattle.std.proofs.Common.{◌≡◌, ℕ, Some, rules, subst, arith}
 use Rattle.std.specs.List.{slice_get}
-use Rattle.osplan.specs.{declared.plans.Core.Core, Clocked.are_clocks_within, View.View}
+use Rattle.osplan.specs.{declared.plans.Core.Core}
 use Rattle.osacts.specs.Steps.{QuietSteps}
 use Rattle.oskernel.specs.{Step.autostarts_alarm, Taking.agreement_on}
 use Rattle.osservice.proofs.Numbered.{all-noted, object-at, one-noted}
@@ -11,9 +11,7 @@ autostart_alarm-requires g c =
     let before = c.loop-alarm.invariant in
     let own : slice_get c.loop-alarm.state.view.own.alarms c.loop-alarm.index ≡ Some c.alarm-item.result =
     object-at (autostarts_alarm (Some (agreement_on c.args.mode))) (λ (core : Core). core.alarms) c.args.state.now c.loop-alarm.state c.alarms-alarms.result.now c.loop-alarm.index c.loop-alarm.alarm-index c.alarm-item.result c.alarms-alarms.ensures.value before.steps.view before.place c.loop-alarm-test.true c.alarm-item.is in
-    let within : IsTrue (are_clocks_within c.loop-alarm.state.view.own) = subst (λ (w : View). IsTrue (are_clocks_within w.own)) (sym before.steps.view) c.alarms-alarms.ensures.within in
-    let count : c.loop-alarm.state.progress.entries < 2 ^ 63 = omega (arith, before.steps.count, c.requires.count, c.loop-alarm-test.true, c.alarms-alarms.ensures.few) in
-    search (rules, own, within, count)
+    search (rules, arith, own)
 
 pub loop-alarm-preserved : goal.loop-alarm-preserved
 loop-alarm-preserved g c = record {

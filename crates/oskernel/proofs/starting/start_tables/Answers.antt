@@ -1,6 +1,6 @@
-use Rattle.std.proofs.Common.{◌≡◌, ◌<◌, ◌^◌, ℕ, Some, IsTrue, rules, sym, subst, arith}
+use Rattle.std.proofs.Common.{◌≡◌, ℕ, Some, rules, subst, arith}
 use Rattle.std.specs.List.{slice_get}
-use Rattle.osplan.specs.{declared.plans.Core.Core, Clocked.are_clocks_within, View.View}
+use Rattle.osplan.specs.{declared.plans.Core.Core}
 use Rattle.osacts.specs.Steps.{QuietSteps}
 use Rattle.oskernel.specs.{Step.autostarts_table, Taking.agreement_on}
 use Rattle.osservice.proofs.Numbered.{all-noted, object-at, one-noted}
@@ -11,9 +11,7 @@ autostart_table-requires g c =
     let before = c.loop-table.invariant in
     let own : slice_get c.loop-table.state.view.own.tables c.loop-table.index ≡ Some c.table-item.result =
     object-at (autostarts_table (Some (agreement_on c.args.mode))) (λ (core : Core). core.tables) c.args.state.now c.loop-table.state c.tables-tables.result.now c.loop-table.index c.loop-table.table-index c.table-item.result c.tables-tables.ensures.value before.steps.view before.place c.loop-table-test.true c.table-item.is in
-    let within : IsTrue (are_clocks_within c.loop-table.state.view.own) = subst (λ (w : View). IsTrue (are_clocks_within w.own)) (sym before.steps.view) c.tables-tables.ensures.within in
-    let count : c.loop-table.state.progress.entries < 2 ^ 63 = omega (arith, before.steps.count, c.requires.count, c.loop-table-test.true, c.tables-tables.ensures.few) in
-    search (rules, own, within, count)
+    search (rules, arith, own)
 
 pub loop-table-preserved : goal.loop-table-preserved
 loop-table-preserved g c = record {

@@ -1,84 +1,36 @@
-use Rattle.std.proofs.Common.{◌≡◌, ◌<◌, ◌∙◌, Some, length, set, sym, ap, arith}
-use Rattle.osbase.specs.declared.references.CoreId.{CoreId}
-use Rattle.osmail.specs.Rings.{core_at, core_of_end}
-use Rattle.osmail.proofs.Making.{cores_kept, free_kept, free_made, made_after, place_after, place_for}
-use Rattle.osmail.proofs.Through.{read_at}
+use Rattle.std.proofs.Common.{◌<◌, length, arith}
+use Rattle.osmail.specs.Rings.{core_of_end}
+use Rattle.osmail.proofs.{Making.one_ring_more, Making.place_after, Making.place_for, Through.read_at}
 use Rattle.osmail.proofs.rings.link.Goals as goal
 
 pub attach_sender-requires : goal.attach_sender-requires
 attach_sender-requires c =
-    let ends = c.args.ends.now.items in
-    let within : c.args.from < length ends = omega (arith, c.requires.from, c.args.ends.now.ok.0) in
-    let within' : c.args.to < length ends = omega (arith, c.requires.to, c.args.ends.now.ok.0) in
-    place_for ends c.args.from c.args.to c.index_mut.result.now c.index-2.result.now within within' c.requires.made c.index_mut.ensures.value c.index-2.ensures
+    let ends = c.args.ends.now in
+    let within : c.args.from < length ends.items = omega (arith, c.requires.from, ends.ok.0) in
+    let within' : c.args.to < length ends.items = omega (arith, c.requires.to, ends.ok.0) in
+    place_for ends.items c.args.from c.args.to c.index_mut.result.now c.index-2.result.now within within' c.requires.made c.index_mut.ensures.value c.index-2.ensures
 
 pub attach_taker-requires : goal.attach_taker-requires
 attach_taker-requires c =
-    let ends = c.args.ends.now.items in
-    let within : c.args.from < length ends = omega (arith, c.requires.from, c.args.ends.now.ok.0) in
-    let within' : c.args.to < length ends = omega (arith, c.requires.to, c.args.ends.now.ok.0) in
-    place_after ends c.args.from c.args.to c.index_mut.result.now c.attach_sender.new.self c.index_mut-2.result.now c.index.result.now within within' c.requires.made c.index_mut.ensures.value c.attach_sender.ensures.from c.index_mut-2.ensures.value c.index.ensures
+    let ends = c.args.ends.now in
+    let within : c.args.from < length ends.items = omega (arith, c.requires.from, ends.ok.0) in
+    let within' : c.args.to < length ends.items = omega (arith, c.requires.to, ends.ok.0) in
+    let taker = read_at core_of_end ends.items c.args.to c.index-2.result.now (record { number = 0 }) within' c.index-2.ensures in
+    let sent = c.attach_sender.ensures in
+    place_after ends.items c.args.from c.args.to c.index_mut.result.now c.attach_sender.new.self c.in_ok-sending.sending within within' c.requires.made c.index_mut.ensures.value sent.core (rw taker sent.to) sent.from
+    c.index_mut-2.result.now c.index.result.now c.index_mut-2.ensures.value c.index.ensures
 
-pub returns-clause-made : goal.returns-clause-made
-returns-clause-made c =
-    let ends = c.args.ends.now.items in
-    let within : c.args.from < length ends = omega (arith, c.requires.from, c.args.ends.now.ok.0) in
-    let within' : c.args.to < length ends = omega (arith, c.requires.to, c.args.ends.now.ok.0) in
-    let e = c.index_mut.result.now in
-    let g = c.index_mut-2.result.now in
-    let p = c.in_ok-sending.sending in
-    let t = c.in_ok-sending.taking in
-    let made = c.in_ok-sending.ensures in
-    let sender : core_at ends c.args.from ≡ c.index.result.now.core = read_at core_of_end ends c.args.from c.index.result.now (record { number = 0 }) within c.index.ensures in
-    let taker : core_at ends c.args.to ≡ c.index-2.result.now.core = read_at core_of_end ends c.args.to c.index-2.result.now (record { number = 0 }) within' c.index-2.ensures in
-    let to : c.attach_sender.new.self.to.items ≡ set e.to.items (core_at ends c.args.to).number (Some p) = c.attach_sender.ensures.to ∙ sym (ap (λ (d : CoreId). set e.to.items d.number (Some p)) taker) in
-    let from : c.attach_taker.new.self.from.items ≡ set g.from.items (core_at ends c.args.from).number (Some t) = c.attach_taker.ensures.from ∙ sym (ap (λ (s : CoreId). set g.from.items s.number (Some t)) sender) in
-    made_after ends c.args.from c.args.to e c.attach_sender.new.self g c.attach_taker.new.self p t within within' c.requires.made c.index_mut.ensures.value c.attach_sender.ensures.core to c.attach_sender.ensures.from c.index_mut-2.ensures.value c.attach_taker.ensures.core c.attach_taker.ensures.to from made.pair made.producer.0 made.consumer.0
-
-pub returns-clause-cores : goal.returns-clause-cores
-returns-clause-cores c =
-    let ends = c.args.ends.now.items in
-    let within : c.args.from < length ends = omega (arith, c.requires.from, c.args.ends.now.ok.0) in
-    let within' : c.args.to < length ends = omega (arith, c.requires.to, c.args.ends.now.ok.0) in
-    let e = c.index_mut.result.now in
-    let g = c.index_mut-2.result.now in
-    let p = c.in_ok-sending.sending in
-    let t = c.in_ok-sending.taking in
-    let made = c.in_ok-sending.ensures in
-    let sender : core_at ends c.args.from ≡ c.index.result.now.core = read_at core_of_end ends c.args.from c.index.result.now (record { number = 0 }) within c.index.ensures in
-    let taker : core_at ends c.args.to ≡ c.index-2.result.now.core = read_at core_of_end ends c.args.to c.index-2.result.now (record { number = 0 }) within' c.index-2.ensures in
-    let to : c.attach_sender.new.self.to.items ≡ set e.to.items (core_at ends c.args.to).number (Some p) = c.attach_sender.ensures.to ∙ sym (ap (λ (d : CoreId). set e.to.items d.number (Some p)) taker) in
-    let from : c.attach_taker.new.self.from.items ≡ set g.from.items (core_at ends c.args.from).number (Some t) = c.attach_taker.ensures.from ∙ sym (ap (λ (s : CoreId). set g.from.items s.number (Some t)) sender) in
-    cores_kept ends c.args.from c.args.to e c.attach_sender.new.self g c.attach_taker.new.self p t within within' c.requires.made c.index_mut.ensures.value c.attach_sender.ensures.core to c.attach_sender.ensures.from c.index_mut-2.ensures.value c.attach_taker.ensures.core c.attach_taker.ensures.to from made.pair made.producer.0 made.consumer.0
-
-pub returns-clause-keeps : goal.returns-clause-keeps
-returns-clause-keeps c =
-    let ends = c.args.ends.now.items in
-    let within : c.args.from < length ends = omega (arith, c.requires.from, c.args.ends.now.ok.0) in
-    let within' : c.args.to < length ends = omega (arith, c.requires.to, c.args.ends.now.ok.0) in
-    let e = c.index_mut.result.now in
-    let g = c.index_mut-2.result.now in
-    let p = c.in_ok-sending.sending in
-    let t = c.in_ok-sending.taking in
-    let made = c.in_ok-sending.ensures in
-    let sender : core_at ends c.args.from ≡ c.index.result.now.core = read_at core_of_end ends c.args.from c.index.result.now (record { number = 0 }) within c.index.ensures in
-    let taker : core_at ends c.args.to ≡ c.index-2.result.now.core = read_at core_of_end ends c.args.to c.index-2.result.now (record { number = 0 }) within' c.index-2.ensures in
-    let to : c.attach_sender.new.self.to.items ≡ set e.to.items (core_at ends c.args.to).number (Some p) = c.attach_sender.ensures.to ∙ sym (ap (λ (d : CoreId). set e.to.items d.number (Some p)) taker) in
-    let from : c.attach_taker.new.self.from.items ≡ set g.from.items (core_at ends c.args.from).number (Some t) = c.attach_taker.ensures.from ∙ sym (ap (λ (s : CoreId). set g.from.items s.number (Some t)) sender) in
-    free_kept ends c.args.from c.args.to e c.attach_sender.new.self g c.attach_taker.new.self p t within within' c.requires.made c.index_mut.ensures.value c.attach_sender.ensures.core to c.attach_sender.ensures.from c.index_mut-2.ensures.value c.attach_taker.ensures.core c.attach_taker.ensures.to from made.pair made.producer.0 made.consumer.0 c.args.cap made.producer.1
-
-pub returns-clause-room : goal.returns-clause-room
-returns-clause-room c =
-    let ends = c.args.ends.now.items in
-    let within : c.args.from < length ends = omega (arith, c.requires.from, c.args.ends.now.ok.0) in
-    let within' : c.args.to < length ends = omega (arith, c.requires.to, c.args.ends.now.ok.0) in
-    let e = c.index_mut.result.now in
-    let g = c.index_mut-2.result.now in
-    let p = c.in_ok-sending.sending in
-    let t = c.in_ok-sending.taking in
-    let made = c.in_ok-sending.ensures in
-    let sender : core_at ends c.args.from ≡ c.index.result.now.core = read_at core_of_end ends c.args.from c.index.result.now (record { number = 0 }) within c.index.ensures in
-    let taker : core_at ends c.args.to ≡ c.index-2.result.now.core = read_at core_of_end ends c.args.to c.index-2.result.now (record { number = 0 }) within' c.index-2.ensures in
-    let to : c.attach_sender.new.self.to.items ≡ set e.to.items (core_at ends c.args.to).number (Some p) = c.attach_sender.ensures.to ∙ sym (ap (λ (d : CoreId). set e.to.items d.number (Some p)) taker) in
-    let from : c.attach_taker.new.self.from.items ≡ set g.from.items (core_at ends c.args.from).number (Some t) = c.attach_taker.ensures.from ∙ sym (ap (λ (s : CoreId). set g.from.items s.number (Some t)) sender) in
-    free_made ends c.args.from c.args.to e c.attach_sender.new.self g c.attach_taker.new.self p t within within' c.requires.made c.index_mut.ensures.value c.attach_sender.ensures.core to c.attach_sender.ensures.from c.index_mut-2.ensures.value c.attach_taker.ensures.core c.attach_taker.ensures.to from made.pair made.producer.0 made.consumer.0 c.args.cap made.producer.1
+pub returns : goal.returns
+returns c =
+    let ends = c.args.ends.now in
+    let within : c.args.from < length ends.items = omega (arith, c.requires.from, ends.ok.0) in
+    let within' : c.args.to < length ends.items = omega (arith, c.requires.to, ends.ok.0) in
+    let sender = read_at core_of_end ends.items c.args.from c.index.result.now (record { number = 0 }) within c.index.ensures in
+    let taker = read_at core_of_end ends.items c.args.to c.index-2.result.now (record { number = 0 }) within' c.index-2.ensures in
+    let ring = c.in_ok-sending.ensures in
+    let sent = c.attach_sender.ensures in
+    let took = c.attach_taker.ensures in
+    let after = one_ring_more ends.items c.args.from c.args.to c.index_mut.result.now c.attach_sender.new.self c.in_ok-sending.sending within within' c.requires.made c.index_mut.ensures.value sent.core (rw taker sent.to) sent.from
+    c.index_mut-2.result.now c.attach_taker.new.self c.in_ok-sending.taking c.index_mut-2.ensures.value took.core took.to (rw sender took.from) ring.pair ring.producer.0 ring.consumer.0 in
+    let free = after.2 c.args.cap ring.producer.1 in
+    record { made = after.0; cores = after.1; keeps = free.0; room = free.1 }

@@ -3,7 +3,8 @@ use Rattle.std.proofs.lemmas.List.{length-map}
 use Rattle.std.specs.List.{AllByRecursion}
 use Rattle.osbase.specs.declared.references.CoreId.{CoreId}
 use Rattle.osmail.specs.Rings.{core_of_end, free_at}
-use Rattle.osmail.proofs.{Making.next_below, Making.room_all, Through.all-map}
+use borrow.Author.Count.{below_more}
+use Rattle.osmail.proofs.{Making.room_all, Through.all-map}
 use Rattle.osmail.proofs.rings.linked_ends.Goals as goal
 
 pub loop-from-preserved : goal.loop-from-preserved
@@ -17,7 +18,7 @@ loop-from-preserved c =
       omega (arith, count, length-map was.items core_of_end, length-map new.items core_of_end, new.ok.0, was.ok.0, inv.0),
       did.made,
       did.cores ∙ inv.2,
-      next_below (λ (i : ℕ). AllByRecursion (λ (d : CoreId). free_at new.items i d ≡ c.args.cap) cores) c.loop-from.from
+      below_more (λ (i : ℕ). AllByRecursion (λ (d : CoreId). free_at new.items i d ≡ c.args.cap) cores) c.loop-from.from
           (λ i below. all-map (λ (d : CoreId). free_at was.items i d ≡ c.args.cap) (λ (d : CoreId). free_at new.items i d ≡ c.args.cap) cores (λ d free. did.keeps i d free) (inv.3 i below))
           (subst (AllByRecursion (λ (d : CoreId). free_at new.items c.loop-from.from d ≡ c.args.cap)) inv.2 did.room),
     )

@@ -5,16 +5,13 @@ use Rattle.osworld.specs.Runs.{AreReports}
 use Rattle.osworld.proofs.Ordered.{no_others, ordered}
 use Rattle.osworld.proofs.orders.order.Goals as goal
 
-pub returns-then-are_same-clause-reports : goal.returns-then-are_same-clause-reports
-returns-then-are_same-clause-reports c =
-    let same : lists_in c.in-Ok.listed.items ≡ lists_in c.args.reports.now = ap lists_in (sym c.as_slice-2.ensures.value) ∙ c.are_same.ensures.0 c.if-are_same.true in
-    let world : AreReports c.args.config.now c.args.stimuli.now c.in_ok-schedule.schedule c.in-Ok.listed.items =
-    subst (λ (turns : List (CoreId × Choice)). AreReports c.args.config.now c.args.stimuli.now turns c.in-Ok.listed.items) c.as_slice.ensures c.in-Ok.ensures.world in
-    ordered c.args.config.now c.args.stimuli.now c.in_ok-schedule.schedule c.in-Ok.listed.items c.args.reports.now world c.requires.own same
-
-pub returns-then-are_same-clause-no_others : goal.returns-then-are_same-clause-no_others
-returns-then-are_same-clause-no_others c =
-    let same : lists_in c.in-Ok.listed.items ≡ lists_in c.args.reports.now = ap lists_in (sym c.as_slice-2.ensures.value) ∙ c.are_same.ensures.0 c.if-are_same.true in
-    let world : AreReports c.args.config.now c.args.stimuli.now c.in_ok-schedule.schedule c.in-Ok.listed.items =
-    subst (λ (turns : List (CoreId × Choice)). AreReports c.args.config.now c.args.stimuli.now turns c.in-Ok.listed.items) c.as_slice.ensures c.in-Ok.ensures.world in
-    no_others c.args.config.now c.args.stimuli.now c.in_ok-schedule.schedule c.in-Ok.listed.items c.args.reports.now world c.requires.own same
+pub returns-then-are_same : goal.returns-then-are_same
+returns-then-are_same c =
+    let config = c.args.config.now in
+    let stimuli = c.args.stimuli.now in
+    let listed = c.in-Ok.listed.items in
+    let reports = c.args.reports.now in
+    let turns = c.in_ok-schedule.schedule in
+    let same : lists_in listed ≡ lists_in reports = ap lists_in (sym c.as_slice-2.ensures.value) ∙ c.are_same.ensures.0 c.if-are_same.true in
+    let world : AreReports config stimuli turns listed = subst (λ (ts : List (CoreId × Choice)). AreReports config stimuli ts listed) c.as_slice.ensures c.in-Ok.ensures.world in
+    record { reports = ordered config stimuli turns listed reports world c.requires.own same; no_others = no_others config stimuli turns listed reports world c.requires.own same }

@@ -1,8 +1,6 @@
-use Rattle.std.proofs.Common.{◌≤◌, ◌^◌, refl, ap, ◌∙◌, arith, Bor}
-use Rattle.osplan.specs.declared.plans.Plan.{Plan}
-use Rattle.osworld.specs.Runs.{round_by}
+use Rattle.std.proofs.Common.{◌≤◌, ◌^◌, refl, ◌∙◌, arith}
 use Rattle.osworld.proofs.Turned.{on_err}
-use Rattle.osworld.proofs.Default.{default-cut, default-played, round-cut, round-played, too_many, underway-first, underway-on}
+use Rattle.osworld.proofs.Default.{default-cut, default-played, too_many, underway-first, underway-on}
 use Rattle.osworld.proofs.runs.play_rounds.Goals as goal
 
 pub loop-rounds-init : goal.loop-rounds-init
@@ -12,14 +10,12 @@ pub returns-in_err-changed-clause-err : goal.returns-in_err-changed-clause-err
 returns-in_err-changed-clause-err c =
     on_err c.from_residual.result (λ stimuli plays.
     let underway = c.loop-rounds.invariant.3 stimuli plays in
-    default-cut c.args.world.now.config.now stimuli c.loop-rounds.rounds _ _ underway _ _
-    (round-cut c.args.world.now.config.now c.loop-rounds.world.config.now (ap (λ (b : Bor Plan). b.now) c.loop-rounds.invariant.0) stimuli (round_by c.args.ids.now) c.requires.round _ _ _ _ _ underway.plays (c.in_err-changed.ensures.err stimuli)))
+    default-cut c.args.world.now.config.now stimuli c.loop-rounds.rounds _ _ underway _ _ (rw c.requires.round at ((rw c.loop-rounds.invariant.0 at (c.in_err-changed.ensures.err stimuli)) _ underway.plays)))
 
 pub returns-then-is_over-changed-clause-ok : goal.returns-then-is_over-changed-clause-ok
 returns-then-is_over-changed-clause-ok c stimuli plays =
     let underway = c.loop-rounds.invariant.3 stimuli plays in
-    default-played c.args.world.now.config.now stimuli c.loop-rounds.rounds _ _ underway c.in_ok-changed.changed c.is_over.result _ _
-    (round-played c.args.world.now.config.now c.loop-rounds.world.config.now (ap (λ (b : Bor Plan). b.now) c.loop-rounds.invariant.0) stimuli (round_by c.args.ids.now) c.requires.round _ _ _ _ _ underway.plays c.in_ok-changed.changed (c.in_ok-changed.ensures.ok stimuli))
+    default-played c.args.world.now.config.now stimuli c.loop-rounds.rounds _ _ underway c.in_ok-changed.changed c.is_over.result _ _ (rw c.requires.round at ((rw c.loop-rounds.invariant.0 at (c.in_ok-changed.ensures.ok stimuli)) _ underway.plays))
     c.is_over.ensures c.if-is_over-changed.true
 
 pub loop-rounds-preserved : goal.loop-rounds-preserved
@@ -29,8 +25,7 @@ loop-rounds-preserved c = (
   c.in_ok-changed.ensures.len ∙ c.loop-rounds.invariant.2,
   λ stimuli plays.
       let underway = c.loop-rounds.invariant.3 stimuli plays in
-      underway-on c.args.world.now.config.now stimuli c.loop-rounds.rounds _ _ underway c.in_ok-changed.changed c.is_over.result _ _
-      (round-played c.args.world.now.config.now c.loop-rounds.world.config.now (ap (λ (b : Bor Plan). b.now) c.loop-rounds.invariant.0) stimuli (round_by c.args.ids.now) c.requires.round _ _ _ _ _ underway.plays c.in_ok-changed.changed (c.in_ok-changed.ensures.ok stimuli))
+      underway-on c.args.world.now.config.now stimuli c.loop-rounds.rounds _ _ underway c.in_ok-changed.changed c.is_over.result _ _ (rw c.requires.round at ((rw c.loop-rounds.invariant.0 at (c.in_ok-changed.ensures.ok stimuli)) _ underway.plays))
       c.is_over.ensures c.if-is_over-changed.false,
 )
 

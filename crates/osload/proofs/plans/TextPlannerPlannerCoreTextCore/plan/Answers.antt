@@ -1,12 +1,6 @@
-use Rattle.std.proofs.{Common.◌∙◌, Common.refl, Common.arith, lemmas.Bool.and_from, lemmas.Grind.common_steps}
+use Rattle.std.proofs.{Common.◌∙◌, Common.refl, lemmas.Bool.and_from}
 use Rattle.osvalidate.proofs.Counting.{core_shorts}
 use Rattle.osload.proofs.plans.TextPlannerPlannerCoreTextCore.plan.Goals as goal
-
-pub returns-in_err-tasks : goal.returns-in_err-tasks
-returns-in_err-tasks c = grind (arith, common_steps, core_shorts c.args.core.now)
-
-pub returns-in_err-isrs : goal.returns-in_err-isrs
-returns-in_err-isrs c = grind (arith, common_steps, core_shorts c.args.core.now)
 
 pub returns : goal.returns
 returns c =

@@ -1,6 +1,6 @@
-use Rattle.std.proofs.Common.{◌≡◌, List, [], ◌∷◌, ◌++◌, ap, sym, subst, ◌∙◌, append_assoc}
+use Rattle.std.proofs.Common.{◌≡◌, [], ◌∷◌, ap, sym, ◌∙◌, append_assoc}
 use Rattle.std.proofs.lemmas.List.{nil_from_length}
-use Rattle.osshared.specs.Seats.{Held, Place, AllAt, AllApart, cores_of, IsOneHistory}
+use Rattle.osshared.specs.Seats.{Held, Place, AllApart, cores_of}
 use Rattle.osshared.specs.Views.{held_at}
 use Rattle.osshared.proofs.Moves.{joins, looks}
 use Rattle.osshared.proofs.Gathers.{all_at_last, gathers_one, gathers_more, finishes, no_seats}
@@ -12,11 +12,10 @@ returns-in_default g c = no_seats g.O.SharedObject.object c.args.self.now.plan c
 pub loop-next-init : goal.loop-next-init
 loop-next-init g c =
     let seat = c.last.inside.seat in
-    let items : c.args.seats.items ≡ c.pop.new.self.items ++ c.in-Some.last ∷ [] = c.in-Some.ensures.items in
-    let at = all_at_last c.args.self.now c.pop.new.self.items c.in-Some.last (subst (λ (l : List (Held _ _ _)). AllAt c.args.self.now l) items c.requires.places) in
+    let at = all_at_last _ _ _ _ c.in-Some.ensures.items c.requires.places in
     let place = ap (λ (h : Held _ _ _). h.place) c.last.view_is ∙ at.1 in (
       held_at seat.table_id c.last.inside.core seat.me ∷ [],
-      items ∙ ap (λ x. c.pop.new.self.items ++ x ∷ []) (sym c.last.view_is),
+      rw (c.last.view_is) c.in-Some.ensures.items,
       gathers_one seat.table_id c.last.inside.core seat.me c.last.invariant,
       at.0,
       ap (λ (p : Place _). p.table) place,
@@ -26,8 +25,7 @@ loop-next-init g c =
 pub join_seat-requires : goal.join_seat-requires
 join_seat-requires g c =
     let inv = c.loop-next.invariant in
-    let items : c.loop-next.seats.items ≡ c.pop-in-loop-next.new.self.items ++ c.in-Some-pop.next ∷ [] = c.in-Some-pop.ensures.items in
-    let at = all_at_last c.args.self.now c.pop-in-loop-next.new.self.items c.in-Some-pop.next (subst (λ (l : List (Held _ _ _)). AllAt c.args.self.now l) items inv.3) in
+    let at = all_at_last _ _ _ _ c.in-Some-pop.ensures.items inv.3 in
     let here = sym (ap (λ (p : Place _). p.table) c.self.view_is) in (
       inv.4 ∙ here,
       ap (λ (p : Place _). p.table) (ap (λ (h : Held _ _ _). h.place) c.next.view_is ∙ at.1) ∙ here,
@@ -40,15 +38,15 @@ pub loop-next-preserved : goal.loop-next-preserved
 loop-next-preserved g c =
     let inv = c.loop-next.invariant in
     let j = c.join_seat.ensures in
+    let view = ap (λ m. m.0) j.2 in
     let other = c.next.inside.seat in
-    let items : c.loop-next.seats.items ≡ c.pop-in-loop-next.new.self.items ++ c.in-Some-pop.next ∷ [] = c.in-Some-pop.ensures.items in
-    let at = all_at_last c.args.self.now c.pop-in-loop-next.new.self.items c.in-Some-pop.next (subst (λ (l : List (Held _ _ _)). AllAt c.args.self.now l) items inv.3) in (
+    let at = all_at_last _ _ _ _ c.in-Some-pop.ensures.items inv.3 in (
       held_at other.table_id c.next.inside.core other.me ∷ inv.0,
-      inv.1 ∙ (ap (λ l. l ++ inv.0) items ∙ (append_assoc c.pop-in-loop-next.new.self.items (c.in-Some-pop.next ∷ []) inv.0 ∙ ap (λ x. c.pop-in-loop-next.new.self.items ++ x ∷ inv.0) (sym c.next.view_is))),
-      gathers_more other.table_id c.next.inside.core c.loop-next.seat.me other.me c.join_seat.new.seat.me inv.0 inv.2 c.next.invariant (ap (λ m. m.0) j.2),
+      rw (inv.1, c.in-Some-pop.ensures.items, c.next.view_is) (append_assoc c.pop-in-loop-next.new.self.items _ inv.0),
+      rw view (gathers_more other.table_id c.next.inside.core c.loop-next.seat.me.0 other.me inv.0 inv.2 c.next.invariant),
       at.0,
       j.0 ∙ inv.4,
-      ap (λ m. m.0.plan) j.2 ∙ inv.5,
+      rw view inv.5,
     )
 
 pub load-requires : goal.load-requires
@@ -64,7 +62,6 @@ pub returns : goal.returns
 returns g c =
     let inv = c.loop-next.invariant in
     let none_left : c.loop-next.seats.items ≡ [] = nil_from_length c.loop-next.seats.items (sym c.loop-next.seats.ok.0 ∙ c.in_default-pop.ensures.cases.0) in
-    let all : c.args.seats.items ≡ inv.0 = inv.1 ∙ ap (λ l. l ++ inv.0) none_left in
-    let apart : AllApart c.args.self.now.plan.cores = subst (λ (p : Place _). AllApart p.plan.cores) c.self.view_is c.self.invariant.1 in
-    subst (λ (l : List (Held _ _ _)). IsOneHistory g.O.SharedObject.object c.args.self.now.plan l) (sym all)
-    (finishes g.O.SharedObject.object c.args.self.now.plan c.loop-next.seat.me c.load.new.seat.me inv.0 inv.2 c.load.ensures.2 inv.5 (ap cores_of (sym all) ∙ c.requires.cores) apart)
+    let all : c.args.seats.items ≡ inv.0 = rw none_left at inv.1 in
+    let apart : AllApart c.args.self.now.plan.cores = rw (← c.self.view_is) c.self.invariant.1 in
+    rw all (finishes g.O.SharedObject.object c.args.self.now.plan c.loop-next.seat.me.0 c.load.new.seat.me.0 inv.0 inv.2 c.load.ensures.2 inv.5 (ap cores_of (sym all) ∙ c.requires.cores) apart)

@@ -4,7 +4,7 @@ use Rattle.osshared.proofs.Gathers.{Gathered}
 use Rattle.osshared.proofs.words.SharedWords.gather.Given as goal
 
 abbrev pub invariant-loop-next : goal.invariant-loop-next
-invariant-loop-next g l = (done : List (Held _ _ _)) × (l.fn.seats.items ≡ l.seats.items ++ done) × Gathered l.seat.me done × AllAt l.fn.self l.seats.items
+invariant-loop-next g l = (done : List (Held _ _ _)) × (l.fn.seats.items ≡ l.seats.items ++ done) × Gathered l.seat.me.0 done × AllAt l.fn.self l.seats.items
     × (l.seat.table_id ≡ l.fn.self.table) × (l.seat.me.0.plan ≡ l.fn.self.plan)
 
 abbrev pub decreases-loop-next : goal.decreases-loop-next

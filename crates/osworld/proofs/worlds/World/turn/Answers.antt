@@ -1,10 +1,10 @@
 use Rattle.std.proofs.Common.{◌≡◌, [], ◌∷◌, subst, sym, ◌∙◌}
-use Rattle.std.proofs.lemmas.Option.{get_or_from_slice_get}
+use Rattle.std.proofs.lemmas.{Option.get_or_from_slice_get, Result.IfOk-weaker, Result.on_err_weaker}
 use Rattle.osbase.specs.{declared.references.CoreId.CoreId, declared.turns.Choice.Choice}
 use Rattle.oskernel.specs.Wants.{watch_in}
-use Rattle.osworld.specs.{Answering.next_by, Playing.IsAnswered, Playing.PlaysTurns, Playing.StopsShort}
+use Rattle.osworld.specs.{Answering.next_by, Playing.IsAnswered, Playing.StopsShort}
 use Rattle.osrun.specs.{Requests.request_and_item, declared.core_runs.CoreRun.CoreRun}
-use Rattle.osworld.proofs.Turned.{if_err, if_ok, nobody-played, unanswered-played}
+use Rattle.osworld.proofs.Turned.{nobody-played, unanswered-played}
 use Rattle.osworld.proofs.worlds.World.turn.Goals as goal
 
 -- what the turn asks, and the answer
@@ -23,14 +23,11 @@ returns-in_default-clause-ok c stimuli w plays =
 
 pub returns-in-Some-request_and_reply-clause-ok : goal.returns-in-Some-request_and_reply-clause-ok
 returns-in-Some-request_and_reply-clause-ok c =
-    if_ok c.take_item.result
-    (λ changed. (core : CoreId) (choice : Choice) → IsAnswered c.args.self.now.config.now c.args.self.now.core_runs.items c.args.self.now.shared c.in-Some.at core choice c.in-Some-request_and_reply.request c.in-Some-request_and_reply.answer → PlaysTurns ((core, choice) ∷ []) c.args.self.now changed c.take_item.new.self)
-    (λ changed. PlaysTurns ((c.args.core, c.args.choice) ∷ []) c.args.self.now changed c.take_item.new.self)
-    (λ changed plays. plays c.args.core c.args.choice (answered c)) c.take_item.ensures.ok
+    IfOk-weaker c.take_item.result _ _ (λ changed plays. plays c.args.core c.args.choice (answered c)) c.take_item.ensures.ok
 
 pub returns-in-Some-request_and_reply-clause-err : goal.returns-in-Some-request_and_reply-clause-err
 returns-in-Some-request_and_reply-clause-err c =
-    if_err c.take_item.result (λ (stops : (core : CoreId) (choice : Choice) → IsAnswered c.args.self.now.config.now c.args.self.now.core_runs.items c.args.self.now.shared c.in-Some.at core choice c.in-Some-request_and_reply.request c.in-Some-request_and_reply.answer → StopsShort ((core, choice) ∷ []) c.args.self.now c.take_item.new.self). stops c.args.core c.args.choice (answered c)) c.take_item.ensures.err
+    on_err_weaker c.take_item.result (λ (stops : (core : CoreId) (choice : Choice) → IsAnswered c.args.self.now.config.now c.args.self.now.core_runs.items c.args.self.now.shared c.in-Some.at core choice c.in-Some-request_and_reply.request c.in-Some-request_and_reply.answer → StopsShort ((core, choice) ∷ []) c.args.self.now c.take_item.new.self). stops c.args.core c.args.choice (answered c)) c.take_item.ensures.err
 
 pub returns-in-None-clause-ok : goal.returns-in-None-clause-ok
 returns-in-None-clause-ok c stimuli w plays =
