@@ -14,6 +14,7 @@ use osstate::CoreState;
 
 /// A task of the core is acted on at once, another core's by a letter without a reply; on a core that was never started nothing
 /// acts, and ErrorHook is called with E_OS_CORE (AUTOSAR SWS OS 4.x, SWS_Os_00632 and SWS_Os_00633).
+#[inline(always)]
 pub fn act<const P: usize, const J: usize, const OUT: usize>(
     state: &mut CoreState<'_, P, J, OUT>,
     call: RemoteCall,
@@ -33,6 +34,7 @@ pub fn act<const P: usize, const J: usize, const OUT: usize>(
 }
 
 // What is refused has no effect but the hook.
+#[inline(always)]
 fn act_here<const P: usize, const J: usize, const OUT: usize>(
     state: &mut CoreState<'_, P, J, OUT>,
     call: RemoteCall,

@@ -76,7 +76,7 @@ impl Course {
 
 /// A job of a task or an ISR. Its stamp is the place in the history of its activation, or of its
 /// last release from waiting: of two jobs the one with the smaller stamp is the older.
-#[derive(Clone, Copy, PartialEq, Eq)]
+#[derive(Clone, Copy, Default, PartialEq, Eq)]
 pub struct Job {
     pub runner: Runner,
     pub stamp: u64,
@@ -122,14 +122,14 @@ pub struct OpenCall {
 
 /// A spinlock that the core got, and the runner whose oldest job has it: none once its release is owed
 /// (AUTOSAR SWS OS 4.x, GetSpinlock).
-#[derive(Clone, Copy, PartialEq, Eq)]
+#[derive(Clone, Copy, Default, PartialEq, Eq)]
 pub struct GotSpinlock {
     pub lock: SpinlockId,
     pub holder: Option<Runner>,
 }
 
 /// A letter of the outbox, and the core that it is for.
-#[derive(Clone, Copy, PartialEq, Eq)]
+#[derive(Clone, Copy, Default, PartialEq, Eq)]
 pub struct Sent {
     pub to: CoreId,
     pub letter: Letter,

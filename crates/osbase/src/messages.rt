@@ -1,7 +1,7 @@
 //! What crosses the border between cores.
 
 ghost use Rattle.std.specs.Prelude.{◌≡◌};
-ghost use Rattle.osbase.specs.Objects.{object_of_call};
+ghost use Rattle.osbase.specs.{declared.messages.Message.Message as MessageValue, declared.statuses.Status.TheVariants.EOk, Objects.object_of_call};
 
 use crate::objects::{Object, Reference};
 use crate::references::{AlarmRef, TaskRef, Variable};
@@ -59,9 +59,18 @@ pub enum Message {
     Value(Status, i64),
 }
 
+impl Default for Message {
+    /// A reply: a place of a list that is not in use holds it.
+    fn default() -> Self
+        ensures { result ≡ MessageValue.Reply EOk }
+    {
+        Message::Reply(Status::EOk)
+    }
+}
+
 /// A message with its number: each ordered pair of cores counts its letters 0, 1, 2 and so on. What a core sends and takes
 /// is a matter of letters alone.
-#[derive(Clone, Copy, Debug, PartialEq, Eq)]
+#[derive(Clone, Copy, Debug, Default, PartialEq, Eq)]
 pub struct Letter {
     pub number: u64,
     pub message: Message,

@@ -2,7 +2,7 @@
 //! core's objects of its kind, in the order of the configuration.
 
 ghost use Rattle.std.specs.Prelude.{◌≡◌};
-ghost use Rattle.osbase.specs.{History.same_runner, Sets.slot_of};
+ghost use Rattle.osbase.specs.{declared.references.Runner.Runner as RunnerValue, History.same_runner, Sets.slot_of};
 
 use crate::limits::TASKS;
 
@@ -13,14 +13,14 @@ pub struct CoreId {
 }
 
 /// A task (OSEK/VDX OS 2.2.3, TaskType).
-#[derive(Clone, Copy, Debug, PartialEq, Eq)]
+#[derive(Clone, Copy, Debug, Default, PartialEq, Eq)]
 pub struct TaskRef {
     pub core: CoreId,
     pub index: u8,
 }
 
 /// A category 2 interrupt service routine (AUTOSAR SWS OS 4.x, ISRType).
-#[derive(Clone, Copy, Debug, PartialEq, Eq)]
+#[derive(Clone, Copy, Debug, Default, PartialEq, Eq)]
 pub struct IsrRef {
     pub core: CoreId,
     pub index: u8,
@@ -55,7 +55,7 @@ pub struct TableRef {
 }
 
 /// A spinlock, which belongs to no core (AUTOSAR SWS OS 4.x, SpinlockIdType).
-#[derive(Clone, Copy, Debug, PartialEq, Eq)]
+#[derive(Clone, Copy, Debug, Default, PartialEq, Eq)]
 pub struct SpinlockId {
     pub index: u8,
 }
@@ -99,5 +99,14 @@ impl Runner {
             (Runner::Isr(isr), Runner::Isr(other)) => isr == other,
             _ => false,
         }
+    }
+}
+
+impl Default for Runner {
+    /// A task: a place of a list that is not in use holds it.
+    fn default() -> Self
+        ensures { result ≡ RunnerValue.Task (record { core = record { number = 0 }; index = 0 }) }
+    {
+        Runner::Task(TaskRef::default())
     }
 }

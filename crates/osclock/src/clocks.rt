@@ -231,7 +231,9 @@ fn set_counter(counters: &mut ArrayVec<Counter, COUNTERS>, counter: CounterRef, 
     counters.as_mut_slice()[usize::from(counter.index)] = value;
 }
 
-// Takes each of a counter's alarms beyond its value, and finds for how many counts none of them is due then.
+// Takes each of a counter's alarms beyond its value, and finds for how many counts none of them is due then. A function of
+// its own has registers for all that this loop needs.
+#[inline(never)]
 fn pass_alarms(
     alarms: &mut ArrayVec<Alarm, ALARMS>,
     attached: &[AlarmRef],

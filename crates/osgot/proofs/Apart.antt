@@ -1,6 +1,6 @@
 -- None of the spinlocks that a core got is among them twice, so there is room for all; and so it stays.
-use Rattle.std.proofs.Common.{◌≡◌, ◌&&◌, ◌||◌, ℕ, zero, suc, ◌≤◌, ◌<◌, nat_eq, nat_lt, Bool, true, false, cond, not, IfSome, Some, option_map, List, [], ◌∷◌, ◌++◌, length, map, take, drop, get_or, refl, ap, sym, subst, ◌∙◌, arith, add-one, drop-cons, ◌+◌}
-use Rattle.std.specs.List.{find, refill, remove, slice_set}
+use Rattle.std.proofs.Common.{◌≡◌, ◌&&◌, ◌||◌, ℕ, suc, ◌≤◌, ◌<◌, nat_eq, nat_lt, Bool, true, false, cond, not, IfSome, Some, option_map, List, [], ◌∷◌, ◌++◌, length, map, take, drop, refl, ap, sym, subst, ◌∙◌, arith}
+use Rattle.std.specs.List.{find, refill}
 use Rattle.std.proofs.{Math.Seq.take-append_seam, lemmas.List.length-map}
 use Rattle.std.proofs.lemmas.Bool.{and_from, and_parts, eqb-true, lt-ltb, ltb-true, not-true, not_from_false, or_from, or_parts}
 use Rattle.osbase.specs.{declared.references.Runner.Runner, declared.references.SpinlockId.SpinlockId, declared.histories.GotSpinlock.GotSpinlock, declared.limits.TheConstants.SPINLOCKS}
@@ -85,12 +85,6 @@ freed l (g ∷ got) apart = by (same_spinlock g.lock l) (freed l got (parts g go
     by true rest = (parts g got apart).rest
     by false rest = together g (without_spinlock l got) (parts g got apart).known (still-not g.lock l got (parts g got apart).other) rest
 
--- The one that is found is taken out.
-pub found : (l : SpinlockId) (got : List GotSpinlock) (n : ℕ) (g : GotSpinlock) → n < length got → g ≡ get_or got n g → same_spinlock g.lock l ≡ true → without_spinlock l got ≡ take n got ++ without_spinlock l (drop n got) → remove got n ≡ without_spinlock l got
-found l got n g h e same first =
-    let rest : drop n got ≡ g ∷ drop (suc n) got = drop-cons got n g h ∙ ap (λ (x : GotSpinlock). x ∷ drop (suc n) got) (sym e) in
-    sym (first ∙ ap (λ (xs : List GotSpinlock). take n got ++ without_spinlock l xs) rest ∙ rw same)
-
 -- ---- others that have them
 
 module _ (f : GotSpinlock → GotSpinlock) (same : (g : GotSpinlock) → (f g).lock ≡ g.lock) where
@@ -124,19 +118,6 @@ known-owed (g ∷ got) apart = by (is_owed g) (known-owed got (parts g got apart
     by false rest = rest
 
 -- ---- each in turn
-
-next-mapped : (f : GotSpinlock → GotSpinlock) (got : List GotSpinlock) (n : ℕ) (x y : GotSpinlock) → n < length got → x ≡ get_or (map f (take n got) ++ drop n got) n x → y ≡ f x
-    → slice_set (map f (take n got) ++ drop n got) n y ≡ map f (take (suc n) got) ++ drop (suc n) got
-next-mapped f [] n x y h at is = absurd (omega (arith, h))
-next-mapped f (g ∷ got) zero x y h at is = ap (λ (z : GotSpinlock). z ∷ got) (is ∙ ap f at)
-next-mapped f (g ∷ got) (suc n) x y h at is = ap (λ (xs : List GotSpinlock). f g ∷ xs) (next-mapped f got n x y (omega (arith, h)) at is)
-
-pub mapped-on : (f : GotSpinlock → GotSpinlock) (got now : List GotSpinlock) (n : ℕ) (x y : GotSpinlock) → n < length got → now ≡ map f (take n got) ++ drop n got → x ≡ get_or now n x → y ≡ f x
-    → slice_set now n y ≡ map f (take (n + 1) got) ++ drop (n + 1) got
-mapped-on f got now n x y h so at is =
-    ap (λ (xs : List GotSpinlock). slice_set xs n y) so
-    ∙ next-mapped f got n x y h (subst (λ (xs : List GotSpinlock). x ≡ get_or xs n x) so at) is
-    ∙ ap (λ (k : ℕ). map f (take k got) ++ drop k got) (sym (add-one n))
 
 -- All are there once they are written back.
 pub written-back : (f : GotSpinlock → GotSpinlock) (got now all : List GotSpinlock) → now ≡ map f got → got ≡ all → refill (length all) all now ≡ map f all

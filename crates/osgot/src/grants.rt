@@ -9,37 +9,10 @@ use arrayvec::ArrayVec;
 use osbase::{GotSpinlock, OpenCall, Runner, SPINLOCKS, SpinlockId};
 use std::marker::Model;
 
-// A spinlock as a place of the list keeps it: with a blank for a place that holds none.
-#[derive(Clone, Copy)]
-struct Slot {
-    got: GotSpinlock,
-}
-
-impl Model for Slot {
-    ghost use Rattle.osbase.specs.declared.histories.GotSpinlock.{GotSpinlock};
-
-    ghost Value = { GotSpinlock };
-
-    ghost view = { λ slot. slot.got };
-
-    ghost inverse = { λ got. record { got = got } };
-}
-
-impl Default for Slot {
-    fn default() -> Self {
-        Slot {
-            got: GotSpinlock {
-                lock: SpinlockId { index: 0 },
-                holder: None,
-            },
-        }
-    }
-}
-
 /// The spinlocks that a core got and did not give back, the newest first. None is among them twice.
 #[derive(Drop)]
 pub struct Grants {
-    got: ArrayVec<Slot, SPINLOCKS>,
+    got: ArrayVec<GotSpinlock, SPINLOCKS>,
 }
 
 impl Model for Grants {
@@ -81,7 +54,7 @@ impl Grants {
             lock,
             holder: Some(call.runner),
         };
-        self.got.insert(0, Slot { got });
+        self.got.insert(0, got);
     }
 
     /// The core gives the spinlock back, if it has it (AUTOSAR SWS OS 4.x, ReleaseSpinlock).
@@ -111,26 +84,29 @@ impl Grants {
     pub fn has(&self, lock: SpinlockId) -> bool
         ensures { result ≡ has_spinlock lock self.now }
     {
-        self.got.as_slice().iter().any(|slot| slot.got.lock == lock)
+        self.got.as_slice().iter().any(|got| got.lock == lock)
     }
 
     /// Whether the runner's job has the spinlock (AUTOSAR SWS OS 4.x, ReleaseSpinlock).
     pub fn is_held(&self, runner: Runner, lock: SpinlockId) -> bool
         ensures { result ≡ is_held_by runner lock self.now }
     {
-        self.got.as_slice().iter().any(|slot| is_got_by(runner, &slot.got) && slot.got.lock == lock)
+        self.got
+            .as_slice()
+            .iter()
+            .any(|got| is_got_by(runner, got) && got.lock == lock)
     }
 
     /// The newest spinlock that the runner's job has.
     pub fn newest_of(&self, runner: Runner) -> Option<SpinlockId>
         ensures { result ≡ newest_of runner self.now }
     {
-        let slot = self
+        let got = self
             .got
             .as_slice()
             .iter()
-            .find(|slot| is_got_by(runner, &slot.got))?;
-        Some(slot.got.lock)
+            .find(|got| is_got_by(runner, got))?;
+        Some(got.lock)
     }
 
     /// The newest spinlock whose release is owed: the next to be given back.
@@ -181,37 +157,37 @@ fn holder_without(runner: Runner, got: &GotSpinlock) -> Option<Runner>
     got.holder
 }
 
-fn owe_by(got: &mut [Slot], runner: Runner)
+fn owe_by(got: &mut [GotSpinlock], runner: Runner)
     ensures { got.new ≡ owed_by runner got.old }
 {
-    for slot in got.iter_mut() {
-        slot.got.holder = holder_without(runner, &slot.got);
+    for spinlock in got.iter_mut() {
+        spinlock.holder = holder_without(runner, spinlock);
     }
 }
 
-fn owe_each(got: &mut [Slot])
+fn owe_each(got: &mut [GotSpinlock])
     ensures { got.new ≡ all_owed got.old }
 {
-    for slot in got.iter_mut() {
-        slot.got.holder = None;
+    for spinlock in got.iter_mut() {
+        spinlock.holder = None;
     }
 }
 
-fn first_owed(got: &[Slot]) -> Option<SpinlockId>
+fn first_owed(got: &[GotSpinlock]) -> Option<SpinlockId>
     ensures { result ≡ newest_owed got.now }
 {
-    let slot = got.iter().find(|slot| slot.got.holder.is_none())?;
-    Some(slot.got.lock)
+    let owed = got.iter().find(|spinlock| spinlock.holder.is_none())?;
+    Some(owed.lock)
 }
 
 // Where the spinlock is, if it is there.
-fn place_of(got: &[Slot], lock: SpinlockId) -> Option<usize>
+fn place_of(got: &[GotSpinlock], lock: SpinlockId) -> Option<usize>
     ensures found { IfSome result (λ place. remove got.now place ≡ without_spinlock lock got.now) }
     ensures within { IfSome result (λ place. place < length got.now) }
     ensures none { IfNone result (without_spinlock lock got.now ≡ got.now) }
 {
-    for (place, slot) in got.iter().enumerate() {
-        if slot.got.lock == lock {
+    for (place, spinlock) in got.iter().enumerate() {
+        if spinlock.lock == lock {
             return Some(place);
         }
     }

@@ -1,24 +1,24 @@
 -- Which jobs have to be compared to find the one to run: the best by the priorities that are configured, the raised one, and of each
 -- task that holds resources the oldest. No other job whose task does not wait beats all of these.
-use Rattle.std.proofs.Common.{◌≡◌, ◌⊎◌, inl, inr, ℕ, ◌≤◌, ◌<◌, nat_lt, not, Bool, true, false, cond, IfSome, Option, Some, None, filter, length, List, [], ◌∷◌, refl, ap, sym, subst, ◌∙◌, arith, ◌||◌, drop, get_or}
-use Rattle.std.specs.{Int.bit_at, List.All, List.slice_get, Option.option_map_or}
+use Rattle.std.proofs.Common.{◌≡◌, ◌⊎◌, inl, inr, ℕ, ◌≤◌, ◌<◌, nat_lt, not, Bool, true, false, cond, IfSome, Option, Some, None, filter, length, List, [], ◌∷◌, refl, ap, sym, subst, ◌∙◌, arith, ◌||◌}
+use Rattle.std.specs.{Int.bit_at, List.All, Option.option_map_or}
 use Rattle.std.proofs.lemmas.Bool.{eqb-true, cases_eq, cases_lt, false≢true, le-ltb, ltb-false, ltb-true}
-use Rattle.std.proofs.{lemmas.List.Elements.All-contains, lemmas.List.Elements.All-nil, lemmas.List.Elements.All-tail, lemmas.Nat.Bits.bit_at-zero}
+use Rattle.std.proofs.{lemmas.List.Elements.All-contains, lemmas.List.Elements.All-nil, lemmas.Nat.Bits.bit_at-zero}
 use Rattle.osbase.specs.{declared.references.CoreId.CoreId, declared.references.TaskRef.TaskRef, declared.references.Runner.Runner, declared.histories.Job.Job, declared.histories.HeldResource.HeldResource, declared.limits.TheConstants.TASKS}
 use Rattle.osbase.specs.declared.references.Runner.TheVariants as Runner
 use Rattle.osbase.specs.History.{first_greatest, is_waiting, greater, greatest_ceiling, oldest, oldest_of, same_job, same_runner}
 use Rattle.osbase.proofs.Same.{same_core-true, same_runner-refl, same_runner-true}
 use Rattle.oscript.specs.Runners.{Row}
 use Rattle.osqueue.specs.declared.ready.Ready.{Ready}
-use Rattle.osqueue.specs.Ordered.{ComesAfter, IsBest, placed, precedes}
-use Rattle.osqueue.proofs.Ordering.{all-placed, is-before, length-placed, placed-all, placed-first}
+use Rattle.osqueue.specs.Ordered.{IsBest, placed}
+use Rattle.osqueue.proofs.Ordering.{all-placed, length-placed, placed-all}
 use Rattle.osplan.specs.declared.plans.Core.{Core}
 use Rattle.osrunner.specs.Rows.{events_in, held_in, row_at}
 use Rattle.osjobs.specs.{Jobs.Ascending, Jobs.Each, Ranking.is_awake_in, Ranking.rank_by}
-use Rattle.osjobs.specs.OwnTasks.{OwnTasks, are_below, is_own_task, own_tasks, priority_of}
+use Rattle.osjobs.specs.OwnTasks.{OwnTasks, is_own_task, own_tasks, priority_of}
 use Rattle.osjobs.specs.Priorities.{highest_of, holds_any, is_preemptable, raised_of, static_priority}
-use Rattle.osjobs.specs.Queue.{AreHolders, AreReady, Beats, IsBestSoFar, IsBetter, OneOf, entry_of, oldest_at, queued}
-use Rattle.osjobs.proofs.{Configured.same-priority, Dominating.dominating, Keeping.IsOwn, Keeping.own-task, Keeping.static-within}
+use Rattle.osjobs.specs.Queue.{AreHolders, Beats, IsBestSoFar, IsBetter, OneOf, entry_of, oldest_at, queued}
+use Rattle.osjobs.proofs.{Configured.same-priority, Dominating.dominating, Keeping.IsOwn, Keeping.own-task}
 
 -- ---- the greater of two
 
@@ -319,23 +319,7 @@ module _ (core : Core) (rows : List Row) (jobs : List Job) (x : Ready) (best : I
 pub none-best : (core : Core) (rows : List Row) (raised : Option Job) (jobs : List Job) → queued (own_tasks core) (is_awake_in rows) jobs ≡ [] → None ≡ first_greatest (rank_by core rows raised) (filter (is_awake_in rows) jobs)
 none-best core rows raised jobs e = sym (ap (first_greatest (rank_by core rows raised)) (none-able (is_awake_in rows) (own_tasks core) jobs e))
 
--- ---- the queue looked at, and what is asked of it
-
-pub put-back-first : (old rest : List Ready) (x : Ready) → IsBest x old → All (ComesAfter x) rest → Some x ≡ slice_get old 0 → rest ≡ drop 1 old → placed x rest ≡ old
-put-back-first [] rest x best ahead first is = cc
-put-back-first (y ∷ ys) rest x best ahead first is =
-    let same : x ≡ y = cc in
-    let left : rest ≡ ys = is in
-    let greatest : All (λ (z : Ready). z.priority ≤ x.priority) rest = subst (All (λ (z : Ready). z.priority ≤ x.priority)) (sym left) (All-tail (λ (z : Ready). z.priority ≤ x.priority) y ys best.greatest) in
-    placed-first x rest (behind rest greatest ahead) ∙ ap (λ (l : List Ready). x ∷ l) left ∙ ap (λ (z : Ready). z ∷ ys) same
-  where
-    behind : (l : List Ready) → All (λ (z : Ready). z.priority ≤ x.priority) l → All (ComesAfter x) l → All (λ (z : Ready). precedes x z ≡ true) l
-    behind l low after k d h = is-before x (get_or l k d) (low k d h) (λ p. after k d h (sym p))
-
-pub ready-low : (priorities room : ℕ) (tasks : OwnTasks) (jobs : List Job) (rows : List Row) (ready : List Ready) (is : AreReady priorities room tasks jobs rows ready) (bound : ℕ) → are_below bound tasks.priorities ≡ true → All (λ (x : Ready). x.priority < bound) ready
-ready-low priorities room tasks jobs rows ready is bound low =
-    subst (All (λ (x : Ready). x.priority < bound)) (sym is.queue)
-    (in-queue (is_awake_in rows) tasks (λ (x : Ready). x.priority < bound) jobs (λ j one a. static-within tasks bound j.runner low (each-at (λ (k : Job). is_own_task tasks k.runner ≡ true) jobs j is.own one)))
+-- ---- what is asked of the raised job
 
 pub raised-one : (core : Core) (way : Option Runner) (current : Option TaskRef) (js : List Job) → IfSome (raised_of core way (oldest_of current js)) (λ j. OneOf j js)
 raised-one core way None js = tt

@@ -6,7 +6,6 @@ ghost use Rattle.osbase.specs.{History.left_by, History.oldest};
 ghost use Rattle.osjobs.specs.{Jobs.is_current, Live.AreCounted};
 
 use crate::live::{self, Counts};
-use crate::slots::JobSlot;
 use osbase::{Job, Runner, TaskRef};
 
 /// The task in the running state, once this one left it.
@@ -45,7 +44,7 @@ pub(crate) fn job_joined(current: Option<TaskRef>, job: Option<Job>, joined: Job
 
 /// The current job, once the oldest job of this task stands behind all others.
 pub(crate) fn job_anew(
-    jobs: &[JobSlot],
+    jobs: &[Job],
     counts: &Counts,
     task: TaskRef,
     current: Option<TaskRef>,

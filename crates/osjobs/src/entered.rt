@@ -3,21 +3,20 @@
 ghost use Rattle.std.specs.Prelude.{◌≡◌, ◌<◌, ◌∷◌, length, remove, IfSome, IfNone};
 ghost use Rattle.osbase.specs.Interrupts.{isr_count, without_isr};
 
-use crate::slots::IsrSlot;
 use arrayvec::ArrayVec;
 use osbase::{ISRS, IsrRef};
 
 /// The oldest job of the ISR is entered.
-pub(crate) fn enter(isrs: &mut ArrayVec<IsrSlot, ISRS>, isr: IsrRef)
+pub(crate) fn enter(isrs: &mut ArrayVec<IsrRef, ISRS>, isr: IsrRef)
     requires room { length (without_isr isr isrs.old.items) < ISRS }
     ensures { isrs.new.items ≡ isr ∷ without_isr isr isrs.old.items }
 {
     leave(isrs, isr);
-    isrs.insert(0, IsrSlot { isr });
+    isrs.insert(0, isr);
 }
 
 /// The job of the ISR, if it was entered, has ended.
-pub(crate) fn leave(isrs: &mut ArrayVec<IsrSlot, ISRS>, isr: IsrRef)
+pub(crate) fn leave(isrs: &mut ArrayVec<IsrRef, ISRS>, isr: IsrRef)
     ensures { isrs.new.items ≡ without_isr isr isrs.old.items }
 {
     if let Some(place) = place_of(isrs.as_slice(), isr) {
@@ -26,15 +25,14 @@ pub(crate) fn leave(isrs: &mut ArrayVec<IsrSlot, ISRS>, isr: IsrRef)
 }
 
 /// How often the ISR is among these.
-pub(crate) fn count(isrs: &[IsrSlot], isr: IsrRef) -> usize
+pub(crate) fn count(isrs: &[IsrRef], isr: IsrRef) -> usize
     ensures { result ≡ isr_count isr isrs.now }
 {
     let mut count = 0;
     let mut place = isrs.len();
     while place > 0 {
         place -= 1;
-        let slot = &isrs[place];
-        if slot.isr == isr {
+        if isrs[place] == isr {
             count += 1;
         }
     }
@@ -42,13 +40,13 @@ pub(crate) fn count(isrs: &[IsrSlot], isr: IsrRef) -> usize
 }
 
 // The first place of the ISR.
-fn place_of(isrs: &[IsrSlot], isr: IsrRef) -> Option<usize>
+fn place_of(isrs: &[IsrRef], isr: IsrRef) -> Option<usize>
     ensures found { IfSome result (λ place. remove isrs.now place ≡ without_isr isr isrs.now) }
     ensures within { IfSome result (λ place. place < length isrs.now) }
     ensures none { IfNone result (without_isr isr isrs.now ≡ isrs.now) }
 {
-    for (place, slot) in isrs.iter().enumerate() {
-        if slot.isr == isr {
+    for (place, other) in isrs.iter().enumerate() {
+        if *other == isr {
             return Some(place);
         }
     }

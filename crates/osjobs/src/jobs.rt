@@ -15,7 +15,6 @@ ghost use Rattle.osqueue.specs.{Ordered.ComesBefore, Ordered.IsBest, declared.re
 use crate::current::{job_anew, job_joined, job_left, left_by};
 use crate::live::{self, Counts};
 use crate::own_tasks::OwnTasks;
-use crate::slots::{IsrSlot, JobSlot};
 use crate::{entered, locks, priorities};
 use arrayvec::ArrayVec;
 use osbase::{
@@ -37,10 +36,10 @@ pub struct Jobs<const P: usize, const J: usize> {
     // The core's tasks, so that a call knows their priorities.
     tasks: OwnTasks,
     // The live jobs of ISRs, in the order of their stamps, and how many each ISR has.
-    isr_jobs: ArrayVec<JobSlot, INTERRUPTS>,
+    isr_jobs: ArrayVec<Job, INTERRUPTS>,
     isr_counts: Counts,
     // The ISRs whose oldest job was entered, the last one first.
-    entered: ArrayVec<IsrSlot, ISRS>,
+    entered: ArrayVec<IsrRef, ISRS>,
     // The task in the running state, and the oldest of its jobs.
     current: Option<TaskRef>,
     current_job: Option<Job>,
@@ -52,7 +51,7 @@ pub struct Jobs<const P: usize, const J: usize> {
     // How many live jobs each task has.
     counts: Counts,
     // The live jobs of tasks, in the order of their stamps. What has no fixed size comes last, which makes proofs about sizes short.
-    jobs: ArrayVec<JobSlot, J>,
+    jobs: ArrayVec<Job, J>,
     // Those of them whose tasks do not wait, each with the priority of its task as it is configured.
     ready: ReadyQueue<P, J>,
 }
@@ -316,11 +315,11 @@ impl<const P: usize, const J: usize> Jobs<P, J> {
     fn entered_job(&self) -> Option<Job>
         ensures { result ≡ oldest_entered self.now.isrs.entered self.now.isrs.live }
     {
-        let slot = self.entered.as_slice().first()?;
+        let isr = self.entered.as_slice().first()?;
         live::oldest(
             self.isr_jobs.as_slice(),
             &self.isr_counts,
-            Runner::Isr(slot.isr),
+            Runner::Isr(*isr),
         )
     }
 
@@ -376,15 +375,14 @@ impl<const P: usize, const J: usize> Jobs<P, J> {
     }
 
     // Of the able jobs of tasks those of greatest current priority, and of these the oldest.
-    fn best_task(&mut self, core: &Core, current: Option<Job>) -> Option<Job>
-        requires tasks { self.old.tasks ≡ own_tasks core.now }
-        requires current { current ≡ current_among self.old }
-        ensures best { result ≡ best_task_among core.now self.old }
+    fn best_task(&self, core: &Core, current: Option<Job>) -> Option<Job>
+        requires tasks { self.now.tasks ≡ own_tasks core.now }
+        requires current { current ≡ current_among self.now }
+        ensures best { result ≡ best_task_among core.now self.now }
         ensures own { IfSome result (λ j. IsTrue (is_own_runner core.now j.runner)) }
-        ensures keeps { self.new ≡ self.old }
     {
         let raised = priorities::raised_of(core, self.giving_way, current);
-        let first = look_first(&mut self.ready);
+        let first = look_first(&self.ready);
         priorities::best_of(
             core,
             &self.rows,
@@ -555,19 +553,13 @@ fn ready_of(tasks: &OwnTasks, job: Job) -> Ready
     }
 }
 
-// The job that waits first for its turn. It is taken out and put back in front.
-fn look_first<const P: usize, const J: usize>(ready: &mut ReadyQueue<P, J>) -> Option<Ready>
-    requires room { length ready.old ≤ J }
-    requires low { All (λ x. x.priority < P) ready.old }
-    requires narrow { All (λ x. x.priority < PRIORITIES) ready.old }
-    ensures best { IfSome result (λ x. IsBest x ready.old) }
-    ensures none { IfNone result (ready.old ≡ []) }
-    ensures same { ready.new ≡ ready.old }
+// The job that waits first for its turn.
+fn look_first<const P: usize, const J: usize>(ready: &ReadyQueue<P, J>) -> Option<Ready>
+    ensures best { IfSome result (λ x. IsBest x ready.now) }
+    ensures none { IfNone result (ready.now ≡ []) }
 {
     let mut reads = Reads::new();
-    let first = ready.pop_best(&mut reads)?;
-    ready.push_front(first, &mut reads);
-    Some(first)
+    ready.best(&mut reads)
 }
 
 // The tasks that hold a resource, once this runner holds one, if it is a task.

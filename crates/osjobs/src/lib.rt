@@ -10,7 +10,6 @@ mod live;
 mod locks;
 mod own_tasks;
 mod priorities;
-mod slots;
 
 pub use jobs::Jobs;
 pub use priorities::{is_extended, static_priority};

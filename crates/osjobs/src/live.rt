@@ -4,7 +4,6 @@ ghost use Rattle.std.specs.Prelude.{◌≡◌, ◌<◌, ◌≤◌, ◌++◌, ◌
 ghost use Rattle.osbase.specs.History.{job_count, oldest, stamped_anew, without_oldest};
 ghost use Rattle.osjobs.specs.Live.{AreCounted};
 
-use crate::slots::JobSlot;
 use arrayvec::ArrayVec;
 use osbase::{Job, RUNNERS, Runner};
 
@@ -13,13 +12,13 @@ use osbase::{Job, RUNNERS, Runner};
 pub(crate) type Counts = [usize; RUNNERS];
 
 /// One job more, behind all others.
-pub(crate) fn push<const J: usize>(jobs: &mut ArrayVec<JobSlot, J>, counts: &mut Counts, job: Job)
+pub(crate) fn push<const J: usize>(jobs: &mut ArrayVec<Job, J>, counts: &mut Counts, job: Job)
     requires room { length jobs.old.items < J }
     requires counted { AreCounted jobs.old.items counts.old }
     ensures jobs { jobs.new.items ≡ jobs.old.items ++ job ∷ [] }
     ensures counted { AreCounted jobs.new.items counts.new }
 {
-    jobs.push(JobSlot { job });
+    jobs.push(job);
     let place = job.runner.slot();
     if place < RUNNERS {
         counts[place] += 1;
@@ -29,7 +28,7 @@ pub(crate) fn push<const J: usize>(jobs: &mut ArrayVec<JobSlot, J>, counts: &mut
 /// Takes the oldest job of this runner, if it has one, out of the list.
 #[inline(always)]
 pub(crate) fn take_oldest<const J: usize>(
-    jobs: &mut ArrayVec<JobSlot, J>,
+    jobs: &mut ArrayVec<Job, J>,
     counts: &mut Counts,
     runner: Runner,
 ) -> Option<Job>
@@ -42,17 +41,17 @@ pub(crate) fn take_oldest<const J: usize>(
 {
     let most = most_of(jobs.as_slice(), counts, runner);
     let place = oldest_place(jobs.as_slice(), runner, most)?;
-    let slot = jobs.remove(place);
+    let job = jobs.remove(place);
     let place = runner.slot();
     if place < RUNNERS {
         counts[place] -= 1;
     }
-    Some(slot.job)
+    Some(job)
 }
 
 /// Gives the oldest job of this runner, if it has one, this stamp, and a place behind all others; and what it was before.
 pub(crate) fn stamp_anew<const J: usize>(
-    jobs: &mut ArrayVec<JobSlot, J>,
+    jobs: &mut ArrayVec<Job, J>,
     counts: &mut Counts,
     runner: Runner,
     stamp: u64,
@@ -68,17 +67,16 @@ pub(crate) fn stamp_anew<const J: usize>(
 }
 
 /// The oldest job of this runner.
-pub(crate) fn oldest(jobs: &[JobSlot], counts: &Counts, runner: Runner) -> Option<Job>
+pub(crate) fn oldest(jobs: &[Job], counts: &Counts, runner: Runner) -> Option<Job>
     requires counted { AreCounted jobs.now counts.now }
     ensures { result ≡ oldest runner jobs.now }
 {
     let place = oldest_place(jobs, runner, most_of(jobs, counts, runner))?;
-    let slot = &jobs[place];
-    Some(slot.job)
+    Some(jobs[place])
 }
 
 /// How many jobs of this runner are live.
-pub(crate) fn count(jobs: &[JobSlot], counts: &Counts, runner: Runner) -> usize
+pub(crate) fn count(jobs: &[Job], counts: &Counts, runner: Runner) -> usize
     requires counted { AreCounted jobs.now counts.now }
     ensures { result ≡ job_count runner jobs.now }
 {
@@ -87,7 +85,7 @@ pub(crate) fn count(jobs: &[JobSlot], counts: &Counts, runner: Runner) -> usize
 
 // How many jobs of this runner there are at most.
 #[inline(always)]
-fn most_of(jobs: &[JobSlot], counts: &Counts, runner: Runner) -> usize
+fn most_of(jobs: &[Job], counts: &Counts, runner: Runner) -> usize
     requires counted { AreCounted jobs.now counts.now }
     ensures { job_count runner jobs.now ≤ result }
 {
@@ -101,7 +99,7 @@ fn most_of(jobs: &[JobSlot], counts: &Counts, runner: Runner) -> usize
 
 // The place of the oldest job of this runner, of which there are so many at most.
 #[inline(always)]
-fn oldest_place(jobs: &[JobSlot], runner: Runner, most: usize) -> Option<usize>
+fn oldest_place(jobs: &[Job], runner: Runner, most: usize) -> Option<usize>
     requires most { job_count runner jobs.now ≤ most }
     ensures found { IfSome result (λ place. remove jobs.now place ≡ without_oldest runner jobs.now) }
     ensures within { IfSome result (λ place. place < length jobs.now) }
@@ -114,8 +112,7 @@ fn oldest_place(jobs: &[JobSlot], runner: Runner, most: usize) -> Option<usize>
     let mut place = jobs.len();
     while place > 0 && left > 0 {
         place -= 1;
-        let slot = &jobs[place];
-        if slot.job.runner.is(runner) {
+        if jobs[place].runner.is(runner) {
             found = Some(place);
             left -= 1;
         }
@@ -124,7 +121,7 @@ fn oldest_place(jobs: &[JobSlot], runner: Runner, most: usize) -> Option<usize>
 }
 
 // How many jobs of this runner there are, which are so many at most.
-fn count_jobs(jobs: &[JobSlot], runner: Runner, most: usize) -> usize
+fn count_jobs(jobs: &[Job], runner: Runner, most: usize) -> usize
     requires most { job_count runner jobs.now ≤ most }
     ensures { result ≡ job_count runner jobs.now }
 {
@@ -132,8 +129,7 @@ fn count_jobs(jobs: &[JobSlot], runner: Runner, most: usize) -> usize
     let mut place = jobs.len();
     while place > 0 && count < most {
         place -= 1;
-        let slot = &jobs[place];
-        if slot.job.runner.is(runner) {
+        if jobs[place].runner.is(runner) {
             count += 1;
         }
     }

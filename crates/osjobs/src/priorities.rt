@@ -10,7 +10,6 @@ ghost use Rattle.osjobs.specs.Queue.{AreHolders, IsBestSoFar, IsBetter, OneOf, q
 ghost use Rattle.osqueue.specs.Ordered.{IsBest};
 
 use crate::live::{self, Counts};
-use crate::slots::JobSlot;
 use osbase::{Job, Runner, TASKS, TaskRef};
 use osplan::own::{isr_of, task_of};
 use osplan::{Core, Task};
@@ -84,7 +83,7 @@ pub(crate) fn best_of(
     raised: Option<Job>,
     first: Option<Ready>,
     holders: u32,
-    jobs: &[JobSlot],
+    jobs: &[Job],
     counts: &Counts,
 ) -> Option<Job>
     requires counted { AreCounted jobs.now counts.now }
@@ -114,7 +113,7 @@ fn best_holder(
     rows: &Rows,
     raised: Option<Job>,
     holders: u32,
-    jobs: &[JobSlot],
+    jobs: &[Job],
     counts: &Counts,
     _front: Job,
     best: Ranked,
@@ -230,7 +229,7 @@ fn level_of(core: &Core, runner: Runner) -> u8
 }
 
 /// Of the jobs of greatest level the first (AUTOSAR SWS OS 4.x, section 7.6).
-pub(crate) fn first_of_level(core: &Core, jobs: &[JobSlot]) -> Option<Job>
+pub(crate) fn first_of_level(core: &Core, jobs: &[Job]) -> Option<Job>
     requires own { All (λ j. IsTrue (is_own_runner core.now j.runner)) jobs.now }
     ensures greatest { result ≡ greatest_job (level_by core.now) jobs.now }
     ensures own { IfSome result (λ j. IsTrue (is_own_runner core.now j.runner)) }
@@ -239,8 +238,7 @@ pub(crate) fn first_of_level(core: &Core, jobs: &[JobSlot]) -> Option<Job>
     let mut place = jobs.len();
     while place > 0 {
         place -= 1;
-        let slot = &jobs[place];
-        best = Some(higher_of(core, slot.job, best));
+        best = Some(higher_of(core, jobs[place], best));
     }
     best
 }

@@ -78,6 +78,7 @@ fn acts_suspended(service: ServiceId) -> bool
 }
 
 // The call that the operation is, or what its family does.
+#[inline(always)]
 fn do_operation<const P: usize, const J: usize, const OUT: usize>(
     state: &mut CoreState<'_, P, J, OUT>,
     step: Step,

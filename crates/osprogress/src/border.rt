@@ -5,9 +5,8 @@ ghost use Rattle.osbase.specs.{declared.limits.TheConstants.CORES, Spins.spins_a
 ghost use Rattle.osbase.specs.History.{Took, closed_by as call_closed_by, open_after, outbox_after};
 ghost use Rattle.osprogress.specs.Border.{is_grant_known, is_posted, is_sender_known, one_more, received_after};
 
-use crate::slots::SentSlot;
 use arrayvec::ArrayVec;
-use osbase::{CORES, CoreId, Item, OpenCall, Runner};
+use osbase::{CORES, CoreId, Item, OpenCall, Runner, Sent};
 use osgot::Grants;
 
 /// What crosses a core's border, with room for `OUT` letters.
@@ -19,7 +18,7 @@ pub struct Border<const OUT: usize> {
     pub queued: [u64; CORES],
     pub received: [u64; CORES],
     pub spins: Grants,
-    pub outbox: ArrayVec<SentSlot, OUT>,
+    pub outbox: ArrayVec<Sent, OUT>,
 }
 
 /// The call that is still open once an operation of this runner is done, or its job has ended.
@@ -57,7 +56,7 @@ pub fn settle_by(spins: &mut Grants, open_call: &mut Option<OpenCall>, item: &It
 }
 
 /// A post takes the front of the outbox.
-pub fn post_by<const OUT: usize>(outbox: &mut ArrayVec<SentSlot, OUT>, item: &Item)
+pub fn post_by<const OUT: usize>(outbox: &mut ArrayVec<Sent, OUT>, item: &Item)
     requires { IsTrue (is_posted item.now) → 0 < length outbox.old.items }
     ensures { outbox.new.items ≡ outbox_after (Took item.now) outbox.old.items }
 {

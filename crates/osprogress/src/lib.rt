@@ -5,8 +5,6 @@
 
 pub mod border;
 pub mod progress;
-pub mod slots;
 
 pub use border::Border;
 pub use progress::Progress;
-pub use slots::SentSlot;

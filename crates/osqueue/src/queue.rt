@@ -101,6 +101,23 @@ impl<const P: usize, const J: usize> ReadyQueue<P, J> {
         }
     }
 
+    /// The job of greatest priority, and of these the one of smallest stamp, which stays where it is. It reads what `pop_best`
+    /// reads.
+    pub fn best(&self, reads: &mut Reads) -> Option<Ready>
+        requires count { reads.old < 2 ^ 48 }
+        ensures best { IfSome result (λ ready. IsBest ready self.now) }
+        ensures none { IfNone result (self.now ≡ []) }
+        ensures first { result ≡ slice_get self.now 0 }
+        ensures reads { reads.new ≡ reads.old + pop_reads result }
+    {
+        let word = self.fronts.word(reads);
+        if word == 0 {
+            return None;
+        }
+        let place = self.fronts.place(greatest(word), reads);
+        Some(self.pool.get(place))
+    }
+
     /// Takes out the job of greatest priority, and of these the one of smallest stamp. It reads the word of priorities and the
     /// front of one queue; the word alone, if no job is ready.
     pub fn pop_best(&mut self, reads: &mut Reads) -> Option<Ready>

@@ -3,7 +3,7 @@
 ghost use Rattle.std.specs.Prelude.{◌≡◌, ◌==◌, ◌||◌, ◌<◌, ◌≤◌, ◌^◌, nat_lt, IsTrue, IsSome, IfSome, false, true, length, nat_le, Some, slice_get, slice_index, sum_by, []};
 ghost use Rattle.std.specs.List.{list_all};
 ghost use Rattle.osbase.specs.{declared.limits.TheConstants.CORES, Interrupts.is_pending_among, Phases.is_before_live, Phases.is_past_first_gate, Sets.has_core};
-ghost use Rattle.osbase.specs.History.{Took, Printed, Noted, Opened, Queued, ResourceOccupied, ResourceReleased, InterruptsSuspended, InterruptsResumed, WentDown, Done, job_count, phase_after, same_core};
+ghost use Rattle.osbase.specs.History.{Took, Printed, Noted, Opened, Queued, ResourceOccupied, ResourceReleased, InterruptsSuspended, InterruptsResumed, WentDown, Done, closed_by, job_count, phase_after, same_core};
 ghost use Rattle.osplan.specs.{declared.plans.Resource.Resource as ResourceValue, declared.plans.Task.Task as TaskValue, Clocked.are_clocks_within, Objects.is_own_object, Stimuli.knows_stimulus, View.core_of, View.is_configured, View.view_of};
 ghost use Rattle.osjobs.specs.{Jobs.is_current, Jobs.is_plain, Locks.is_overheld};
 ghost use Rattle.osrunner.specs.Rows.{depth_in, events_in, frame_in, held_in, is_occupied, row_in, used_in};
@@ -31,8 +31,8 @@ use oscript::{Action, Frame};
 use osgot::Grants;
 use osjobs::Jobs;
 use osplan::{Config, Core, Protection, Task, own};
+use osprogress::Progress;
 use osprogress::border::{self, Border};
-use osprogress::{Progress, SentSlot};
 use ostable::Tables;
 use std::marker::Model;
 
@@ -135,7 +135,7 @@ impl<'a, const P: usize, const J: usize, const OUT: usize> CoreState<'a, P, J, O
     {
         self.jobs.end(task);
         self.border.spins.owe(Runner::Task(task));
-        self.border.open_call = border::closed_by(Runner::Task(task), self.border.open_call);
+        close_call(&mut self.border.open_call, Runner::Task(task));
         self.progress.record(Mark::Terminated(task), marks);
     }
 
@@ -173,7 +173,7 @@ impl<'a, const P: usize, const J: usize, const OUT: usize> CoreState<'a, P, J, O
     {
         self.jobs.end_isr(isr);
         self.border.spins.owe(Runner::Isr(isr));
-        self.border.open_call = border::closed_by(Runner::Isr(isr), self.border.open_call);
+        close_call(&mut self.border.open_call, Runner::Isr(isr));
         self.progress.record(Mark::IsrLeft(isr), marks);
     }
 
@@ -309,9 +309,7 @@ impl<'a, const P: usize, const J: usize, const OUT: usize> CoreState<'a, P, J, O
     {
         let number = self.border.queued[usize::from(to.number)];
         let letter = Letter { number, message };
-        self.border.outbox.push(SentSlot {
-            sent: Sent { to, letter },
-        });
+        self.border.outbox.push(Sent { to, letter });
         border::count_one(&mut self.border.queued, to);
         self.progress.entries += 1;
     }
@@ -360,7 +358,7 @@ impl<'a, const P: usize, const J: usize, const OUT: usize> CoreState<'a, P, J, O
     {
         let script = script_of(self.core, runner);
         self.jobs.complete(script, runner, status, value);
-        self.border.open_call = border::closed_by(runner, self.border.open_call);
+        close_call(&mut self.border.open_call, runner);
         self.progress.entries += 1;
     }
 
@@ -421,8 +419,7 @@ impl<'a, const P: usize, const J: usize, const OUT: usize> CoreState<'a, P, J, O
     pub fn front(&self) -> Option<Sent>
         ensures { result ≡ slice_get self.now.border.outbox 0 }
     {
-        let slot = self.border.outbox.as_slice().first()?;
-        Some(slot.sent)
+        self.border.outbox.as_slice().first().copied()
     }
 
     /// Whether the outbox holds nothing.
@@ -673,5 +670,15 @@ impl<'a, const P: usize, const J: usize, const OUT: usize> CoreState<'a, P, J, O
         ensures known { IsTrue (is_action_known self.now.view.own result) }
     {
         self.jobs.next_action(script_of(self.core, runner), runner)
+    }
+}
+
+// An operation of this runner is done, or its job has ended: its call is open no longer. Mostly no call is open, and then nothing
+// is written.
+fn close_call(open_call: &mut Option<OpenCall>, runner: Runner)
+    ensures { open_call.new ≡ closed_by runner open_call.old }
+{
+    if open_call.is_some() {
+        *open_call = border::closed_by(runner, *open_call);
     }
 }

@@ -1,11 +1,13 @@
-use Rattle.std.proofs.Common.{◌≡◌, ap, cond, sym, ◌∙◌}
+use Rattle.std.proofs.Common.{rules, None, ap, cond, slice_index_or, slice_set, ◌∙◌}
+use Rattle.std.proofs.lemmas.List.{get_or_default}
+use Rattle.std.proofs.lemmas.List.Edits.{map_over_more}
 use Rattle.osbase.specs.{declared.histories.GotSpinlock.GotSpinlock, Spins.is_got_by, Spins.owed}
-use Rattle.osgot.proofs.Apart.{mapped-on}
 use Rattle.osgot.proofs.grants.owe_by.Goals as goal
 
-pub loop-slot-preserved : goal.loop-slot-preserved
-loop-slot-preserved c =
+pub loop-spinlock-preserved : goal.loop-spinlock-preserved
+loop-spinlock-preserved c =
+    let now = c.loop-spinlock.got in
+    let at = c.loop-spinlock.spinlock-index in
+    let none : GotSpinlock = record { lock = record { index = 0 }; holder = None } in
     let f = λ (g : GotSpinlock). cond (is_got_by c.args.runner g) (owed g) g in
-    let here : c.slot.inside.got ≡ c.slot-item.result = c.slot.view_is ∙ sym c.slot-item.is in
-    let after : GotSpinlock = record c.slot.inside.got { holder = c.holder_without-slot-inside.result } in
-    mapped-on f c.args.got.now c.loop-slot.got c.loop-slot.slot-index c.slot-item.result after c.loop-slot-test.true c.loop-slot.invariant c.slot-item.is (c.holder_without-slot-inside.ensures ∙ ap f here)
+    ap (slice_set now at) c.holder_without-spinlock.ensures ∙ map_over_more f c.args.got.now now at (slice_index_or now at none) c.loop-spinlock-test.true c.loop-spinlock.invariant (get_or_default now at none (slice_index_or now at none) (search rules))

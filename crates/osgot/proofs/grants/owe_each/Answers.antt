@@ -1,9 +1,12 @@
-use Rattle.std.proofs.Common.{◌≡◌, ap, sym, ◌∙◌}
-use Rattle.osbase.specs.Spins.{owed}
-use Rattle.osgot.proofs.Apart.{mapped-on}
+use Rattle.std.proofs.Common.{rules, None, slice_index_or}
+use Rattle.std.proofs.lemmas.List.{get_or_default}
+use Rattle.std.proofs.lemmas.List.Edits.{map_over_more}
+use Rattle.osbase.specs.{declared.histories.GotSpinlock.GotSpinlock, Spins.owed}
 use Rattle.osgot.proofs.grants.owe_each.Goals as goal
 
-pub loop-slot-preserved : goal.loop-slot-preserved
-loop-slot-preserved c =
-    let here : c.slot.inside.got ≡ c.slot-item.result = c.slot.view_is ∙ sym c.slot-item.is in
-    mapped-on owed c.args.got.now c.loop-slot.got c.loop-slot.slot-index c.slot-item.result (owed c.slot.inside.got) c.loop-slot-test.true c.loop-slot.invariant c.slot-item.is (ap owed here)
+pub loop-spinlock-preserved : goal.loop-spinlock-preserved
+loop-spinlock-preserved c =
+    let now = c.loop-spinlock.got in
+    let at = c.loop-spinlock.spinlock-index in
+    let none : GotSpinlock = record { lock = record { index = 0 }; holder = None } in
+    map_over_more owed c.args.got.now now at (slice_index_or now at none) c.loop-spinlock-test.true c.loop-spinlock.invariant (get_or_default now at none (slice_index_or now at none) (search rules))

@@ -1,16 +1,10 @@
-use Rattle.std.proofs.Common.{◌≡◌, ◌≤◌, true, IfNone, IfSome, Option, List, [], filter, length, arith, rules, ap, sym, subst, ◌∙◌}
+use Rattle.std.proofs.Common.{◌≡◌, ◌≤◌, true, IfNone, IfSome, Option, List, [], filter, length, ap, sym, subst, ◌∙◌}
 use Rattle.osbase.specs.{declared.histories.Job.Job, History.first_greatest, History.oldest_of, declared.limits.TheConstants.TASKS}
-use Rattle.osqueue.specs.{declared.ready.Ready.Ready, declared.ready.TheConstants.PRIORITIES, Ordered.IsBest}
+use Rattle.osqueue.specs.{declared.ready.Ready.Ready, Ordered.IsBest}
 use Rattle.osjobs.specs.Jobs.{Ascending, Each, JobState, current_among, raised_among}
 use Rattle.osjobs.specs.{OwnTasks.OwnTasks, OwnTasks.is_own_task, OwnTasks.own_tasks, Priorities.raised_of, Queue.OneOf, Queue.queued, Ranking.is_awake_in, Ranking.rank_by}
-use Rattle.osjobs.proofs.{Covering.raised-one, Covering.ready-low, Elders.same-best, Keeping.length-ready}
+use Rattle.osjobs.proofs.{Covering.raised-one, Elders.same-best}
 use Rattle.osjobs.proofs.jobs.Jobs.best_task.Goals as goal
-
-pub look_first-first-requires : goal.look_first-first-requires
-look_first-first-requires g c =
-    let is = c.self.invariant.queue in
-    let room : length c.self.inside.ready ≤ g.row.J = omega (arith, length-ready g.row.P g.row.J _ _ _ _ is, is.few) in
-    (search rules, (room, (ready-low g.row.P g.row.J _ _ _ _ is g.row.P is.low, ready-low g.row.P g.row.J _ _ _ _ is PRIORITIES is.narrow)))
 
 pub best_of-requires-clause-own : goal.best_of-requires-clause-own
 best_of-requires-clause-own g c =

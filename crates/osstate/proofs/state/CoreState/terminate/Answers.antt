@@ -8,7 +8,7 @@ use Rattle.osstate.proofs.{Histories.own-step, Sounds.below, Sounds.terminated}
 use Rattle.osstate.proofs.state.CoreState.terminate.Goals as goal
 
 pub invariant_of-self : goal.invariant_of-self
-invariant_of-self g c = rw (c.end.ensures, c.closed_by-self-inside.ensures, c.owe.ensures, c.record.ensures.progress) (terminated g.row.P g.row.J c.args.task _ c.self.invariant)
+invariant_of-self g c = rw (c.end.ensures, c.close_call.ensures, c.owe.ensures, c.record.ensures.progress) (terminated g.row.P g.row.J c.args.task _ c.self.invariant)
 
 pub returns-clause-state : goal.returns-clause-state
 returns-clause-state g c = own-step (Printed (Mark.Terminated c.args.task)) (subst (IsSound g.row.P g.row.J) c.self.view_is c.self.invariant) c.requires.own (search rules)
