@@ -1,19 +1,19 @@
 -- One turn of a run, as its contract has it.
 use Rattle.std.proofs.Common.{◌≡◌, ℕ, suc, ◌<◌, Bool, true, false, not, Option, Some, None, option_map, slice_get, List, [], ◌∷◌, length, get_or, set, refl, sym, ap, subst, ◌∙◌, arith, nat_eq, Result, Ok, Err}
 use Rattle.std.specs.{Result.OnErr, List.position, List.position_or_len}
-use Rattle.std.proofs.{lemmas.Bool.not-true, lemmas.Option.slice_get_read, lemmas.Bool.Decides.nat_tests, lemmas.List.Elements.All-set, Math.Seq.map-set_same}
+use Rattle.std.proofs.{lemmas.Bool.not-true, lemmas.Bool.Decides.nat_tests, lemmas.List.Elements.All-set, Math.Seq.map-set_same}
 use Rattle.osbase.specs.{declared.references.CoreId.CoreId, declared.messages.Envelope.Envelope, declared.items.Item.Item, declared.turns.Choice.Choice, declared.turns.CoreStimuli.CoreStimuli, History.same_core, declared.statuses.Status.TheVariants.EOsId}
 use Rattle.osplan.specs.{declared.plans.Plan.Plan, View.view_of}
 use Rattle.osstate.specs.Does.{Reads}
 use Rattle.osbase.proofs.Same.{same_core-true}
-use Rattle.oskernel.specs.{Step.outbox_size, Step.takes, declared.wants.Watch.Watch, Wants.front_of, Wants.watch_in}
-use Rattle.osrun.specs.{declared.core_runs.CoreRun.CoreRun, declared.requests.Request.Request, declared.requests.Reply.Reply, Fits.history_by, CoreRuns.IsCoreRun, Requests.item_by, Requests.spin_call_of, CoreRuns.Keeps, CoreRuns.Took}
+use Rattle.oskernel.specs.{Step.outbox_size, Step.takes, declared.wants.Watch.Watch, Wants.front_of, Wants.want_in, Wants.watch_in}
+use Rattle.osrun.specs.{declared.core_runs.CoreRun.CoreRun, declared.requests.Request.Request, Fits.history_by, CoreRuns.IsCoreRun, Requests.item_by, Requests.next_item, Requests.request_by, Requests.spin_call_of, CoreRuns.Keeps, CoreRuns.Took}
 use Rattle.osrun.specs.declared.requests.Request.TheVariants.{OfBoard, OfSpins, Room, Oldest, StartUnknown, TakeStimulus}
 use Rattle.osspin.specs.Spins.{spin_reply}
 use Rattle.osworld.specs.declared.answering.Shared.{Shared}
 use Rattle.osworld.specs.World.{World, turn, is_unchanged, item_total}
 use Rattle.osworld.specs.Answering.{reply_by, mail_after, IsPlaced, next_by, settled, after_call}
-use Rattle.osworld.specs.Playing.{IsAnswered, IsCutShort, IsPlayed, Plays}
+use Rattle.osworld.specs.Playing.{IsCutShort, IsPlayed, Plays}
 use Rattle.osrun.proofs.Resulting.{is-item, spinlock-item}
 use Rattle.osworld.proofs.Listed.{is_seat_of, seat_is_of, seat_nowhere, core_run_place}
 use Rattle.osworld.proofs.Turning.{turn-nobody, turn-nothing, turn-refused, turn-taken, turn-appends}
@@ -105,14 +105,7 @@ module _ (plan : Plan) (stimuli : List CoreStimuli) (w : World) (core_runs : Lis
             tells = changes takes_it;
           }
 
--- what a turn of the core at this place asks, with the item to which the answer leads
-pub answered-next : (plan : Plan) (core_runs : List CoreRun) (shared : Shared) (at : ℕ) (core : CoreId) (choice : Choice) (request : Request) (answer : Reply) → IsAnswered plan core_runs shared at core choice request answer → (core_run : CoreRun) → core_run ≡ get_or core_runs at core_run
-    → (named : Option Item) → named ≡ item_by core_run.id (watch_in core_run.kernel) request answer
-    → next_by plan shared core_run.id core_run.stimuli.now core_run.kernel choice ≡ option_map (λ item. (request, item)) named
-answered-next plan core_runs shared at core choice request answer answered core_run is named by =
-    rw by (answered.leads core_run (slice_get_read core_runs (length core_runs) at core_run refl (core_run_place core core_runs at answered.place).1 is))
-
--- the mailbox of an item to which an answer leads is there
+-- the mailbox of an item in which a reply results is there
 placed-by : (shared : Shared) (id : CoreId) (item : Item) (watch : Watch) (request : Request) → item_by id watch request (reply_by shared id request) ≡ Some item → IsPlaced shared.mail id item
 placed-by shared id item watch (OfBoard call) leads = grind (arith, leads)
 placed-by shared id item watch (OfSpins wish) leads = spinlock-item (IsPlaced shared.mail id) (λ l. tt) (λ l taken. tt) (λ l. tt) wish (spin_reply id (spin_call_of wish) shared.spins) item leads
@@ -121,11 +114,18 @@ placed-by shared id item watch (Oldest from) leads = grind (arith, nat_tests, le
 placed-by shared id item watch (StartUnknown k) leads = is-item (IsPlaced shared.mail id) (Item.Began k EOsId) item tt leads
 placed-by shared id item watch (TakeStimulus s) leads = is-item (IsPlaced shared.mail id) (Item.Stim s) item tt leads
 
-pub answered-placed : (core_runs : List CoreRun) (shared : Shared) (at : ℕ) (request : Request) (answer : Reply) → ((core_run : CoreRun) → slice_get core_runs at ≡ Some core_run → answer ≡ reply_by shared core_run.id request)
-    → (core_run : CoreRun) → at < length core_runs → core_run ≡ get_or core_runs at core_run → (item : Item) → item_by core_run.id (watch_in core_run.kernel) request answer ≡ Some item → IsPlaced shared.mail core_run.id item
-answered-placed core_runs shared at request answer answers core_run within is item leads =
-    placed-by shared core_run.id item (watch_in core_run.kernel) request
-    (ap (λ (a : Reply). item_by core_run.id (watch_in core_run.kernel) request a) (sym (answers core_run (slice_get_read core_runs (length core_runs) at core_run refl within is))) ∙ leads)
+-- so is that of the item in which a turn results
+pub next-placed : (plan : Plan) (shared : Shared) (core_run : CoreRun) (choice : Choice) (request : Request) (item : Item) → next_by plan shared core_run.id core_run.stimuli.now core_run.kernel choice ≡ Some (request, item) → IsPlaced shared.mail core_run.id item
+next-placed plan shared core_run choice request item names =
+    by (request_by (view_of plan core_run.id) (want_in core_run.kernel) (watch_in core_run.kernel) (slice_get core_run.stimuli.now 0) choice) names
+  where
+    named : (asked : Request) → (o : Option Item) → item_by core_run.id (watch_in core_run.kernel) asked (reply_by shared core_run.id asked) ≡ o → option_map {U = Request × Item} (λ i. (asked, i)) o ≡ Some (request, item) → IsPlaced shared.mail core_run.id item
+    named asked (Some i) is names = placed-by shared core_run.id item (watch_in core_run.kernel) asked (is ∙ grind (arith, names))
+    named asked None is names = grind (arith, names)
+
+    by : (o : Option Request) → next_item core_run.id (watch_in core_run.kernel) (reply_by shared core_run.id) o ≡ Some (request, item) → IsPlaced shared.mail core_run.id item
+    by (Some asked) names = named asked (item_by core_run.id (watch_in core_run.kernel) asked (reply_by shared core_run.id asked)) refl names
+    by None names = grind (arith, names)
 
 -- what is true where something failed
 pub on_err : {A E P : Type 0} → (r : Result A E) → P → OnErr r P

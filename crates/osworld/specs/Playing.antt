@@ -5,8 +5,8 @@ use Rattle.osbase.specs.{declared.references.CoreId.CoreId, declared.messages.Le
 use Rattle.osmail.specs.Mail.{Mail, box_of}
 use Rattle.osplan.specs.declared.plans.Plan.{Plan}
 use Rattle.oskernel.specs.Wants.{watch_in}
-use Rattle.osrun.specs.{declared.requests.Request.Request, declared.requests.Reply.Reply, declared.core_runs.CoreRun.CoreRun, Requests.request_and_item, CoreRuns.IsCoreRun}
-use Rattle.osworld.specs.{declared.answering.Shared.Shared, declared.worlds.World.World as Run, Answering.next_by}
+use Rattle.osrun.specs.{declared.requests.Request.Request, declared.core_runs.CoreRun.CoreRun, Requests.request_and_item, CoreRuns.IsCoreRun}
+use Rattle.osworld.specs.{declared.answering.Shared.Shared, declared.worlds.World.World as Run, Answering.next_by, Answering.reply_by}
 use Rattle.osworld.specs.Runs.{AppendsAt, HasAtLeast, default_turns, is_default, round_of}
 use Rattle.osworld.specs.World.{World, board_in, first_world, history_in, holders_in, is_unchanged, world, world_from}
 
@@ -68,10 +68,9 @@ pub record IsDefaultCutShort (plan : Plan) (stimuli : List CoreStimuli) (core_ru
   pub goes_on : HasAtLeast plan stimuli rounds
   pub cut : IsCutShort plan stimuli (first_world plan) (default_turns plan rounds) core_runs shared
 
--- A turn of the core that sits at this place asks this, and leads on by this answer.
-pub record IsAnswered (plan : Plan) (core_runs : List CoreRun) (shared : Shared) (at : ℕ) (core : CoreId) (choice : Choice) (request : Request) (answer : Reply) : Type 0 where
-  pub place : position (λ (s : CoreRun). same_core s.id core) core_runs ≡ Some at
-  pub leads : (core_run : CoreRun) → slice_get core_runs at ≡ Some core_run → next_by plan shared core_run.id core_run.stimuli.now core_run.kernel choice ≡ request_and_item core_run.id (watch_in core_run.kernel) request answer
+-- The core sits at this place.
+abbrev pub SitsAt : List CoreRun → CoreId → ℕ → Type 0
+SitsAt core_runs core at = position (λ (s : CoreRun). same_core s.id core) core_runs ≡ Some at
 
 -- What a function that plays turns does, whatever world the run stood for.
 abbrev pub PlaysTurns : List (CoreId × Choice) → Run → Bool → Run → Type 0

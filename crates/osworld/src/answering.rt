@@ -1,15 +1,16 @@
 //! The reply to a turn's request, and what the turn changes beside the core that takes its item.
 
-ghost use Rattle.std.specs.Prelude.{◌≡◌, ◌<◌, ◌≤◌, ◌&&◌, nat_lt, if◌then◌else◌, None, IfNone, IfOk, IfSome};
+ghost use Rattle.std.specs.Prelude.{◌≡◌, ◌<◌, ◌≤◌, ◌&&◌, nat_lt, if◌then◌else◌, None, IfOk, IsTrue};
 ghost use Rattle.osbase.specs.declared.limits.TheConstants.{CORES};
 ghost use Rattle.osmail.specs.Mail.{empty_mail, has_mail, has_room, oldest_of};
+ghost use Rattle.osplan.specs.declared.plans.Plan.{Plan as PlanValue};
 ghost use Rattle.osboard.specs.Boards.{first_board};
 ghost use Rattle.osspin.specs.Spins.{no_holders};
-ghost use Rattle.oskernel.specs.Wants.{watch_in};
-ghost use Rattle.osrun.specs.Requests.{request_and_item};
+ghost use Rattle.oskernel.specs.Wants.{front_of, watch_in};
+ghost use Rattle.osrun.specs.Requests.{item_by};
 ghost use Rattle.osworld.specs.Answering.{reply_by, mail_after, is_undisturbed, IsPlaced, next_by, after_call};
 
-use osbase::{CORES, Choice, CoreId, Envelope, Item, Letter, MAILBOX};
+use osbase::{CORES, Choice, CoreId, Item, Letter, MAILBOX};
 use osboard::BoardList;
 use oskernel::Watch;
 use osmail::ListMail;
@@ -57,46 +58,18 @@ impl Shared {
         }
     }
 
-    /// The reply to the request of a core's turn; `None` if it serves a core from which there is no envelope, as most turns
-    /// do. Nothing changes yet.
-    pub fn reply_to(&self, id: CoreId, request: Request) -> Option<Reply>
-        requires { id.number < CORES }
-        ensures answer { IfSome result (λ answer. answer ≡ reply_by self.now id request) }
-        ensures none { IfNone result (reply_by self.now id request ≡ Reply.Found None) }
-    {
-        match request {
-            Request::OfBoard(call) => Some(Reply::Replied(self.board.reply(id, call))),
-            Request::OfSpins(wish) => Some(Reply::Spun(self.spins.reply(id, spin_call_of(wish)))),
-            Request::Room(to) => Some(Reply::HasRoom(has_room(&self.mail, id, to))),
-            Request::Oldest(from) => {
-                let letter = oldest(&self.mail, id, from)?;
-                Some(Reply::Found(Some(letter)))
-            }
-            Request::StartUnknown(_) | Request::TakeStimulus(_) => Some(Reply::Unasked),
-        }
-    }
-
-    /// The request of a turn of this core, with the reply; `None` if it requests nothing, serves a core from which there is
-    /// no envelope, or looks at a board that shows it nothing new, as most turns do.
+    /// Whether a turn is a look at the board that results in nothing, as most looks do: the core watches for nothing, or for
+    /// a shutdown of all cores that nobody has requested.
     #[inline(always)]
-    pub fn request_and_reply(
-        &self,
-        plan: &Plan,
-        core_run: &CoreRun,
-        choice: Choice,
-    ) -> Option<(Request, Reply)>
-        ensures answer { IfSome result (λ t. t.1 ≡ reply_by self.now core_run.now.id t.0) }
-        ensures leads { IfSome result (λ t. next_by plan.now self.now core_run.now.id core_run.now.stimuli.now core_run.now.kernel choice ≡ request_and_item core_run.now.id (watch_in core_run.now.kernel) t.0 t.1) }
-        ensures none { IfNone result (next_by plan.now self.now core_run.now.id core_run.now.stimuli.now core_run.now.kernel choice ≡ None) }
+    pub fn is_idle_look(&self, core_run: &CoreRun, choice: Choice) -> bool
+        ensures { (plan : PlanValue) → IsTrue result → next_by plan self.now core_run.now.id core_run.now.stimuli.now core_run.now.kernel choice ≡ None }
     {
         match choice {
-            Choice::Look if self.is_undisturbed(core_run) => None,
-            _ => self.request_and_reply_always(plan, core_run, choice),
+            Choice::Look => self.is_undisturbed(core_run),
+            _ => false,
         }
     }
 
-    // A look at the board that results in nothing, as most do: the core watches for nothing, or for a shutdown of all cores
-    // that nobody has requested.
     fn is_undisturbed(&self, core_run: &CoreRun) -> bool
         ensures { result ≡ is_undisturbed (watch_in core_run.now.kernel) self.now.board }
     {
@@ -107,21 +80,47 @@ impl Shared {
         }
     }
 
-    // The same of any turn, without that test.
+    /// The request of a turn of this core, with the item in which it results; `None` if the turn requests nothing, or results
+    /// in nothing. Nothing changes yet.
     #[inline(always)]
-    fn request_and_reply_always(
+    pub fn next_item(
         &self,
         plan: &Plan,
         core_run: &CoreRun,
         choice: Choice,
-    ) -> Option<(Request, Reply)>
-        ensures answer { IfSome result (λ t. t.1 ≡ reply_by self.now core_run.now.id t.0) }
-        ensures leads { IfSome result (λ t. next_by plan.now self.now core_run.now.id core_run.now.stimuli.now core_run.now.kernel choice ≡ request_and_item core_run.now.id (watch_in core_run.now.kernel) t.0 t.1) }
-        ensures none { IfNone result (next_by plan.now self.now core_run.now.id core_run.now.stimuli.now core_run.now.kernel choice ≡ None) }
+    ) -> Option<(Request, Item)>
+        ensures { result ≡ next_by plan.now self.now core_run.now.id core_run.now.stimuli.now core_run.now.kernel choice }
     {
         let request = core_run.request_of_turn(plan, choice)?;
-        let answer = self.reply_to(core_run.id, request)?;
-        Some((request, answer))
+        let item = self.item_for(core_run, request)?;
+        Some((request, item))
+    }
+
+    // The item in which a request of this core results.
+    #[inline(always)]
+    fn item_for(&self, core_run: &CoreRun, request: Request) -> Option<Item>
+        ensures { result ≡ item_by core_run.now.id (watch_in core_run.now.kernel) request (reply_by self.now core_run.now.id request) }
+    {
+        let id = core_run.id;
+        // Each kind of reply has its own call, so that none is stored in a place for all kinds in between.
+        match request {
+            Request::OfBoard(call) => {
+                core_run.item_for_reply(request, &Reply::Replied(self.board.reply(id, call)))
+            }
+            Request::OfSpins(wish) => {
+                let reply = self.spins.reply(id, spin_call_of(wish));
+                core_run.item_for_reply(request, &Reply::Spun(reply))
+            }
+            Request::Room(to) => {
+                core_run.item_for_reply(request, &Reply::HasRoom(has_room(&self.mail, id, to)))
+            }
+            Request::Oldest(from) => {
+                core_run.item_for_reply(request, &Reply::Found(oldest(&self.mail, id, from)))
+            }
+            Request::StartUnknown(_) | Request::TakeStimulus(_) => {
+                core_run.item_for_reply(request, &Reply::Unasked)
+            }
+        }
     }
 
     /// Makes the call of the board or the spinlocks that a turn requested.
@@ -140,19 +139,20 @@ impl Shared {
     }
 
     /// Moves the envelope of the item that a core takes: the outbox's front into a mailbox, or out of one.
-    pub fn deliver(&mut self, core: CoreId, front: Option<(CoreId, Envelope)>, item: &Item)
-        requires core { core.number < CORES }
-        requires placed { IsPlaced self.old.mail core item.now }
-        ensures { self.new ≡ record self.old { mail = mail_after core front item.now self.old.mail } }
+    pub fn deliver(&mut self, core_run: &CoreRun, item: &Item)
+        requires { IsPlaced self.old.mail core_run.now.id item.now }
+        ensures { self.new ≡ record self.old { mail = mail_after core_run.now.id (front_of core_run.now.kernel.border.outbox) item.now self.old.mail } }
     {
-        match (*item, front) {
-            (Item::Posted(to), Some((_, envelope))) => {
-                let _ = self.mail.send(core, to, envelope);
+        match *item {
+            Item::Posted(to) => {
+                if let Some((_, envelope)) = core_run.kernel.front() {
+                    let _ = self.mail.send(core_run.id, to, envelope);
+                }
             }
-            (Item::Received { from, .. }, _) => {
-                let _ = self.mail.take(core, from);
+            Item::Received { from, .. } => {
+                let _ = self.mail.take(core_run.id, from);
             }
-            (_, _) => {}
+            _ => {}
         }
     }
 }

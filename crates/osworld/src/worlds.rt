@@ -3,16 +3,16 @@
 ghost use Rattle.std.specs.Prelude.{IsTrue, ◌≡◌, ◌+◌, ◌<◌, ◌≤◌, ◌∷◌, [], Some, IfSome, IfOk, OnErr, false, vec_len, vec_capacity, length, map, not, ◌||◌, position, slice_get};
 ghost use Rattle.std.specs.List.{list_all};
 ghost use Rattle.std.proofs.Props.{props};
-ghost use Rattle.osbase.specs.{declared.limits.TheConstants.CORES, declared.references.CoreId.CoreId as CoreIdValue, declared.turns.Choice.Choice as ChoiceValue, History.same_core, Sets.has_core};
+ghost use Rattle.osbase.specs.{declared.limits.TheConstants.CORES, declared.references.CoreId.CoreId as CoreIdValue, History.same_core, Sets.has_core};
 ghost use Rattle.osplan.specs.Limits.{is_within_limits};
 ghost use Rattle.osrun.specs.{declared.core_runs.CoreRun.CoreRun as CoreRunValue, CoreRuns.is_ended_phase, CoreRuns.report_of};
-ghost use Rattle.osworld.specs.{Answering.reply_by, World.first_world, Runs.round_by, Runs.serves_of, Runs.turns_in_round};
+ghost use Rattle.osworld.specs.{World.first_world, Runs.round_by, Runs.serves_of, Runs.turns_in_round};
 
 use crate::answering::Shared;
 use osbase::{CORE_NUMBERS, CORES, Choice, CoreId, CoreStimuli, Item, Report, Turn};
 use oskernel::Want;
 use osplan::Config;
-use osrun::{CoreRun, Reply, Request};
+use osrun::CoreRun;
 use ossame::is_same_item;
 use std::alloc::{AllocError, Global};
 
@@ -29,7 +29,7 @@ pub struct World<'a> {
 }
 
 impl<'a> World<'a> {
-    ghost use Rattle.osworld.specs.Playing.{IsAnswered, Plays, PlaysTurns, StopsShort};
+    ghost use Rattle.osworld.specs.Playing.{Plays, PlaysTurns, SitsAt, StopsShort};
 
     /// The world before the first turn, with place for the reports at its end.
     pub fn new(
@@ -153,30 +153,26 @@ impl<'a> World<'a> {
         let Some(at) = self.place_of(core) else {
             return Ok(false);
         };
-        let core_run = &self.core_runs[at];
-        match self
-            .shared
-            .request_and_reply(self.config.plan(), core_run, choice)
-        {
-            Some((request, answer)) => self.take_item(at, request, &answer),
-            None => Ok(false),
+        if self.shared.is_idle_look(&self.core_runs[at], choice) {
+            return Ok(false);
         }
+        self.take_turn(at, choice)
     }
 
-    // The item in which a reply results, if the core takes it. It is a call of its own, so that a turn
-    // without an answer, as most are, costs none of it.
+    // The turn of the core that sits at this place. It is a call of its own, so that a turn that serves or looks in vain, as
+    // most do, costs none of it.
     #[inline(never)]
-    fn take_item(&mut self, at: usize, request: Request, answer: &Reply) -> Result<bool, AllocError>
-        requires at { at < vec_len self.old.core_runs }
-        requires answer { (core_run : CoreRunValue) → slice_get self.old.core_runs.items at ≡ Some core_run → answer.now ≡ reply_by self.old.shared core_run.id request }
+    fn take_turn(&mut self, at: usize, choice: Choice) -> Result<bool, AllocError>
+        requires { at < vec_len self.old.core_runs }
         ensures config { self.new.config ≡ self.old.config }
         ensures reports { self.new.reports ≡ self.old.reports }
         ensures len { vec_len self.new.core_runs ≡ vec_len self.old.core_runs }
-        ensures ok { IfOk result (λ changed. (core : CoreIdValue) (choice : ChoiceValue) → IsAnswered self.old.config.now self.old.core_runs.items self.old.shared at core choice request answer.now → PlaysTurns ((core, choice) ∷ []) self.old changed self.new) }
-        ensures err { OnErr result ((core : CoreIdValue) (choice : ChoiceValue) → IsAnswered self.old.config.now self.old.core_runs.items self.old.shared at core choice request answer.now → StopsShort ((core, choice) ∷ []) self.old self.new) }
+        ensures ok { IfOk result (λ changed. (core : CoreIdValue) → SitsAt self.old.core_runs.items core at → PlaysTurns ((core, choice) ∷ []) self.old changed self.new) }
+        ensures err { OnErr result ((core : CoreIdValue) → SitsAt self.old.core_runs.items core at → StopsShort ((core, choice) ∷ []) self.old self.new) }
     {
+        let plan = self.config.plan();
         let core_run = &mut self.core_runs[at];
-        let Some(item) = core_run.item_for_reply(request, answer) else {
+        let Some((request, item)) = self.shared.next_item(plan, core_run, choice) else {
             return Ok(false);
         };
         if !core_run.kernel.may_take(&item) {
@@ -184,8 +180,7 @@ impl<'a> World<'a> {
         }
         core_run.make_room()?;
         self.shared.apply(core_run.id, request);
-        self.shared
-            .deliver(core_run.id, core_run.kernel.front(), &item);
+        self.shared.deliver(core_run, &item);
         core_run.take(item);
         Ok(true)
     }
@@ -206,10 +201,7 @@ impl<'a> World<'a> {
         let at = self.place_of(core)?;
         let core_run = &self.core_runs[at];
         let choice = choice_of(core_run, item);
-        let (request, answer) = self
-            .shared
-            .request_and_reply(self.config.plan(), core_run, choice)?;
-        let named = core_run.item_for_reply(request, &answer)?;
+        let (_, named) = self.shared.next_item(self.config.plan(), core_run, choice)?;
         if is_same_item(named, *item) && core_run.kernel.may_take(&named) {
             Some(choice)
         } else {
