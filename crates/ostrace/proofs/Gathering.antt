@@ -12,6 +12,12 @@ pub ruleset joining = (append_assoc, append-nil, flat_map-append, flat_map-map)
 pub led-cons : (word : List ℕ) (words : List (List ℕ)) → led (word ∷ []) ++ led words ≡ led (word ∷ words)
 led-cons word words = simp joining
 
+pub spaced-more : (word : List ℕ) (us : List (List ℕ)) (v : List ℕ) → spaced (word ∷ us) ++ led (v ∷ []) ≡ spaced (word ∷ (us ++ v ∷ []))
+spaced-more word us v = simp joining
+
+pub spaced-rest : (word : List ℕ) (us : List (List ℕ)) (v : List ℕ) (words : List Word) → spaced (word ∷ us) ++ (led (v ∷ []) ++ led_text words) ≡ spaced (word ∷ (us ++ v ∷ map word_text words))
+spaced-rest word us v words = simp joining
+
 pub spaced-append : (word : List ℕ) (us : List (List ℕ)) (words : List Word) → spaced (word ∷ us) ++ led_text words ≡ spaced (word ∷ (us ++ map word_text words))
 spaced-append word us words = simp joining
 

@@ -1,8 +1,10 @@
 //! Text that is gathered before it is sent.
 
-ghost use Rattle.std.specs.Prelude.{◌≡◌, ◌+◌, ◌^◌, ◌<◌, ◌≤◌, ◌++◌, [], length, nat_le};
+ghost use Rattle.std.specs.Prelude.{◌≡◌, ◌+◌, ◌^◌, ◌<◌, ◌≤◌, ◌++◌, ◌∷◌, [], length, nat_le};
 ghost use Rattle.ostrace.specs.{Taken.Writes, Gathers.Gathers};
+ghost use Rattle.ostrace_text.specs.Trace.{spaced};
 
+use crate::copies::copy_bytes;
 use crate::sinks::{Sink, WriteFailed, write_all};
 use std::marker::Model;
 
@@ -52,7 +54,7 @@ impl Gathered {
         ensures { self.new ≡ self.old ++ bytes.now }
     {
         let end = self.len + bytes.len();
-        self.bytes[self.len..end].copy_from_slice(bytes);
+        copy_bytes(&mut self.bytes[self.len..end], bytes);
         self.len = end;
     }
 
@@ -76,6 +78,45 @@ impl Gathered {
         ensures { Gathers S.taken S.failed out.old out.new self.old self.new text.now result }
     {
         self.put(out, text.as_bytes())
+    }
+
+    /// Gathers two texts with a space between them, by one look for room.
+    #[inline(always)]
+    pub fn put_pair<S: Sink>(
+        &mut self,
+        out: &mut S,
+        first: &str,
+        second: &str,
+    ) -> Result<(), WriteFailed>
+        requires { S.failed out.old < 2 ^ 48 }
+        ensures { Gathers S.taken S.failed out.old out.new self.old self.new
+            (spaced (first.now ∷ second.now ∷ [])) result }
+    {
+        if self.has_room(first.len() + 1 + second.len()) {
+            self.add(first.as_bytes());
+            self.add(b" ");
+            self.add(second.as_bytes());
+            return Ok(());
+        }
+        self.put_parts(out, first, second)
+    }
+
+    // The same, by a look for each part.
+    #[cold]
+    #[inline(never)]
+    fn put_parts<S: Sink>(
+        &mut self,
+        out: &mut S,
+        first: &str,
+        second: &str,
+    ) -> Result<(), WriteFailed>
+        requires { S.failed out.old < 2 ^ 48 }
+        ensures { Gathers S.taken S.failed out.old out.new self.old self.new
+            (spaced (first.now ∷ second.now ∷ [])) result }
+    {
+        self.put_text(out, first)?;
+        self.put_text(out, " ")?;
+        self.put_text(out, second)
     }
 
     // Bytes for which there is never room go straight to the sink.

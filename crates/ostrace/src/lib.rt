@@ -1,6 +1,7 @@
 //! The text of a trace, and where it is written to; and the text of a schedule.
 #![tactic(auto)]
 
+mod copies;
 mod gathered;
 mod lines;
 pub mod reports;

@@ -11,27 +11,14 @@ ghost use Rattle.ostrace_text.specs.Trace.{call_words, led, line_of, spaced, val
 
 use crate::gathered::Gathered;
 use crate::sinks::{Sink, WriteFailed};
-use crate::words::{Word, write_led, write_led_text, write_led_word, write_spaced};
+use crate::words::{
+    Word, write_led, write_led_text, write_led_whole, write_led_word, write_spaced,
+};
 use osbase::{CoreId, Mark, Place, RemoteCall, Runner, ServiceId, Status, TaskRef, Variable};
 use oscript::{Arg, Args, ParsedOp, Verb, op_of_call, parsed_op_of, row_of};
 use ostrace_text::BlockNames;
 
 #[inline(always)]
-fn write_name<S: Sink>(
-    out: &mut S,
-    gathered: &mut Gathered,
-    verb: &str,
-    name: &str,
-) -> Result<(), WriteFailed>
-    requires { S.failed out.old < 2 ^ 48 }
-    ensures { Gathers S.taken S.failed out.old out.new gathered.old gathered.new
-        (spaced (verb.now ∷ name.now ∷ [])) result }
-{
-    gathered.put_text(out, verb)?;
-    write_led_text(out, gathered, name)
-}
-
-#[inline]
 fn write_number<S: Sink>(
     out: &mut S,
     gathered: &mut Gathered,
@@ -43,12 +30,8 @@ fn write_number<S: Sink>(
     ensures { Gathers S.taken S.failed out.old out.new gathered.old gathered.new
         (spaced (verb.now ∷ name.now ∷ decimal number ∷ [])) result }
 {
-    write_spaced(
-        out,
-        gathered,
-        verb,
-        &[Word::Text(name), Word::Whole(number)],
-    )
+    gathered.put_pair(out, verb, name)?;
+    write_led_whole(out, gathered, number)
 }
 
 #[inline(always)]
@@ -62,15 +45,11 @@ fn write_hook<S: Sink>(
     ensures { Gathers S.taken S.failed out.old out.new gathered.old gathered.new
         (spaced (codes "hook" ∷ hook.now ∷ status_name status ∷ [])) result }
 {
-    write_spaced(
-        out,
-        gathered,
-        "hook",
-        &[Word::Text(hook), status_word(status)],
-    )
+    gathered.put_pair(out, "hook", hook)?;
+    write_led_text(out, gathered, status.name())
 }
 
-#[inline]
+#[inline(always)]
 fn write_events<S: Sink>(
     out: &mut S,
     gathered: &mut Gathered,
@@ -137,6 +116,7 @@ fn write_core<S: Sink>(
 }
 
 // The word of an argument.
+#[inline(always)]
 fn arg_word<'a>(names: &'a BlockNames, arg: Arg<Place>) -> Word<'a>
     ensures { word_text result ≡ arg_text (named (name_of names.now) arg) }
 {
@@ -148,6 +128,19 @@ fn arg_word<'a>(names: &'a BlockNames, arg: Arg<Place>) -> Word<'a>
         Arg::Variable(number) => Word::Variable(number),
         Arg::Core(Some(core)) => core_word(core),
     }
+}
+
+fn write_arg<S: Sink>(
+    out: &mut S,
+    gathered: &mut Gathered,
+    names: &BlockNames,
+    arg: Arg<Place>,
+) -> Result<(), WriteFailed>
+    requires { S.failed out.old < 2 ^ 48 }
+    ensures { Gathers S.taken S.failed out.old out.new gathered.old gathered.new
+        (led (arg_text (named (name_of names.now) arg) ∷ [])) result }
+{
+    write_led_word(out, gathered, arg_word(names, arg))
 }
 
 fn write_args<S: Sink>(
@@ -162,11 +155,15 @@ fn write_args<S: Sink>(
 {
     match args {
         Args::Zero => Ok(()),
-        Args::One(a) => write_led_word(out, gathered, arg_word(names, a)),
-        Args::Two(a, b) => write_led(out, gathered, &[arg_word(names, a), arg_word(names, b)]),
+        Args::One(a) => write_arg(out, gathered, names, a),
+        Args::Two(a, b) => {
+            write_arg(out, gathered, names, a)?;
+            write_arg(out, gathered, names, b)
+        }
         Args::Three(a, b, c) => {
-            let words = [arg_word(names, a), arg_word(names, b), arg_word(names, c)];
-            write_led(out, gathered, &words)
+            write_arg(out, gathered, names, a)?;
+            write_arg(out, gathered, names, b)?;
+            write_arg(out, gathered, names, c)
         }
     }
 }
@@ -229,6 +226,7 @@ fn write_remote<S: Sink>(
 }
 
 // A served call, and the words of its answer.
+#[inline(always)]
 fn write_served<S: Sink>(
     out: &mut S,
     gathered: &mut Gathered,
@@ -261,8 +259,8 @@ fn write_stat<S: Sink>(
         (spaced (codes "stat" ∷ runner_name names.now runner ∷ service_name service
         ∷ map word_text answer.now)) result }
 {
-    let runner = Word::Text(names.runner_name(runner));
-    write_spaced(out, gathered, "stat", &[runner, Word::Text(service.name())])?;
+    gathered.put_pair(out, "stat", names.runner_name(runner))?;
+    write_led_text(out, gathered, service.name())?;
     write_led(out, gathered, answer)
 }
 
@@ -325,7 +323,9 @@ fn write_result<S: Sink>(
     }
 }
 
-// The same, and that of a mark of a core's start or halt, or of a call to another core.
+// The same, and that of a mark of a core's start or halt, or of a call to another core. It stays a function of its own,
+// so that the short lines, which are most, have the registers.
+#[inline(never)]
 fn write_long_line<S: Sink>(
     out: &mut S,
     gathered: &mut Gathered,
@@ -374,29 +374,29 @@ pub fn write_line<S: Sink>(
 {
     match *mark {
         Mark::ModesConflict => gathered.put_text(out, "conflict"),
-        Mark::StartupHook => write_name(out, gathered, "hook", "Startup"),
+        Mark::StartupHook => gathered.put_pair(out, "hook", "Startup"),
         Mark::ErrorHook(status) => write_hook(out, gathered, "Error", status),
         Mark::ProtectionHook(status) => write_hook(out, gathered, "Protection", status),
         Mark::ShutdownHook(status) => write_hook(out, gathered, "Shutdown", status),
-        Mark::Activated(task) => write_name(out, gathered, "act", names.task_name(task)),
-        Mark::Terminated(task) => write_name(out, gathered, "end", names.task_name(task)),
-        Mark::PreTaskHook(task) => write_name(out, gathered, "pre", names.task_name(task)),
-        Mark::PostTaskHook(task) => write_name(out, gathered, "post", names.task_name(task)),
+        Mark::Activated(task) => gathered.put_pair(out, "act", names.task_name(task)),
+        Mark::Terminated(task) => gathered.put_pair(out, "end", names.task_name(task)),
+        Mark::PreTaskHook(task) => gathered.put_pair(out, "pre", names.task_name(task)),
+        Mark::PostTaskHook(task) => gathered.put_pair(out, "post", names.task_name(task)),
         Mark::EventSet { task, mask } => write_events(out, gathered, names, "ev", task, mask),
         Mark::EventCleared { task, mask } => write_events(out, gathered, names, "clr", task, mask),
         Mark::EventAwaited { task, mask } => write_events(out, gathered, names, "wait", task, mask),
-        Mark::Released(task) => write_name(out, gathered, "free", names.task_name(task)),
-        Mark::InterruptAccepted(isr) => write_name(out, gathered, "irq", names.isr_name(isr)),
-        Mark::InterruptLost(isr) => write_name(out, gathered, "lost", names.isr_name(isr)),
-        Mark::IsrEntered(isr) => write_name(out, gathered, "enter", names.isr_name(isr)),
-        Mark::IsrLeft(isr) => write_name(out, gathered, "leave", names.isr_name(isr)),
+        Mark::Released(task) => gathered.put_pair(out, "free", names.task_name(task)),
+        Mark::InterruptAccepted(isr) => gathered.put_pair(out, "irq", names.isr_name(isr)),
+        Mark::InterruptLost(isr) => gathered.put_pair(out, "lost", names.isr_name(isr)),
+        Mark::IsrEntered(isr) => gathered.put_pair(out, "enter", names.isr_name(isr)),
+        Mark::IsrLeft(isr) => gathered.put_pair(out, "leave", names.isr_name(isr)),
         Mark::Tick => gathered.put_text(out, "tick"),
-        Mark::AlarmExpired(alarm) => write_name(out, gathered, "alarm", names.alarm_name(alarm)),
+        Mark::AlarmExpired(alarm) => gathered.put_pair(out, "alarm", names.alarm_name(alarm)),
         Mark::ExpiryPoint { table, offset } => {
             write_number(out, gathered, "point", names.table_name(table), offset)
         }
-        Mark::TableStopped(table) => write_name(out, gathered, "stop", names.table_name(table)),
-        Mark::TableBegun(table) => write_name(out, gathered, "begin", names.table_name(table)),
+        Mark::TableStopped(table) => gathered.put_pair(out, "stop", names.table_name(table)),
+        Mark::TableBegun(table) => gathered.put_pair(out, "begin", names.table_name(table)),
         _ => write_long_line(out, gathered, names, mark),
     }
 }

@@ -33,11 +33,10 @@ pub fn write_led_text<S: Sink>(
     ensures { Gathers S.taken S.failed out.old out.new gathered.old gathered.new
         (led (text.now ∷ [])) result }
 {
-    gathered.put_text(out, " ")?;
-    gathered.put_text(out, text)
+    gathered.put_pair(out, "", text)
 }
 
-#[inline]
+#[inline(always)]
 fn write_led_digit<S: Sink>(
     out: &mut S,
     gathered: &mut Gathered,
@@ -52,7 +51,7 @@ fn write_led_digit<S: Sink>(
 }
 
 /// Writes a number after a space.
-#[inline]
+#[inline(always)]
 pub fn write_led_whole<S: Sink>(
     out: &mut S,
     gathered: &mut Gathered,
@@ -65,6 +64,19 @@ pub fn write_led_whole<S: Sink>(
     if number < 10 {
         return write_led_digit(out, gathered, number as u8);
     }
+    write_led_digits(out, gathered, number)
+}
+
+#[inline(never)]
+fn write_led_digits<S: Sink>(
+    out: &mut S,
+    gathered: &mut Gathered,
+    number: u32,
+) -> Result<(), WriteFailed>
+    requires { S.failed out.old < 2 ^ 48 }
+    ensures { Gathers S.taken S.failed out.old out.new gathered.old gathered.new
+        (led (decimal number ∷ [])) result }
+{
     write_led_text(out, gathered, Buffer::new().format(number))
 }
 

@@ -1,16 +1,27 @@
-use Rattle.std.proofs.Common.{◌∷◌, [], codes}
+use Rattle.std.proofs.Common.{Err, Ok, ◌∷◌, [], ◌++◌, codes}
 use Rattle.osbase.specs.Words.{service_name}
 use Rattle.osplan.specs.Names.{runner_name}
 use Rattle.ostrace.specs.Pieces.{led_text}
-use Rattle.ostrace.proofs.Gathering.{Gathers-stop, Gathers-then, spaced-append}
+use Rattle.ostrace_text.specs.Trace.{led}
+use Rattle.ostrace.proofs.Gathering.{Gathers-stop, Gathers-then, spaced-append, spaced-more, spaced-rest}
 use Rattle.ostrace.proofs.lines.write_stat.Goals as goal
 
-pub returns-in_err-write_spaced : goal.returns-in_err-write_spaced
-returns-in_err-write_spaced g c =
-    let whole = spaced-append (codes "stat") (runner_name c.args.names.now c.args.runner ∷ service_name c.args.service ∷ []) c.args.answer.now in
-    Gathers-stop (led_text c.args.answer.now) _ c.from_residual.ensures.0 (rw (c.runner_name.ensures, c.name.ensures) at c.in_err-write_spaced.ensures) whole
+pub returns-in_err-put_pair : goal.returns-in_err-put_pair
+returns-in_err-put_pair g c =
+    let runner = runner_name c.args.names.now c.args.runner in
+    let service = service_name c.args.service in
+    Gathers-stop (led (service ∷ []) ++ led_text c.args.answer.now) _ c.from_residual.ensures.0 (rw c.runner_name.ensures at c.in_err-put_pair.ensures) (spaced-rest (codes "stat") (runner ∷ []) service c.args.answer.now)
+
+pub returns-in_err-write_led_text : goal.returns-in_err-write_led_text
+returns-in_err-write_led_text g c =
+    let runner = runner_name c.args.names.now c.args.runner in
+    let service = service_name c.args.service in
+    let two = Gathers-then (Err _) (rw c.runner_name.ensures at c.in_ok-put_pair.ensures) (rw c.name.ensures at c.in_err-write_led_text.ensures) (spaced-more (codes "stat") (runner ∷ []) service) in
+    Gathers-stop (led_text c.args.answer.now) _ c.from_residual-in_err-write_led_text.ensures.0 two (spaced-append (codes "stat") (runner ∷ service ∷ []) c.args.answer.now)
 
 pub returns : goal.returns
 returns g c =
-    let whole = spaced-append (codes "stat") (runner_name c.args.names.now c.args.runner ∷ service_name c.args.service ∷ []) c.args.answer.now in
-    Gathers-then _ (rw (c.runner_name.ensures, c.name.ensures) at c.in_ok-write_spaced.ensures) c.write_led.ensures whole
+    let runner = runner_name c.args.names.now c.args.runner in
+    let service = service_name c.args.service in
+    let two = Gathers-then (Ok _) (rw c.runner_name.ensures at c.in_ok-put_pair.ensures) (rw c.name.ensures at c.in_ok-write_led_text.ensures) (spaced-more (codes "stat") (runner ∷ []) service) in
+    Gathers-then _ two c.write_led.ensures (spaced-append (codes "stat") (runner ∷ service ∷ []) c.args.answer.now)
