@@ -15,39 +15,42 @@ use osthreads::{AWAKE, Gate, run_threads};
 use ostrace::Sink;
 use std::alloc::Global;
 use std::sync::Wait;
-use std::sync::atomic::{AtomicBool, AtomicU64, Ordering};
+use std::sync::atomic::{AtomicU64, Ordering};
 use std::thread::Threads;
 use std::{array, thread};
 
 /// The gate of the program: each thread may start, and a core that found nothing to do for as long as a worker stays awake
 /// gives up its processor before it sleeps. Beside busy programs a processor that is given up comes back late. Most turns of
 /// a core that works change nothing, since a round serves every other core.
+///
+/// A store to a word that threads share takes as long as some forty instructions, so most turns of a core that works make one.
+/// It counts its fruitless turns, whatever comes between them, and is watched from a quarter of its patience on: then `before`
+/// finds whether the last turn was one of them, and if it was not, the count begins again.
 #[derive(Drop)]
 pub struct Yielding {
-    // The turns of so many whole rounds of the run's cores.
+    // As a count, the turns of so many whole rounds of the run's cores.
     patience: u64,
-    // Each core writes what is its own alone, on a cache line of its own.
-    cores: [CachePadded<Fruitless>; CORES],
+    // The count from which a core is watched.
+    watched: u64,
+    // Each core's count, on a cache line of its own, since no other core writes it.
+    cores: [CachePadded<AtomicU64>; CORES],
 }
 
-#[derive(Drop)]
-struct Fruitless {
-    turns: AtomicU64,
-    was_last: AtomicBool,
-}
+// What a fruitless turn adds to a count, and the mark beside it that the last turn was fruitless.
+const TURN: u64 = 2;
+
+const WAS_LAST: u64 = 1;
 
 impl Yielding {
     /// The gate of a run of so many cores. A core's round serves each other one, does its own work, and looks at the
     /// board.
     pub fn new(cores: usize) -> Self {
+        let turns = (cores as u64).wrapping_add(1).wrapping_mul(AWAKE);
+        let patience = turns.wrapping_mul(TURN);
         Yielding {
-            patience: (cores as u64).wrapping_add(1).wrapping_mul(AWAKE),
-            cores: array::from_fn(|_| {
-                CachePadded::new(Fruitless {
-                    turns: AtomicU64::new(0),
-                    was_last: AtomicBool::new(false),
-                })
-            }),
+            patience,
+            watched: patience / 4,
+            cores: array::from_fn(|_| CachePadded::new(AtomicU64::new(0))),
         }
     }
 }
@@ -58,25 +61,27 @@ impl Gate for Yielding {
     }
 
     fn before(&self, core: CoreId) {
-        let Some(fruitless) = self.cores.get(usize::from(core.number)) else {
+        let Some(count) = self.cores.get(usize::from(core.number)) else {
             return;
         };
-        if !fruitless.was_last.load(Ordering::Relaxed) {
-            fruitless.turns.store(0, Ordering::Relaxed);
+        let seen = count.load(Ordering::Relaxed);
+        if seen < self.watched {
+            return;
         }
-        fruitless.was_last.store(false, Ordering::Relaxed);
+        let was_last = seen & WAS_LAST == WAS_LAST;
+        let left = if was_last { seen ^ WAS_LAST } else { 0 };
+        count.store(left, Ordering::Relaxed);
     }
 
     fn idle(&self, core: CoreId) {
-        let Some(fruitless) = self.cores.get(usize::from(core.number)) else {
+        let Some(count) = self.cores.get(usize::from(core.number)) else {
             return;
         };
-        fruitless.was_last.store(true, Ordering::Relaxed);
-        let turns = fruitless.turns.load(Ordering::Relaxed).wrapping_add(1);
+        let turns = (count.load(Ordering::Relaxed) | WAS_LAST).wrapping_add(TURN);
         if turns < self.patience {
-            fruitless.turns.store(turns, Ordering::Relaxed);
+            count.store(turns, Ordering::Relaxed);
         } else {
-            fruitless.turns.store(0, Ordering::Relaxed);
+            count.store(0, Ordering::Relaxed);
             thread::yield_now();
         }
     }
