@@ -1,23 +1,31 @@
 -- The program's command line, in the terms of `clap`. [own]
 use Rattle.std.specs.{Borrow.Bor, Str.bytes_eq, Str.Parse.digits_value, Str.Parse.without_leading_plus}
 use Rattle.std.specs.Prelude.{◌≡◌, ◌⊎◌, ◌&&◌, ℕ, Bool, true, false, Option, Some, None, Result, List, [], ◌∷◌, codes, if◌then◌else◌, is_some, map}
-use Rattle.clap.specs.{Kinds.or_else, declared.error.Error.Error, declared.error.kind.ErrorKind.TheVariants.ArgumentConflict, declared.builder.ArgAction.TheVariants.Set, declared.builder.ArgAction.TheVariants.SetTrue, declared.builder.ValueParser.TheVariants.Names, declared.builder.ValueParser.TheVariants.Unsigned}
+use Rattle.clap.specs.{Kinds.or_else, declared.error.Error.Error, declared.error.kind.ErrorKind.TheVariants.ArgumentConflict, declared.builder.ArgAction.TheVariants.Set, declared.builder.ArgAction.TheVariants.SetTrue, declared.builder.ValueParser.ValueParser, declared.builder.ValueParser.TheVariants.Names, declared.builder.ValueParser.TheVariants.Unsigned}
 use Rattle.clap.specs.Words.{App, FailsBy, Kinds, Row, Rule, fault_of, first_of, new_app, new_rule, subcommand_of, with_rule, with_subcommand}
 use Rattle.osbase.specs.{declared.messages.MailKind.MailKind, declared.messages.MailKind.TheVariants.Ring, declared.messages.MailKind.TheVariants.Locked, declared.references.CoreId.CoreId}
 use Rattle.oscommand.specs.{declared.jobs.Job.Job, declared.jobs.Print.Print, declared.jobs.Print.TheVariants.Trace, declared.jobs.Print.TheVariants.Log, declared.jobs.Print.TheVariants.Order, declared.jobs.TheConstants.DEFAULT_TURNS, declared.jobs.TheConstants.MOST_TURNS, Jobs.path_in}
 use Rattle.oscommand.specs.declared.jobs.Job.TheVariants.{Run, Check, Cut, Groups, Group, Replay, Threads}
 
+-- An argument that each call names.
+abbrev pub required_rule : List ℕ → Rule
+required_rule name = record (new_rule name) { required = true }
+
+-- An option with a value.
+abbrev pub option_rule : List ℕ → ValueParser → Rule
+option_rule name parser = record (new_rule name) { long = Some name; value_names = 1; action = Some Set; parser = Some parser }
+
 abbrev pub config_rule : Rule
-config_rule = record (new_rule (codes "CFG")) { required = true }
+config_rule = required_rule (codes "CFG")
 
 abbrev pub stimuli_rule : Rule
-stimuli_rule = record (new_rule (codes "STIM")) { required = true }
+stimuli_rule = required_rule (codes "STIM")
 
 abbrev pub schedule_rule : Rule
 schedule_rule = record (new_rule (codes "schedule")) { long = Some (codes "schedule"); value_names = 1; action = Some Set }
 
 abbrev pub items_rule : Rule
-items_rule = record (new_rule (codes "items")) { long = Some (codes "items"); value_names = 1; action = Some Set; parser = Some (Unsigned 0 255) }
+items_rule = option_rule (codes "items") (Unsigned 0 255)
 
 -- A flag: its text is `true` where it is there, and else `false`.
 abbrev pub order_rule : Rule
@@ -28,11 +36,11 @@ is_set None = false
 is_set (Some text) = bytes_eq text (codes "true")
 
 abbrev pub log_rule : Rule
-log_rule = record (new_rule (codes "LOG")) { required = true }
+log_rule = required_rule (codes "LOG")
 
 -- A number of 1 to 1,000,000,000.
 abbrev pub turns_rule : Rule
-turns_rule = record (new_rule (codes "turns")) { long = Some (codes "turns"); value_names = 1; action = Some Set; parser = Some (Unsigned 1 MOST_TURNS) }
+turns_rule = option_rule (codes "turns") (Unsigned 1 MOST_TURNS)
 
 -- The name of a kind of mail.
 abbrev pub mail_name : MailKind → List ℕ
@@ -50,7 +58,7 @@ abbrev pub AreMailKinds : MailKinds → Type 0
 AreMailKinds kinds = map (λ (name : Bor (List ℕ)). name.now) kinds.now ≡ mail_name Ring ∷ mail_name Locked ∷ []
 
 abbrev pub mail_rule : MailKinds → Rule
-mail_rule kinds = record (new_rule (codes "mail")) { long = Some (codes "mail"); value_names = 1; action = Some Set; parser = Some (Names kinds) }
+mail_rule kinds = option_rule (codes "mail") (Names kinds)
 
 -- A core is a number of 0 to 255.
 abbrev pub core_rule : Rule

@@ -5,8 +5,8 @@ ghost use Rattle.std.specs.Str.{bytes_eq};
 ghost use Rattle.std.specs.Str.Parse.{digits_value, without_leading_plus};
 ghost use Rattle.clap.specs.Words.{IsUnsignedIn, app_of, first_of, found_of, kind_of, new_app, rows_of, rule_of, subcommand_rows_of, with_rule};
 ghost use Rattle.clap.specs.declared.error.kind.ErrorKind.TheVariants.{ArgumentConflict};
-ghost use Rattle.oscommand.specs.CommandLine.{AsksFor, FailsByWords, HasEntries, IsMailName, SaysCore, SaysMail, SaysNumber, SaysPrint, SaysTurns, check_command, command_line, config_rule, core_rule, cut_command, group_command, groups_command, has_items_and_order, is_set, items_rule, mail_name, mail_rule, order_rule, replay_command, run_command, schedule_rule, stimuli_rule, subcommand_name, threads_command, turns_rule};
-ghost use Rattle.oscommand.specs.Entries.{AreChecked, HasConfig, HasConfigAndCore, HasReplay, HasRun, HasThreads, SaysJob};
+ghost use Rattle.oscommand.specs.CommandLine.{AsksFor, FailsByWords, HasEntries, IsMailName, SaysCore, SaysMail, SaysNumber, SaysPrint, SaysTurns, command_line, config_rule, core_rule, has_items_and_order, is_set, items_rule, mail_name, option_rule, order_rule, replay_command, required_rule, run_command, schedule_rule, stimuli_rule, subcommand_name, threads_command};
+ghost use Rattle.oscommand.specs.Entries.{AreChecked, HasThreads, SaysJob};
 ghost use Rattle.oscommand.specs.{declared.jobs.TheConstants.MOST_TURNS, Jobs.paths_of};
 
 use clap::builder::ValueParser;
@@ -41,12 +41,16 @@ Exit status: 0 ended, 1 a fault (`fault N Name`), 2 wrong usage, 3 stalled.
 
 Example: mcos run config.json stimuli.json";
 
+const CHECK_ABOUT: &str = "Prints for each core whether it is separate, bound to others or off";
+
 const CHECK_HELP: &str = "\
 Reads a configuration. Prints `ok`, and a line for each core.
 
 Exit status: 0 done, 1 a fault (`fault N Name`), 2 wrong usage.
 
 Example: mcos check config.json";
+
+const CUT_ABOUT: &str = "Prints the configuration of a separate core alone";
 
 const CUT_HELP: &str = "\
 Reads a configuration. Prints one on a single line, which has this core alone.
@@ -55,6 +59,8 @@ Exit status: 0 done, 1 a fault (`fault N Name`; 20 where the core is not separat
 
 Example: mcos cut config.json 2";
 
+const GROUPS_ABOUT: &str = "Prints the cores of each core's least group";
+
 const GROUPS_HELP: &str = "\
 Reads a configuration. Prints a line for each core: the cores of its least group. No core outside a group acts on one
 inside.
@@ -62,6 +68,8 @@ inside.
 Exit status: 0 done, 1 a fault (`fault N Name`), 2 wrong usage.
 
 Example: mcos groups config.json";
+
+const GROUP_ABOUT: &str = "Prints the configuration of a core's least group by itself";
 
 const GROUP_HELP: &str = "\
 Reads a configuration. Prints one on a single line, in which no core outside this core's least group has objects.
@@ -96,6 +104,11 @@ core takes the same items. Where none is found, prints `none`.
 Exit status: 0 ended, 1 a fault (`fault N Name`), 2 wrong usage, 3 stalled.
 
 Example: mcos threads config.json stimuli.json";
+
+const TURNS_HELP: &str =
+    "how many turns of a core in a row may change nothing, 1 to 1000000000; without it 1000000";
+
+const MAIL_HELP: &str = "how envelopes go from core to core; without it ring";
 
 /// The program's job, with the paths of its files.
 #[derive(Clone, Copy, Debug, PartialEq, Eq)]
@@ -227,12 +240,31 @@ fn job_named<'a>(name: &str, entries: &ArgMatches<'a>) -> Job<'a>
     ensures { HasEntries (rows_of (found_of entries.now)) result × (subcommand_name result ≡ name.now) }
 {
     match name {
-        "run" => run_job(entries),
-        "check" => check_job(entries),
-        "cut" => cut_job(entries),
-        "groups" => groups_job(entries),
-        "group" => group_job(entries),
-        _ => replay_job(entries),
+        "run" => Job::Run {
+            config: config_of(entries),
+            stimuli: stimuli_of(entries),
+            schedule: entry_of(entries, "schedule"),
+            items: items_core(entries),
+        },
+        "check" => Job::Check {
+            config: config_of(entries),
+        },
+        "cut" => Job::Cut {
+            config: config_of(entries),
+            core: core_of(entries),
+        },
+        "groups" => Job::Groups {
+            config: config_of(entries),
+        },
+        "group" => Job::Group {
+            config: config_of(entries),
+            core: core_of(entries),
+        },
+        _ => Job::Replay {
+            config: config_of(entries),
+            core: core_of(entries),
+            log: text_in(entries, "LOG"),
+        },
     }
 }
 
@@ -289,18 +321,6 @@ fn core_of(entries: &ArgMatches) -> CoreId
     core_in(text_in(entries, "CORE"))
 }
 
-fn run_job<'a>(run: &ArgMatches<'a>) -> Job<'a>
-    requires { HasRun (rows_of (found_of run.now)) }
-    ensures { HasEntries (rows_of (found_of run.now)) result × (subcommand_name result ≡ codes "run") }
-{
-    Job::Run {
-        config: config_of(run),
-        stimuli: stimuli_of(run),
-        schedule: entry_of(run, "schedule"),
-        items: items_core(run),
-    }
-}
-
 // The core of `--items`, if that is there.
 fn items_core(run: &ArgMatches) -> Option<CoreId>
     requires { IfSome (first_of (codes "items") (rows_of (found_of run.now))) (IsUnsignedIn 0 255) }
@@ -309,55 +329,6 @@ fn items_core(run: &ArgMatches) -> Option<CoreId>
     match entry_of(run, "items") {
         Some(core) => Some(core_in(core)),
         None => None,
-    }
-}
-
-fn check_job<'a>(check: &ArgMatches<'a>) -> Job<'a>
-    requires { HasConfig (rows_of (found_of check.now)) }
-    ensures { HasEntries (rows_of (found_of check.now)) result × (subcommand_name result ≡ codes "check") }
-{
-    Job::Check {
-        config: config_of(check),
-    }
-}
-
-fn cut_job<'a>(cut: &ArgMatches<'a>) -> Job<'a>
-    requires { HasConfigAndCore (rows_of (found_of cut.now)) }
-    ensures { HasEntries (rows_of (found_of cut.now)) result × (subcommand_name result ≡ codes "cut") }
-{
-    Job::Cut {
-        config: config_of(cut),
-        core: core_of(cut),
-    }
-}
-
-fn groups_job<'a>(groups: &ArgMatches<'a>) -> Job<'a>
-    requires { HasConfig (rows_of (found_of groups.now)) }
-    ensures { HasEntries (rows_of (found_of groups.now)) result × (subcommand_name result ≡ codes "groups") }
-{
-    Job::Groups {
-        config: config_of(groups),
-    }
-}
-
-fn group_job<'a>(group: &ArgMatches<'a>) -> Job<'a>
-    requires { HasConfigAndCore (rows_of (found_of group.now)) }
-    ensures { HasEntries (rows_of (found_of group.now)) result × (subcommand_name result ≡ codes "group") }
-{
-    Job::Group {
-        config: config_of(group),
-        core: core_of(group),
-    }
-}
-
-fn replay_job<'a>(replay: &ArgMatches<'a>) -> Job<'a>
-    requires { HasReplay (rows_of (found_of replay.now)) }
-    ensures { HasEntries (rows_of (found_of replay.now)) result × (subcommand_name result ≡ codes "replay") }
-{
-    Job::Replay {
-        config: config_of(replay),
-        core: core_of(replay),
-        log: text_in(replay, "LOG"),
     }
 }
 
@@ -464,10 +435,10 @@ fn command<'a>(alloc: Global, kinds: &'a [&'a str]) -> Result<Command<'a>, Alloc
         .about("A multicore AUTOSAR OS kernel, simulated")
         .subcommand_required(true)
         .subcommand(run_command(alloc)?)?
-        .subcommand(check_command(alloc)?)?
-        .subcommand(cut_command(alloc)?)?
-        .subcommand(groups_command(alloc)?)?
-        .subcommand(group_command(alloc)?)?
+        .subcommand(config_command(alloc, "check", CHECK_ABOUT, CHECK_HELP)?)?
+        .subcommand(core_command(alloc, "cut", CUT_ABOUT, CUT_HELP)?)?
+        .subcommand(config_command(alloc, "groups", GROUPS_ABOUT, GROUPS_HELP)?)?
+        .subcommand(core_command(alloc, "group", GROUP_ABOUT, GROUP_HELP)?)?
         .subcommand(replay_command(alloc)?)?
         .subcommand(threads_command(alloc, kinds)?)
 }
@@ -481,10 +452,60 @@ fn config_command<'a>(
 ) -> Result<Command<'a>, AllocError>
     ensures { IfOk result (λ command. app_of command ≡ with_rule (new_app name.now) config_rule) }
 {
+    let config = required_arg(alloc, "CFG", "the configuration, a JSON file");
     Command::new(alloc, name)
         .about(about)
         .after_help(help)
-        .arg(config_arg(alloc))
+        .arg(config)
+}
+
+// And one that names a core.
+fn core_command<'a>(
+    alloc: Global,
+    name: &'a str,
+    about: &'a str,
+    help: &'a str,
+) -> Result<Command<'a>, AllocError>
+    ensures { IfOk result (λ command. app_of command ≡ with_rule (with_rule (new_app name.now) config_rule) core_rule) }
+{
+    config_command(alloc, name, about, help)?.arg(core_arg(alloc))
+}
+
+fn core_arg<'a>(alloc: Global) -> Arg<'a>
+    ensures rule { rule_of result ≡ core_rule }
+    ensures own { result.global ≡ false }
+{
+    Arg::new(alloc, "CORE")
+        .required(true)
+        .value_parser(ValueParser::unsigned(0, 255))
+        .help("the core's number")
+}
+
+// An argument that each call names.
+fn required_arg<'a>(alloc: Global, name: &'a str, help: &'a str) -> Arg<'a>
+    ensures rule { rule_of result ≡ required_rule name.now }
+    ensures own { result.global ≡ false }
+{
+    Arg::new(alloc, name).required(true).help(help)
+}
+
+// An option with a value, of the same name.
+fn option_arg<'a>(
+    alloc: Global,
+    name: &'a str,
+    value: &'a str,
+    parser: ValueParser<'a>,
+    help: &'a str,
+) -> Arg<'a>
+    ensures rule { rule_of result ≡ option_rule name.now parser.entry }
+    ensures own { result.global ≡ false }
+{
+    Arg::new(alloc, name)
+        .long(name)
+        .value_name(value)
+        .value_parser(parser)
+        .action(ArgAction::Set)
+        .help(help)
 }
 
 fn run_command<'a>(alloc: Global) -> Result<Command<'a>, AllocError>
@@ -501,9 +522,7 @@ fn stimuli_arg<'a>(alloc: Global) -> Arg<'a>
     ensures rule { rule_of result ≡ stimuli_rule }
     ensures own { result.global ≡ false }
 {
-    Arg::new(alloc, "STIM")
-        .required(true)
-        .help("each core's stimuli, a JSON file")
+    required_arg(alloc, "STIM", "each core's stimuli, a JSON file")
 }
 
 fn schedule_arg<'a>(alloc: Global) -> Arg<'a>
@@ -521,90 +540,29 @@ fn items_arg<'a>(alloc: Global) -> Arg<'a>
     ensures rule { rule_of result ≡ items_rule }
     ensures own { result.global ≡ false }
 {
-    Arg::new(alloc, "items")
-        .long("items")
-        .value_name("CORE")
-        .value_parser(ValueParser::unsigned(0, 255))
-        .action(ArgAction::Set)
-        .help("prints the log of the core of this number alone")
-}
-
-fn check_command<'a>(alloc: Global) -> Result<Command<'a>, AllocError>
-    ensures { IfOk result (λ command. app_of command ≡ check_command) }
-{
-    let about = "Prints for each core whether it is separate, bound to others or off";
-    config_command(alloc, "check", about, CHECK_HELP)
-}
-
-fn cut_command<'a>(alloc: Global) -> Result<Command<'a>, AllocError>
-    ensures { IfOk result (λ command. app_of command ≡ cut_command) }
-{
-    let about = "Prints the configuration of a separate core alone";
-    config_command(alloc, "cut", about, CUT_HELP)?.arg(core_arg(alloc))
-}
-
-fn groups_command<'a>(alloc: Global) -> Result<Command<'a>, AllocError>
-    ensures { IfOk result (λ command. app_of command ≡ groups_command) }
-{
-    let about = "Prints the cores of each core's least group";
-    config_command(alloc, "groups", about, GROUPS_HELP)
-}
-
-fn group_command<'a>(alloc: Global) -> Result<Command<'a>, AllocError>
-    ensures { IfOk result (λ command. app_of command ≡ group_command) }
-{
-    let about = "Prints the configuration of a core's least group by itself";
-    config_command(alloc, "group", about, GROUP_HELP)?.arg(core_arg(alloc))
+    let help = "prints the log of the core of this number alone";
+    option_arg(alloc, "items", "CORE", ValueParser::unsigned(0, 255), help)
 }
 
 fn replay_command<'a>(alloc: Global) -> Result<Command<'a>, AllocError>
     ensures { IfOk result (λ command. app_of command ≡ replay_command) }
 {
     let about = "Plays a core by itself with the items of its log, and prints its trace";
-    let log = Arg::new(alloc, "LOG")
-        .required(true)
-        .help("the core's log, a text file");
-    config_command(alloc, "replay", about, REPLAY_HELP)?
-        .arg(core_arg(alloc))?
-        .arg(log)
+    let log = required_arg(alloc, "LOG", "the core's log, a text file");
+    core_command(alloc, "replay", about, REPLAY_HELP)?.arg(log)
 }
 
 fn threads_command<'a>(alloc: Global, kinds: &'a [&'a str]) -> Result<Command<'a>, AllocError>
     ensures { IfOk result (λ command. app_of command ≡ threads_command kinds.entry) }
 {
     let about = "Runs each core on a thread of its own, and prints each core's trace";
+    let turns = ValueParser::unsigned(1, MOST_TURNS);
     config_command(alloc, "threads", about, THREADS_HELP)?
         .arg(stimuli_arg(alloc))?
-        .arg(turns_arg(alloc))?
-        .arg(mail_arg(alloc, kinds))?
+        .arg(option_arg(alloc, "turns", "N", turns, TURNS_HELP))?
+        .arg(option_arg(alloc, "mail", "KIND", ValueParser::Names(kinds), MAIL_HELP))?
         .arg(items_arg(alloc))?
         .arg(order_arg(alloc))
-}
-
-fn turns_arg<'a>(alloc: Global) -> Arg<'a>
-    ensures rule { rule_of result ≡ turns_rule }
-    ensures own { result.global ≡ false }
-{
-    Arg::new(alloc, "turns")
-        .long("turns")
-        .value_name("N")
-        .value_parser(ValueParser::unsigned(1, MOST_TURNS))
-        .action(ArgAction::Set)
-        .help(
-            "how many turns of a core in a row may change nothing, 1 to 1000000000; without it 1000000",
-        )
-}
-
-fn mail_arg<'a>(alloc: Global, kinds: &'a [&'a str]) -> Arg<'a>
-    ensures rule { rule_of result ≡ mail_rule kinds.entry }
-    ensures own { result.global ≡ false }
-{
-    Arg::new(alloc, "mail")
-        .long("mail")
-        .value_name("KIND")
-        .value_parser(ValueParser::Names(kinds))
-        .action(ArgAction::Set)
-        .help("how envelopes go from core to core; without it ring")
 }
 
 fn order_arg<'a>(alloc: Global) -> Arg<'a>
@@ -615,23 +573,4 @@ fn order_arg<'a>(alloc: Global) -> Arg<'a>
         .long("order")
         .action(ArgAction::SetTrue)
         .help("prints the turns of all cores in one order, a schedule, or none")
-}
-
-fn core_arg<'a>(alloc: Global) -> Arg<'a>
-    ensures rule { rule_of result ≡ core_rule }
-    ensures own { result.global ≡ false }
-{
-    Arg::new(alloc, "CORE")
-        .required(true)
-        .value_parser(ValueParser::unsigned(0, 255))
-        .help("the core's number")
-}
-
-fn config_arg<'a>(alloc: Global) -> Arg<'a>
-    ensures rule { rule_of result ≡ config_rule }
-    ensures own { result.global ≡ false }
-{
-    Arg::new(alloc, "CFG")
-        .required(true)
-        .help("the configuration, a JSON file")
 }

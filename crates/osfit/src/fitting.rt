@@ -8,7 +8,7 @@ ghost use Rattle.osfit.specs.Fits.{fits_core, fits_in};
 ghost use Rattle.osplan.specs.Objects.{most_posts_of_table, is_posting, outbox_needed, posted_at, most_posts_per_tick};
 
 use osbase::{CALLS_AT_ONCE, CoreId, RemoteCall};
-use osplan::{Config, Core, ExpiryPoint, Table, Task};
+use osplan::{Config, Core, ExpiryPoint, Resource, Table, Task};
 
 fn is_posting(core: &Core, action: RemoteCall) -> bool
     ensures { result ≡ is_posting core.now action }
@@ -81,20 +81,18 @@ fn jobs_of(tasks: &[Task]) -> usize
     jobs
 }
 
-fn are_tasks_below(core: &Core, priorities: usize) -> bool
-    ensures { result ≡ list_all (λ (t : TaskValue). nat_lt t.priority priorities) core.now.tasks }
+fn are_tasks_below(tasks: &[Task], priorities: usize) -> bool
+    ensures { result ≡ list_all (λ (t : TaskValue). nat_lt t.priority priorities) tasks.now }
 {
-    core.tasks
-        .as_slice()
+    tasks
         .iter()
         .all(|task| usize::from(task.priority) < priorities)
 }
 
-fn are_ceilings_below(core: &Core, priorities: usize) -> bool
-    ensures { result ≡ list_all (λ (r : ResourceValue). nat_lt r.ceiling priorities) core.now.resources }
+fn are_ceilings_below(resources: &[Resource], priorities: usize) -> bool
+    ensures { result ≡ list_all (λ (r : ResourceValue). nat_lt r.ceiling priorities) resources.now }
 {
-    core.resources
-        .as_slice()
+    resources
         .iter()
         .all(|resource| usize::from(resource.ceiling) < priorities)
 }
@@ -104,9 +102,11 @@ fn fits_core(core: &Core, priorities: usize, jobs: usize, places: usize) -> bool
     requires posted { most_posts_per_tick core.now ≤ POSTED }
     ensures { result ≡ fits_core priorities jobs places core.now }
 {
-    are_tasks_below(core, priorities)
-        && are_ceilings_below(core, priorities)
-        && jobs_of(core.tasks.as_slice()) <= jobs
+    let tasks = core.tasks.as_slice();
+    let resources = core.resources.as_slice();
+    are_tasks_below(tasks, priorities)
+        && are_ceilings_below(resources, priorities)
+        && jobs_of(tasks) <= jobs
         && outbox_needed(core) <= places
 }
 

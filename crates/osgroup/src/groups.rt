@@ -2,13 +2,14 @@
 
 ghost use Rattle.std.specs.Prelude.{◌≡◌, ◌<◌, ◌&&◌, ◌||◌, not, IsTrue, is_some, true};
 ghost use Rattle.std.specs.List.{list_all};
-ghost use Rattle.osbase.specs.{History.same_core, Sets.has_core, declared.limits.TheConstants.CORES, declared.references.CoreId.CoreId as IdValue};
+ghost use Rattle.osbase.specs.{Sets.has_core, declared.limits.TheConstants.CORES, declared.references.CoreId.CoreId as IdValue};
 ghost use Rattle.osplan.specs.{declared.plans.Core.Core as CoreValue, Limits.is_within_limits, View.core_of};
 ghost use Rattle.osgroup.specs.Groups.{are_configured, belongs_within, has_say, is_apart, is_group, is_in_least_group, names_spinlock, share_spinlock};
 ghost use Rattle.osgroup.specs.Least.{AreRows, IsLeast, IsRow, is_in_one_row, is_in_row, is_next, has_say_at, has_say_in};
 
 use osbase::{CORE_NUMBERS, CORES, CoreId, CoreSet, SpinlockId};
 use osplan::{Config, Core, OpTest, Plan, Side, has_operation};
+use osseparate::set_of;
 
 fn names_spinlock(core: &Core, lock: SpinlockId) -> bool
     ensures { result ≡ names_spinlock core.now lock }
@@ -171,23 +172,13 @@ fn after_round(all: &[Core], rows: &[CoreSet; CORES], cores: &CoreSet) -> CoreSe
     CoreSet { members }
 }
 
-// This core alone.
-fn one(core: CoreId) -> CoreSet
-    requires { core.number < CORES }
-    ensures { (id : IdValue) → id.number < CORES → has_core result id ≡ same_core id core }
-{
-    let mut members = [false; CORES];
-    members[usize::from(core.number)] = true;
-    CoreSet { members }
-}
-
-// And where it is not configured, none.
+// This core alone, or none where it is not configured.
 fn at_first(plan: &Plan, core: CoreId) -> CoreSet
     requires { IsTrue (is_within_limits plan.now) }
     ensures { (id : IdValue) → has_core result id ≡ belongs_within plan.now core 0 id }
 {
     if plan.core(core).is_some() {
-        one(core)
+        set_of(core)
     } else {
         CoreSet {
             members: [false; CORES],

@@ -10,27 +10,22 @@ use Rattle.osthreads.specs.declared.runs.ThreadReason.TheVariants as threads
 use Rattle.osjob.specs.declared.faults.Fault.{Fault}
 use Rattle.osjob.specs.declared.faults.Fault.TheVariants.{Text, BadLog, ItemRefused, NoMemoryToRun, NoThread, MailBreak, WriteFailed, Unreadable}
 
--- The printed number of a fault. Of a text's fault it is that of `osplan/specs/Fault.antt`. [own]
-abbrev pub fault_number : Fault → ℕ
-fault_number (Text fault) = conf_fault_number fault
-fault_number BadLog = 14
-fault_number (ItemRefused number) = 15
-fault_number NoMemoryToRun = 16
-fault_number NoThread = 17
-fault_number MailBreak = 18
-fault_number WriteFailed = 19
-fault_number Unreadable = 21
+-- The number and the word of a fault. Of a text's fault they are those of `osplan/specs/Fault.antt`. [own]
+abbrev pub fault_row : Fault → ℕ × List ℕ
+fault_row (Text fault) = (conf_fault_number fault, conf_fault_name fault)
+fault_row BadLog = (14, codes "BadLog")
+fault_row (ItemRefused number) = (15, codes "ItemRefused")
+fault_row NoMemoryToRun = (16, codes "NoMemory")
+fault_row NoThread = (17, codes "NoThread")
+fault_row MailBreak = (18, codes "MailBreak")
+fault_row WriteFailed = (19, codes "WriteFailed")
+fault_row Unreadable = (21, codes "Unreadable")
 
--- The printed word of a fault. Of a text's fault it is that of `osplan/specs/Fault.antt`. [own]
+abbrev pub fault_number : Fault → ℕ
+fault_number fault = (fault_row fault).0
+
 abbrev pub fault_name : Fault → List ℕ
-fault_name (Text fault) = conf_fault_name fault
-fault_name BadLog = codes "BadLog"
-fault_name (ItemRefused number) = codes "ItemRefused"
-fault_name NoMemoryToRun = codes "NoMemory"
-fault_name NoThread = codes "NoThread"
-fault_name MailBreak = codes "MailBreak"
-fault_name WriteFailed = codes "WriteFailed"
-fault_name Unreadable = codes "Unreadable"
+fault_name fault = (fault_row fault).1
 
 -- What the line says behind the word: which item was refused.
 abbrev pub fault_place : Fault → List (List ℕ)

@@ -39,31 +39,30 @@ impl Fault {
     pub fn number(self) -> u8
         ensures { result ≡ fault_number self }
     {
-        match self {
-            Fault::Text(fault) => fault.number(),
-            Fault::BadLog => 14,
-            Fault::ItemRefused(_) => 15,
-            Fault::NoMemoryToRun => 16,
-            Fault::NoThread => 17,
-            Fault::MailBreak => 18,
-            Fault::WriteFailed => 19,
-            Fault::Unreadable => 21,
-        }
+        self.printed().0
     }
 
     /// The word that is printed.
     pub fn name(self) -> &'static str
         ensures { result.now ≡ fault_name self }
     {
+        self.printed().1
+    }
+
+    // The number and the word that are printed.
+    fn printed(self) -> (u8, &'static str)
+        ensures number { result.0 ≡ fault_number self }
+        ensures name { result.1.now ≡ fault_name self }
+    {
         match self {
-            Fault::Text(fault) => fault.name(),
-            Fault::BadLog => "BadLog",
-            Fault::ItemRefused(_) => "ItemRefused",
-            Fault::NoMemoryToRun => "NoMemory",
-            Fault::NoThread => "NoThread",
-            Fault::MailBreak => "MailBreak",
-            Fault::WriteFailed => "WriteFailed",
-            Fault::Unreadable => "Unreadable",
+            Fault::Text(fault) => (fault.number(), fault.name()),
+            Fault::BadLog => (14, "BadLog"),
+            Fault::ItemRefused(_) => (15, "ItemRefused"),
+            Fault::NoMemoryToRun => (16, "NoMemory"),
+            Fault::NoThread => (17, "NoThread"),
+            Fault::MailBreak => (18, "MailBreak"),
+            Fault::WriteFailed => (19, "WriteFailed"),
+            Fault::Unreadable => (21, "Unreadable"),
         }
     }
 }
@@ -84,6 +83,14 @@ impl From<AllocError> for Fault {
     }
 }
 
+impl From<RunFault> for Fault {
+    ghost from_gives = { λ _ fault. fault ≡ NoMemoryToRun };
+
+    fn from(_refused: RunFault) -> Fault {
+        Fault::NoMemoryToRun
+    }
+}
+
 impl From<LogFault> for Fault {
     ghost from_gives = { λ log fault. fault ≡ of_log log };
 
@@ -95,21 +102,12 @@ impl From<LogFault> for Fault {
     }
 }
 
-impl From<RunFault> for Fault {
-    ghost from_gives = { λ _ fault. fault ≡ NoMemoryToRun };
-
-    fn from(_refused: RunFault) -> Fault {
-        Fault::NoMemoryToRun
-    }
-}
-
 impl From<ThreadFault> for Fault {
     ghost from_gives = { λ broken fault. fault ≡ of_threads broken.reason };
 
     fn from(broken: ThreadFault) -> Fault {
         match broken.reason {
-            ThreadReason::NotBegun => Fault::NoMemoryToRun,
-            ThreadReason::NoMemory => Fault::NoMemoryToRun,
+            ThreadReason::NotBegun | ThreadReason::NoMemory => Fault::NoMemoryToRun,
             ThreadReason::NoThread => Fault::NoThread,
             ThreadReason::MailBreak => Fault::MailBreak,
         }

@@ -115,107 +115,48 @@ fn tried(parts: &Parts, taken: bool) -> Item
 pub fn form_of(item: &Item) -> (Line, Parts)
     ensures { result ≡ form_of item.now }
 {
+    let none = Parts::none();
     match *item {
-        Item::On => plain(Line::On),
+        Item::On => (Line::On, none),
         Item::Began { core, status } => answered(Line::Began, core, status),
-        Item::Entered => plain(Line::Entered),
-        Item::Pass1(agreement) => agreed(agreement),
-        Item::Readied => plain(Line::Readied),
-        Item::Pass2(cores) => (
-            Line::Started,
-            Parts {
-                cores,
-                ..Parts::none()
-            },
-        ),
-        Item::Stim(stimulus) => stimulated(stimulus),
-        Item::Posted(core) => (
-            Line::Posted,
-            Parts {
-                core,
-                ..Parts::none()
-            },
-        ),
+        Item::Entered => (Line::Entered, none),
+        Item::Pass1(Agreement::Conflict) => (Line::Conflict, none),
+        Item::Pass1(Agreement::NoMode) => (Line::NoMode, none),
+        Item::Pass1(Agreement::Mode(mode)) => (Line::Agreed, Parts { mode, ..none }),
+        Item::Readied => (Line::Readied, none),
+        Item::Pass2(cores) => (Line::Started, Parts { cores, ..none }),
+        Item::Stim(Stimulus::Op) => (Line::Op, none),
+        Item::Stim(Stimulus::Tick) => (Line::Tick, none),
+        Item::Stim(Stimulus::Irq(isr)) => (Line::Irq, Parts { isr, ..none }),
+        Item::Posted(core) => (Line::Posted, Parts { core, ..none }),
         Item::Received {
             from,
             number,
             message,
         } => message_form(from, number, message),
-        Item::Granted(spinlock) => spinning(Line::Granted, spinlock),
+        Item::Granted(spinlock) => (Line::Granted, Parts { spinlock, ..none }),
         Item::Tried { spinlock, taken } => {
             let line = if taken { Line::Taken } else { Line::NotTaken };
-            spinning(line, spinlock)
+            (line, Parts { spinlock, ..none })
         }
-        Item::Freed(spinlock) => spinning(Line::Freed, spinlock),
+        Item::Freed(spinlock) => (Line::Freed, Parts { spinlock, ..none }),
         Item::Halt { core, status } => answered(Line::Halt, core, status),
-        Item::Drained => plain(Line::Drained),
-        Item::PassEnd => plain(Line::PassEnd),
-        Item::Last(None) => plain(Line::Last),
+        Item::Drained => (Line::Drained, none),
+        Item::PassEnd => (Line::PassEnd, none),
+        Item::Last(None) => (Line::Last, none),
         Item::Last(Some((core, status))) => answered(Line::LastHalted, core, status),
     }
-}
-
-fn plain(line: Line) -> (Line, Parts)
-    ensures { result ≡ (line, no_parts) }
-{
-    (line, Parts::none())
 }
 
 fn answered(line: Line, core: CoreId, status: Status) -> (Line, Parts)
     ensures { result ≡ (line, record no_parts { core = core; status = status }) }
 {
-    (
-        line,
-        Parts {
-            core,
-            status,
-            ..Parts::none()
-        },
-    )
-}
-
-fn spinning(line: Line, spinlock: SpinlockId) -> (Line, Parts)
-    ensures { result ≡ (line, record no_parts { spinlock = spinlock }) }
-{
-    (
-        line,
-        Parts {
-            spinlock,
-            ..Parts::none()
-        },
-    )
-}
-
-fn agreed(agreement: Agreement) -> (Line, Parts)
-    ensures { result ≡ form_of (Item.Pass1 agreement) }
-{
-    match agreement {
-        Agreement::Conflict => plain(Line::Conflict),
-        Agreement::NoMode => plain(Line::NoMode),
-        Agreement::Mode(mode) => (
-            Line::Agreed,
-            Parts {
-                mode,
-                ..Parts::none()
-            },
-        ),
-    }
-}
-
-fn stimulated(stimulus: Stimulus) -> (Line, Parts)
-    ensures { result ≡ form_of (Item.Stim stimulus) }
-{
-    match stimulus {
-        Stimulus::Op => plain(Line::Op),
-        Stimulus::Tick => plain(Line::Tick),
-        Stimulus::Irq(isr) => (
-            Line::Irq,
-            Parts {
-                isr,
-                ..Parts::none()
-            },
-        ),
-    }
+    let parts = Parts {
+        core,
+        status,
+        ..Parts::none()
+    };
+    (line, parts)
 }
 
 fn message_form(core: CoreId, count: u64, message: Message) -> (Line, Parts)

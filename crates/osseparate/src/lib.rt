@@ -7,4 +7,4 @@ mod cuts;
 mod separate;
 
 pub use cuts::cut;
-pub use separate::{Coupling, coupling_of, is_separate};
+pub use separate::{Coupling, coupling_of, is_separate, set_of};

@@ -38,13 +38,13 @@ fn after_round(cores: &[Core], started: &CoreSet) -> CoreSet
     CoreSet { members }
 }
 
-// The master alone.
-fn at_first(master: CoreId) -> CoreSet
-    requires { master.number < CORES }
-    ensures { (id : CoreId) → id.number < CORES → has_core result id ≡ same_core id master }
+/// The set of this core alone.
+pub fn set_of(core: CoreId) -> CoreSet
+    requires { core.number < CORES }
+    ensures { (id : CoreId) → id.number < CORES → has_core result id ≡ same_core id core }
 {
     let mut members = [false; CORES];
-    members[usize::from(master.number)] = true;
+    members[usize::from(core.number)] = true;
     CoreSet { members }
 }
 
@@ -53,7 +53,7 @@ fn started_cores(plan: &Plan) -> CoreSet
     ensures { AreStarted plan.now result }
 {
     let cores = plan.cores.as_slice();
-    let mut started = at_first(plan.master);
+    let mut started = set_of(plan.master);
     for _round in 0..cores.len() {
         started = after_round(cores, &started);
     }

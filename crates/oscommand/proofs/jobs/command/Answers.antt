@@ -22,9 +22,9 @@ returns c =
     let named = ap app_of_fields c.about.ensures ∙ ap app_of_fields c.version.ensures ∙ ap tells_version c.new.ensures.app in
     let above = ap app_of_fields c.subcommand_required.ensures ∙ ap requires_subcommand named in
     let run = joined _ _ _ _ _ c.in_ok-subcommand.ensures refl above c.in_ok-run_command.ensures in
-    let check = joined _ _ _ _ _ c.in_ok-subcommand-2.ensures refl run c.in_ok-check_command.ensures in
-    let cut = joined _ _ _ _ _ c.in_ok-subcommand-3.ensures refl check c.in_ok-cut_command.ensures in
-    let groups = joined _ _ _ _ _ c.in_ok-subcommand-4.ensures refl cut c.in_ok-groups_command.ensures in
-    let group = joined _ _ _ _ _ c.in_ok-subcommand-5.ensures refl groups c.in_ok-group_command.ensures in
+    let check = joined _ _ _ _ _ c.in_ok-subcommand-2.ensures refl run c.in_ok-config_command.ensures in
+    let cut = joined _ _ _ _ _ c.in_ok-subcommand-3.ensures refl check c.in_ok-core_command.ensures in
+    let groups = joined _ _ _ _ _ c.in_ok-subcommand-4.ensures refl cut c.in_ok-config_command-2.ensures in
+    let group = joined _ _ _ _ _ c.in_ok-subcommand-5.ensures refl groups c.in_ok-core_command-2.ensures in
     let replay = joined _ _ _ _ _ c.in_ok-subcommand-6.ensures refl group c.in_ok-replay_command.ensures in
     IfOk-weaker c.subcommand-7.result _ _ (λ r added. joined _ _ _ _ _ added refl replay c.in_ok-threads_command.ensures) c.subcommand-7.ensures

@@ -1,11 +1,5 @@
 use Rattle.std.proofs.Common.{refl}
 use Rattle.osexamples.proofs.groups.pair_takes_these_items_by_default.Goals as goal
 
-pub returns-clause-rounds : goal.returns-clause-rounds
-returns-clause-rounds c = refl
-
-pub returns-clause-items : goal.returns-clause-items
-returns-clause-items c = refl
-
-pub returns-clause-parts : goal.returns-clause-parts
-returns-clause-parts c = refl
+pub returns : goal.returns
+returns c = record { rounds = refl; items = refl; parts = refl }

@@ -7,5 +7,4 @@ returns-in_err-config-clause-comes g c = PrintsFrom-faulty _ _ _ _ _ _ _ _ _ c.f
 
 pub returns-clause-comes : goal.returns-clause-comes
 returns-clause-comes g c =
-    let plan = c.in_ok-config.config in
-    PrintsFrom-done _ _ _ _ _ _ _ _ _ _ _ (record { plan = plan; config = c.in_ok-config.ensures.ok; text_is = refl; outcome_is = refl }) c.write_check.ensures c.written.ensures
+    PrintsFrom-done _ _ _ _ _ _ _ _ _ _ _ (record { plan = c.in_ok-config.config; config = c.in_ok-config.ensures.ok; text_is = refl; outcome_is = refl }) c.write_check.ensures c.written.ensures

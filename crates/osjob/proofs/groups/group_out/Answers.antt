@@ -9,9 +9,8 @@ returns-in_err-config-clause-comes g c =
 
 pub returns-in_err-known_core-clause-comes : goal.returns-in_err-known_core-clause-comes
 returns-in_err-known_core-clause-comes g c =
-    let unknown = c.in_err-known_core.ensures.fault in
     PrintsFrom-faulty _ _ _ _ _ _ _ _ _ c.from_residual-in_err-known_core.ensures.1
-    (λ fault is. rw is ((λ apart. in_core c.in_ok-config.config c.in_ok-config.ensures.ok unknown), (λ unreadable. let named = unknown.1 in cc)))
+    (λ fault is. rw is ((λ apart. in_core c.in_ok-config.config c.in_ok-config.ensures.ok c.in_err-known_core.ensures.fault), (λ unreadable. let named = c.in_err-known_core.ensures.fault.1 in cc)))
 
 pub returns-in_err-text-clause-comes : goal.returns-in_err-text-clause-comes
 returns-in_err-text-clause-comes g c =

@@ -1,6 +1,0 @@
-use Rattle.std.proofs.Common.{◌∙◌}
-use Rattle.osbase.proofs.Sets.{has_core-flag, one-flag}
-use Rattle.osseparate.proofs.separate.at_first.Goals as goal
-
-pub returns : goal.returns
-returns c = λ id lt. has_core-flag _ id lt ∙ rw c.from.ensures (one-flag 16 c.args.master.number id.number c.requires)
