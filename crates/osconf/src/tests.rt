@@ -283,184 +283,85 @@ fn play_all(rt: &impl Abort, alloc: Global, tables: &[Table], cases: usize) -> R
 
 #[test]
 fn texts_that_are_no_configurations(rt: HostRuntime) -> Result<(), Fail> {
-    let tables: &[Table] = &[
-        (Reader::Configuration, "@", hostile::TEXTS),
-        (Reader::Configuration, "\u{feff}@", hostile::AROUND),
-        (Reader::Configuration, "@\0", hostile::AROUND),
-        (
-            Reader::Configuration,
-            "{\"cores\":\"\n@\"}",
-            hostile::WITHIN,
-        ),
-    ];
-    play_all(&rt, rt.alloc(), tables, 398)
+    play_all(&rt, rt.alloc(), hostile::ALL, 398)
 }
 
 #[test]
 fn texts_at_limits(rt: HostRuntime) -> Result<(), Fail> {
-    let tables: &[Table] = &[(Reader::Configuration, "@", limits::TEXTS)];
-    play_all(&rt, rt.alloc(), tables, 194)
+    play_all(&rt, rt.alloc(), limits::ALL, 194)
 }
 
 #[test]
 fn texts_with_modes(rt: HostRuntime) -> Result<(), Fail> {
-    let tables: &[Table] = &[(Reader::Configuration, "@", modes::TEXTS)];
-    play_all(&rt, rt.alloc(), tables, 143)
+    play_all(&rt, rt.alloc(), modes::ALL, 143)
 }
 
 #[test]
 fn texts_with_spinlocks(rt: HostRuntime) -> Result<(), Fail> {
-    let tables: &[Table] = &[
-        (Reader::Configuration, "@", spinlocks::TEXTS),
-        (
-            Reader::Configuration,
-            spinlocks::TWO_CORES,
-            spinlocks::OPERATIONS,
-        ),
-        (Reader::Configuration, "@", spinlocks::ACTIONS),
-    ];
-    play_all(&rt, rt.alloc(), tables, 287)
+    play_all(&rt, rt.alloc(), spinlocks::ALL, 287)
 }
 
 #[test]
-fn texts_with_names_and_arguments(rt: HostRuntime) -> Result<(), Fail> {
-    let tables: &[Table] = &[
-        (Reader::Configuration, "@", names::TEXTS),
-        (Reader::Configuration, "@", operations::TEXTS),
-    ];
-    play_all(&rt, rt.alloc(), tables, 237)
+fn texts_with_names(rt: HostRuntime) -> Result<(), Fail> {
+    play_all(&rt, rt.alloc(), names::ALL, 128)
+}
+
+#[test]
+fn texts_with_arguments(rt: HostRuntime) -> Result<(), Fail> {
+    play_all(&rt, rt.alloc(), operations::ALL, 109)
 }
 
 #[test]
 fn texts_with_names_and_numbers(rt: HostRuntime) -> Result<(), Fail> {
-    let tables: &[Table] = &[
-        (Reader::Configuration, numbers::SCRIPT, numbers::NUMBERS),
-        (
-            Reader::Configuration,
-            numbers::DISORDER,
-            numbers::BESIDE_A_TABLE,
-        ),
-        (
-            Reader::Configuration,
-            numbers::INACTION,
-            numbers::BESIDE_AN_ACTION,
-        ),
-    ];
-    play_all(&rt, rt.alloc(), tables, 703)
+    play_all(&rt, rt.alloc(), numbers::ALL, 703)
 }
 
 #[test]
-fn texts_with_events_and_resources(rt: HostRuntime) -> Result<(), Fail> {
-    let tables: &[Table] = &[
-        (Reader::Configuration, "@", events::TEXTS),
-        (Reader::Configuration, events::TWO_CORES, events::OPERATIONS),
-        (Reader::Configuration, "@", resources::TEXTS),
-        (
-            Reader::Configuration,
-            resources::TWO_CORES,
-            resources::OPERATIONS,
-        ),
-    ];
-    play_all(&rt, rt.alloc(), tables, 285)
+fn texts_with_events(rt: HostRuntime) -> Result<(), Fail> {
+    play_all(&rt, rt.alloc(), events::ALL, 180)
+}
+
+#[test]
+fn texts_with_resources(rt: HostRuntime) -> Result<(), Fail> {
+    play_all(&rt, rt.alloc(), resources::ALL, 105)
 }
 
 #[test]
 fn texts_with_counters(rt: HostRuntime) -> Result<(), Fail> {
-    let tables: &[Table] = &[
-        (Reader::Configuration, "@", counters::TEXTS),
-        (
-            Reader::Configuration,
-            counters::TWO_CORES,
-            counters::OPERATIONS,
-        ),
-    ];
-    play_all(&rt, rt.alloc(), tables, 157)
+    play_all(&rt, rt.alloc(), counters::ALL, 157)
 }
 
 #[test]
 fn texts_with_isrs(rt: HostRuntime) -> Result<(), Fail> {
-    let tables: &[Table] = &[
-        (Reader::Configuration, "@", isrs::TEXTS),
-        (Reader::Configuration, isrs::TWO_CORES, isrs::OPERATIONS),
-        (Reader::Interrupts, "@", isrs::INTERRUPTS),
-    ];
-    play_all(&rt, rt.alloc(), tables, 245)
+    play_all(&rt, rt.alloc(), isrs::ALL, 245)
 }
 
 #[test]
 fn texts_with_alarms(rt: HostRuntime) -> Result<(), Fail> {
-    let tables: &[Table] = &[
-        (Reader::Configuration, "@", alarms::TEXTS),
-        (Reader::Configuration, alarms::ACTION, alarms::ACTIONS),
-        (Reader::Configuration, alarms::TWO_CORES, alarms::OPERATIONS),
-    ];
-    play_all(&rt, rt.alloc(), tables, 274)
+    play_all(&rt, rt.alloc(), alarms::ALL, 274)
 }
 
 #[test]
 fn texts_with_tables(rt: HostRuntime) -> Result<(), Fail> {
-    let tables: &[Table] = &[
-        (Reader::Configuration, "@", tables::TEXTS),
-        (Reader::Configuration, tables::TABLE, tables::TABLES),
-        (Reader::Configuration, tables::TIMES, tables::TABLE_TIMES),
-        (Reader::Configuration, tables::SCRIPT, tables::OPERATIONS),
-    ];
-    play_all(&rt, rt.alloc(), tables, 65)
+    play_all(&rt, rt.alloc(), tables::ALL, 65)
 }
 
 #[test]
 fn texts_that_are_no_stimuli_or_schedules(rt: HostRuntime) -> Result<(), Fail> {
-    let tables: &[Table] = &[
-        (Reader::Stimuli, "@", given::NO_STIMULI),
-        (Reader::Schedule, "@", given::NO_SCHEDULES),
-        (Reader::SecondStimuli, "@", given::SECOND_STIMULI),
-        (Reader::SecondSchedule, "@", given::SECOND_SCHEDULES),
-    ];
-    play_all(&rt, rt.alloc(), tables, 194)
+    play_all(&rt, rt.alloc(), given::ALL, 194)
 }
 
 #[test]
 fn texts_that_are_read(rt: HostRuntime) -> Result<(), Fail> {
-    let tables: &[Table] = &[
-        (Reader::Configuration, "@", read::PLANS),
-        (Reader::Stimuli, "@", read::STIMULI),
-        (Reader::Interrupts, "@", read::INTERRUPTS),
-        (Reader::Schedule, "@", read::SCHEDULES),
-        (Reader::SecondStimuli, "@", read::SECOND_STIMULI),
-        (Reader::SecondSchedule, "@", read::SECOND_SCHEDULES),
-    ];
-    play_all(&rt, rt.alloc(), tables, 41)
+    play_all(&rt, rt.alloc(), read::ALL, 41)
 }
 
 #[test]
 fn texts_that_are_written(rt: HostRuntime) -> Result<(), Fail> {
-    let tables: &[Table] = &[
-        (Reader::Written, "@", written::WRITTEN),
-        (Reader::Written, "@", written::SAME),
-        (Reader::Alone(0), "@", written::LONE),
-        (Reader::Alone(1), "@", written::SECOND),
-        (Reader::Alone(2), "@", written::THIRD),
-        (Reader::Alone(15), "@", written::LAST),
-    ];
-    play_all(&rt, rt.alloc(), tables, 19)
+    play_all(&rt, rt.alloc(), written::ALL, 19)
 }
 
 #[test]
 fn separate_and_bound_cores(rt: HostRuntime) -> Result<(), Fail> {
-    let tables: &[Table] = &[
-        (Reader::Alone(0), "@", separate::FIRST),
-        (Reader::Alone(0), events::TWO_CORES, separate::EVENTS),
-        (Reader::Alone(0), counters::TWO_CORES, separate::COUNTERS),
-        (Reader::Alone(0), alarms::TWO_CORES, separate::ALARMS),
-        (Reader::Alone(0), alarms::ACTION, separate::ACTIONS),
-        (Reader::Alone(0), isrs::TWO_CORES, separate::ISRS),
-        (Reader::Alone(0), spinlocks::TWO_TASKS, separate::SPINLOCKS),
-        (Reader::Alone(0), tables::TABLE, separate::TABLES),
-        (Reader::Alone(1), "@", separate::SECOND),
-        (Reader::Alone(2), "@", separate::THIRD),
-        (Reader::Alone(3), "@", separate::FOURTH),
-        (Reader::Alone(5), "@", separate::SIXTH),
-        (Reader::Alone(9), "@", separate::FOURTH),
-    ];
-    play_all(&rt, rt.alloc(), tables, 48)
+    play_all(&rt, rt.alloc(), separate::ALL, 48)
 }

@@ -430,22 +430,6 @@ pub const POLLING: &str = r#"
 // Core 1 polls for the spinlock that core 0 has.
 config {"spinlocks":[{"name":"S"}],"cores":[{"id":0,"start":[1],"tasks":[{"name":"A","prio":1,"auto":["M"],"script":"GetSpinlock S;work;work;ReleaseSpinlock S;TerminateTask"}]},{"id":1,"tasks":[{"name":"B","prio":1,"auto":["M"],"script":"TryToGetSpinlock S v0;jz v0 0;ReleaseSpinlock S;TerminateTask"}]}]}
 stimuli {"0":"op op op op op","1":"op op op op op op op op op op op op"}
-run
-core 0
-start 1 E_OK .. pre A
-stat A GetSpinlock E_OK
-stat A ReleaseSpinlock E_OK
-post A
-end A
-core 1 .. pre B
-stat B TryToGetSpinlock E_OK 0
-stat B TryToGetSpinlock E_OK 0
-stat B TryToGetSpinlock E_OK 1
-stat B ReleaseSpinlock E_OK
-post B
-end B
-ended
-
 items 1
 on .. pass2 0 1
 stim op
@@ -465,6 +449,22 @@ stim op
 stim op
 stim op
 drained .. last
+
+run
+core 0
+start 1 E_OK .. pre A
+stat A GetSpinlock E_OK
+stat A ReleaseSpinlock E_OK
+post A
+end A
+core 1 .. pre B
+stat B TryToGetSpinlock E_OK 0
+stat B TryToGetSpinlock E_OK 0
+stat B TryToGetSpinlock E_OK 1
+stat B ReleaseSpinlock E_OK
+post B
+end B
+ended
 
 replay 1
 as run

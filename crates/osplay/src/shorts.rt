@@ -17,12 +17,18 @@ pub fn push_in_full(text: &mut String, line: &str) -> Result<(), Difference> {
 }
 
 // Between the first item of a core's start and Pass2 there is the mode M, and between those of its end PassEnd. Behind a core's
-// number, or the last core that it starts, comes StartupHook, and then maybe a task that is activated before it runs.
+// number, or the last core that it starts, comes StartupHook, and then maybe a task that is activated before it runs. A job that
+// ends or waits with no line before that has PostTaskHook.
 fn push_between(text: &mut String, first: &str, last: &str) -> Result<(), Difference> {
     match first.split(' ').next().unwrap_or("") {
         "on" | "began" => push_line(text, "entered\npass1 M\nreadied"),
         "entered" => push_line(text, "pass1 M\nreadied"),
         "drained" => push_line(text, "passend"),
+        "pre" => {
+            let task = first.strip_prefix("pre ").ok_or("a task")?;
+            text.push_str("post ")?;
+            push_line(text, task)
+        }
         "core" | "start" => {
             push_line(text, "hook Startup")?;
             if let Some(task) = last.strip_prefix("pre ") {

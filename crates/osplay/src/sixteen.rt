@@ -27,9 +27,7 @@ in 15 ActivateTask B0 E_OK
 stat A0 ActivateTask E_OK
 post A0
 end A0
-pre B0
-post B0
-end B0
+pre B0 .. end B0
 core 1 .. pre A1
 out 2 ActivateTask B2
 act B1
@@ -37,9 +35,7 @@ in 0 ActivateTask B1 E_OK
 stat A1 ActivateTask E_OK
 post A1
 end A1
-pre B1
-post B1
-end B1
+pre B1 .. end B1
 core 2 .. pre A2
 out 3 ActivateTask B3
 act B2
@@ -47,9 +43,7 @@ in 1 ActivateTask B2 E_OK
 stat A2 ActivateTask E_OK
 post A2
 end A2
-pre B2
-post B2
-end B2
+pre B2 .. end B2
 core 3 .. pre A3
 out 4 ActivateTask B4
 act B3
@@ -57,9 +51,7 @@ in 2 ActivateTask B3 E_OK
 stat A3 ActivateTask E_OK
 post A3
 end A3
-pre B3
-post B3
-end B3
+pre B3 .. end B3
 core 4 .. pre A4
 out 5 ActivateTask B5
 act B4
@@ -67,9 +59,7 @@ in 3 ActivateTask B4 E_OK
 stat A4 ActivateTask E_OK
 post A4
 end A4
-pre B4
-post B4
-end B4
+pre B4 .. end B4
 core 5 .. pre A5
 out 6 ActivateTask B6
 act B5
@@ -77,9 +67,7 @@ in 4 ActivateTask B5 E_OK
 stat A5 ActivateTask E_OK
 post A5
 end A5
-pre B5
-post B5
-end B5
+pre B5 .. end B5
 core 6 .. pre A6
 out 7 ActivateTask B7
 act B6
@@ -87,9 +75,7 @@ in 5 ActivateTask B6 E_OK
 stat A6 ActivateTask E_OK
 post A6
 end A6
-pre B6
-post B6
-end B6
+pre B6 .. end B6
 core 7 .. pre A7
 out 8 ActivateTask B8
 act B7
@@ -97,9 +83,7 @@ in 6 ActivateTask B7 E_OK
 stat A7 ActivateTask E_OK
 post A7
 end A7
-pre B7
-post B7
-end B7
+pre B7 .. end B7
 core 8 .. pre A8
 out 9 ActivateTask B9
 act B8
@@ -107,9 +91,7 @@ in 7 ActivateTask B8 E_OK
 stat A8 ActivateTask E_OK
 post A8
 end A8
-pre B8
-post B8
-end B8
+pre B8 .. end B8
 core 9 .. pre A9
 out 10 ActivateTask B10
 act B9
@@ -117,9 +99,7 @@ in 8 ActivateTask B9 E_OK
 stat A9 ActivateTask E_OK
 post A9
 end A9
-pre B9
-post B9
-end B9
+pre B9 .. end B9
 core 10 .. pre A10
 out 11 ActivateTask B11
 act B10
@@ -127,9 +107,7 @@ in 9 ActivateTask B10 E_OK
 stat A10 ActivateTask E_OK
 post A10
 end A10
-pre B10
-post B10
-end B10
+pre B10 .. end B10
 core 11 .. pre A11
 out 12 ActivateTask B12
 act B11
@@ -137,9 +115,7 @@ in 10 ActivateTask B11 E_OK
 stat A11 ActivateTask E_OK
 post A11
 end A11
-pre B11
-post B11
-end B11
+pre B11 .. end B11
 core 12 .. pre A12
 out 13 ActivateTask B13
 act B12
@@ -147,9 +123,7 @@ in 11 ActivateTask B12 E_OK
 stat A12 ActivateTask E_OK
 post A12
 end A12
-pre B12
-post B12
-end B12
+pre B12 .. end B12
 core 13 .. pre A13
 out 14 ActivateTask B14
 act B13
@@ -157,9 +131,7 @@ in 12 ActivateTask B13 E_OK
 stat A13 ActivateTask E_OK
 post A13
 end A13
-pre B13
-post B13
-end B13
+pre B13 .. end B13
 core 14 .. pre A14
 out 15 ActivateTask B15
 act B14
@@ -167,9 +139,7 @@ in 13 ActivateTask B14 E_OK
 stat A14 ActivateTask E_OK
 post A14
 end A14
-pre B14
-post B14
-end B14
+pre B14 .. end B14
 core 15 .. pre A15
 out 0 ActivateTask B0
 act B15
@@ -177,8 +147,6 @@ in 14 ActivateTask B15 E_OK
 stat A15 ActivateTask E_OK
 post A15
 end A15
-pre B15
-post B15
-end B15
+pre B15 .. end B15
 ended
 "#;

@@ -56,7 +56,7 @@ pub fn play_all(
 // A part `<3*T>` stands for three T (`repeats.rt`), and in a block one line may stand for several:
 // `A .. B`: A, the lines that each run has behind it, and B. Behind `core 0`, or `start 1 E_OK`, that is `hook Startup`, and with
 // `pre T` as B also `act T`; behind `on`, or `began 1 E_OK`, `entered`, `pass1 M` and `readied`; behind `entered` the latter two; and
-// behind `drained` it is `passend`.
+// behind `drained` it is `passend`; behind `pre T`, with `end T` or `wait T M` as B, it is `post T`.
 // `as before`, alone: the block of the job before, or under `log` the log before, without what is `first`.
 // `as run`, alone: what the last `run` printed, and under a `replay` the block of its core in that.
 // `as before up to L`, `as run up to L`: the lines of that up to the last one that is L, and it.

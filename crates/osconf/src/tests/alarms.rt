@@ -1,5 +1,14 @@
 //! Alarms, their actions, and the operations that name them.
 
+use super::{Reader, Table};
+
+/// How the tables of this file are read.
+pub(super) const ALL: &[Table] = &[
+    (Reader::Configuration, "@", TEXTS),
+    (Reader::Configuration, ACTION, ACTIONS),
+    (Reader::Configuration, TWO_CORES, OPERATIONS),
+];
+
 pub(super) const TEXTS: &str = r#"
 // What is within a number's limits, at both ends, and what is not.
 text {"cores":[{"id":0,"tasks":[{"name":"A","prio":1,"script":""}],"counters":[{"name":"K","max":9,"min":3}],"alarms":[{"name":"W","counter":"K","action":"ActivateTask A","auto":{"modes":["M"],"start":@,"cycle":0}}]}]}

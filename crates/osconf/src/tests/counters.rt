@@ -1,5 +1,13 @@
 //! Counters, and the operations that name them.
 
+use super::{Reader, Table};
+
+/// How the tables of this file are read.
+pub(super) const ALL: &[Table] = &[
+    (Reader::Configuration, "@", TEXTS),
+    (Reader::Configuration, TWO_CORES, OPERATIONS),
+];
+
 pub(super) const TEXTS: &str = r#"
 // What is within a number's limits, at both ends, and what is not.
 text {"cores":[{"id":0,"counters":[{"name":"K","max":@}]}]}

@@ -1,5 +1,13 @@
 //! Events, the operations that name tasks, and extended tasks.
 
+use super::{Reader, Table};
+
+/// How the tables of this file are read.
+pub(super) const ALL: &[Table] = &[
+    (Reader::Configuration, "@", TEXTS),
+    (Reader::Configuration, TWO_CORES, OPERATIONS),
+];
+
 // A core with two tasks, and a core with one; the last task of each is extended.
 pub(super) const TWO_CORES: &str =
     r#"{"cores":[{"id":0,"tasks":[{"name":"A","prio":1,"script":"@"},{"name":"B","prio":1,"extended":true,"script":""}],"resources":[{"name":"R","ceiling":1}]},{"id":1,"tasks":[{"name":"C","prio":1,"extended":true,"script":""}]}]}"#;

@@ -1,5 +1,15 @@
 //! Stimuli and schedules.
 
+use super::{Reader, Table};
+
+/// How the tables of this file are read.
+pub(super) const ALL: &[Table] = &[
+    (Reader::Stimuli, "@", NO_STIMULI),
+    (Reader::Schedule, "@", NO_SCHEDULES),
+    (Reader::SecondStimuli, "@", SECOND_STIMULI),
+    (Reader::SecondSchedule, "@", SECOND_SCHEDULES),
+];
+
 // Three cores of version 2.
 pub(super) const SECOND: &str = r#"{"version":2,"cores":[{"id":0},{"id":9},{"id":15}]}"#;
 

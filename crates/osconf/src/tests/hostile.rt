@@ -1,8 +1,16 @@
 //! Texts that are no configurations: not JSON, or of another shape.
 
-use super::{Reader, TWO_CORES, fault_of, repeated};
+use super::{Reader, TWO_CORES, Table, fault_of, repeated};
 use crate::{ConfFault, read_config};
 use std::test::Fail;
+
+/// How the tables of this file are read.
+pub(super) const ALL: &[Table] = &[
+    (Reader::Configuration, "@", TEXTS),
+    (Reader::Configuration, "\u{feff}@", AROUND),
+    (Reader::Configuration, "@\0", AROUND),
+    (Reader::Configuration, "{\"cores\":\"\n@\"}", WITHIN),
+];
 
 pub(super) const TEXTS: &str = r#"
 // What is not JSON.

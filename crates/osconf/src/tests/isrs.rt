@@ -1,5 +1,14 @@
 //! ISRs, their scripts and interrupts, budgets, and how a core answers a time fault.
 
+use super::{Reader, Table};
+
+/// How the tables of this file are read.
+pub(super) const ALL: &[Table] = &[
+    (Reader::Configuration, "@", TEXTS),
+    (Reader::Configuration, TWO_CORES, OPERATIONS),
+    (Reader::Interrupts, "@", INTERRUPTS),
+];
+
 // A core with two tasks, two ISRs and a resource, and a core with one of each; the script is that of the first ISR.
 pub(super) const TWO_CORES: &str =
     r#"{"cores":[{"id":0,"protection":"PRO_IGNORE","tasks":[{"name":"A","prio":1,"script":""},{"name":"W","prio":1,"extended":true,"script":""}],"isrs":[{"name":"I1","level":16,"budget":9,"script":"@"},{"name":"I2","level":1,"script":""}],"resources":[{"name":"R","ceiling":1}]},{"id":1,"tasks":[{"name":"B","prio":1,"script":""}],"isrs":[{"name":"J","level":1,"script":""}],"resources":[{"name":"Q","ceiling":1}]}]}"#;

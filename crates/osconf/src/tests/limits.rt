@@ -1,5 +1,10 @@
 //! Each limit of a configuration, at, below and above; each fault, and the smaller of two.
 
+use super::{Reader, Table};
+
+/// How the tables of this file are read.
+pub(super) const ALL: &[Table] = &[(Reader::Configuration, "@", TEXTS)];
+
 pub(super) const TEXTS: &str = r#"
 // A member's lowest and highest numbers, then what is just outside.
 text {"version":@,"cores":[{"id":0}]}

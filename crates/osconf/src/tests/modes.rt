@@ -1,5 +1,10 @@
 //! Application modes: their names, the mode of a core, and what names a mode.
 
+use super::{Reader, Table};
+
+/// How the tables of this file are read.
+pub(super) const ALL: &[Table] = &[(Reader::Configuration, "@", TEXTS)];
+
 pub(super) const TEXTS: &str = r#"
 // The modes of a configuration: 1 to 8 names in form, of which none stands twice and none for something else.
 text {"modes":@,"cores":[{"id":0}]}

@@ -1,5 +1,10 @@
 //! Names and operations: their form, and what stands twice.
 
+use super::{Reader, Table};
+
+/// How the tables of this file are read.
+pub(super) const ALL: &[Table] = &[(Reader::Configuration, "@", TEXTS)];
+
 pub(super) const TEXTS: &str = r#"
 // The form of a name.
 text {"cores":[{"id":0,"tasks":[{"name":"@","prio":1,"script":""}]}]}

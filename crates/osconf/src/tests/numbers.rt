@@ -1,5 +1,14 @@
 //! Operations with a name and a number or a mask: each is judged whatever the other one is, and the smallest fault is told.
 
+use super::{Reader, Table};
+
+/// How the tables of this file are read.
+pub(super) const ALL: &[Table] = &[
+    (Reader::Configuration, SCRIPT, NUMBERS),
+    (Reader::Configuration, DISORDER, BESIDE_A_TABLE),
+    (Reader::Configuration, INACTION, BESIDE_AN_ACTION),
+];
+
 // Two cores, each with a task, a counter, an alarm and a schedule table; the script is that of the first core's task.
 pub(super) const SCRIPT: &str =
     r#"{"cores":[{"id":0,"tasks":[{"name":"A","prio":1,"script":"@"}],"counters":[{"name":"K","max":9}],"alarms":[{"name":"L","counter":"K","action":"ActivateTask A"}],"tables":[{"name":"P","counter":"K","duration":1,"points":[{"offset":0,"actions":["ActivateTask A"]}]}]},{"id":1,"tasks":[{"name":"B","prio":1,"script":""}],"counters":[{"name":"Q","max":9}],"alarms":[{"name":"F","counter":"Q","action":"ActivateTask A"}],"tables":[{"name":"Z","counter":"Q","duration":1,"points":[{"offset":0,"actions":["ActivateTask A"]}]}]}]}"#;

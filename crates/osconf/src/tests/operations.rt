@@ -1,5 +1,10 @@
 //! The arguments of operations: variables, numbers, and positions in a script.
 
+use super::{Reader, Table};
+
+/// How the tables of this file are read.
+pub(super) const ALL: &[Table] = &[(Reader::Configuration, "@", TEXTS)];
+
 pub(super) const TEXTS: &str = r#"
 // Operations on variables.
 text {"cores":[{"id":0,"tasks":[{"name":"A","prio":1,"script":"@"}]}]}

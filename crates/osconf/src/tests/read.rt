@@ -1,5 +1,17 @@
 //! What is read, as it is printed for debugging.
 
+use super::{Reader, Table};
+
+/// How the tables of this file are read.
+pub(super) const ALL: &[Table] = &[
+    (Reader::Configuration, "@", PLANS),
+    (Reader::Stimuli, "@", STIMULI),
+    (Reader::Interrupts, "@", INTERRUPTS),
+    (Reader::Schedule, "@", SCHEDULES),
+    (Reader::SecondStimuli, "@", SECOND_STIMULI),
+    (Reader::SecondSchedule, "@", SECOND_SCHEDULES),
+];
+
 pub(super) const PLANS: &str = r#"
 // What has no member has its value by default; the core of a number is found wherever it stands.
 text {"cores":[{"id":0,"start":[1],"tasks":[{"name":"A","prio":1,"auto":["M"],"script":"ActivateTask B;TerminateTask"}]},{"id":1,"tasks":[{"name":"B","prio":1,"script":"TerminateTask"}]}]}

@@ -1,8 +1,14 @@
 //! Resources, and the operations that name them.
 
-use super::configured;
+use super::{Reader, Table, configured};
 use osbase::{CoreId, ResourceRef};
 use std::test::Fail;
+
+/// How the tables of this file are read.
+pub(super) const ALL: &[Table] = &[
+    (Reader::Configuration, "@", TEXTS),
+    (Reader::Configuration, TWO_CORES, OPERATIONS),
+];
 
 // A core with two tasks and two resources, and a core with one of each.
 pub(super) const TWO_CORES: &str =

@@ -1,5 +1,24 @@
 //! Which cores are separate, and so may be cut.
 
+use super::{Reader, Table, alarms, counters, events, isrs, spinlocks, tables};
+
+/// How the tables of this file are read.
+pub(super) const ALL: &[Table] = &[
+    (Reader::Alone(0), "@", FIRST),
+    (Reader::Alone(0), events::TWO_CORES, EVENTS),
+    (Reader::Alone(0), counters::TWO_CORES, COUNTERS),
+    (Reader::Alone(0), alarms::TWO_CORES, ALARMS),
+    (Reader::Alone(0), alarms::ACTION, ACTIONS),
+    (Reader::Alone(0), isrs::TWO_CORES, ISRS),
+    (Reader::Alone(0), spinlocks::TWO_TASKS, SPINLOCKS),
+    (Reader::Alone(0), tables::TABLE, TABLES),
+    (Reader::Alone(1), "@", SECOND),
+    (Reader::Alone(2), "@", THIRD),
+    (Reader::Alone(3), "@", FOURTH),
+    (Reader::Alone(5), "@", SIXTH),
+    (Reader::Alone(9), "@", FOURTH),
+];
+
 pub(super) const FIRST: &str = r#"
 // Core 1 is started by core 0, and core 2 by core 1. No script names a task of core 2.
 text @

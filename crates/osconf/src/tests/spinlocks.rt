@@ -1,9 +1,16 @@
 //! Spinlocks: their names and successors, and the operations that name them.
 
-use super::configured;
+use super::{Reader, Table, configured};
 use crate::order_ok;
 use osbase::SpinlockId;
 use std::test::Fail;
+
+/// How the tables of this file are read.
+pub(super) const ALL: &[Table] = &[
+    (Reader::Configuration, "@", TEXTS),
+    (Reader::Configuration, TWO_CORES, OPERATIONS),
+    (Reader::Configuration, "@", ACTIONS),
+];
 
 pub(super) const TEXTS: &str = r#"
 // The spinlocks of a configuration, none by default: of each a name, and the name of its successor, which it may lack.

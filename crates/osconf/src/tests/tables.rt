@@ -1,8 +1,16 @@
 //! Schedule tables and the operations that name them.
 
-use super::{filled, listed};
+use super::{Reader, Table, filled, listed};
 use crate::{ConfFault, read_config};
 use std::test::Fail;
+
+/// How the tables of this file are read.
+pub(super) const ALL: &[Table] = &[
+    (Reader::Configuration, "@", TEXTS),
+    (Reader::Configuration, TABLE, TABLES),
+    (Reader::Configuration, TIMES, TABLE_TIMES),
+    (Reader::Configuration, SCRIPT, OPERATIONS),
+];
 
 // The offsets of a table's points, and its duration.
 pub(super) const TIMES: &str =

@@ -1,5 +1,17 @@
 //! What is read is written, of one core alone too, and that is read and written again.
 
+use super::{Reader, Table};
+
+/// How the tables of this file are read.
+pub(super) const ALL: &[Table] = &[
+    (Reader::Written, "@", WRITTEN),
+    (Reader::Written, "@", SAME),
+    (Reader::Alone(0), "@", LONE),
+    (Reader::Alone(1), "@", SECOND),
+    (Reader::Alone(2), "@", THIRD),
+    (Reader::Alone(15), "@", LAST),
+];
+
 pub(super) const WRITTEN: &str = r#"
 // What has no member is written with its value by default.
 text {"cores":[{"id":0,"start":[1],"tasks":[{"name":"A","prio":1,"auto":["M"],"script":"ActivateTask B;TerminateTask"}]},{"id":1,"tasks":[{"name":"B","prio":1,"script":"TerminateTask"}]}]}

@@ -44,9 +44,7 @@ end A
 <4*tick
 >alarm L
 act B
-pre B
-post B
-end B
+pre B .. end B
 ended
 
 // A cyclic alarm of a counter that goes past its greatest value.
@@ -138,9 +136,7 @@ stimuli {"0":"op tick op op op op op"}
 run
 core 0 .. act A
 act W
-pre W
-post W
-wait W 4
+pre W .. wait W 4
 pre A
 tick
 alarm L1
@@ -163,12 +159,8 @@ alarm L4
 act B
 stat A IncrementCounter E_OK
 post A
-pre B
-post B
-end B
-pre A
-post A
-end A
+pre B .. end B
+pre A .. end A
 ended
 
 // What an alarm does on another core is refused there; on a core that was never started it is refused here.

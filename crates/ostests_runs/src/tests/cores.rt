@@ -24,9 +24,7 @@ post A
 end A
 core 15 .. act B
 in 0 ActivateTask B E_OK
-pre B
-post B
-end B
+pre B .. end B
 ended
 
 items 0

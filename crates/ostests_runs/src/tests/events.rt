@@ -10,9 +10,7 @@ stimuli {"0":"op op op op op op"}
 run
 core 0 .. act W
 act D
-pre W
-post W
-wait W 1
+pre W .. wait W 1
 pre D
 act F
 stat D ActivateTask E_OK
@@ -21,12 +19,8 @@ free W
 stat D SetEvent E_OK
 post D
 end D
-pre F
-post F
-end F
-pre W
-post W
-end W
+pre F .. end F
+pre W .. end W
 ended
 
 // A task at its limit chains to itself, over and over.
@@ -37,9 +31,7 @@ core 0 .. pre S
 post S
 end S
 act S
-pre S
-post S
-end S
+pre S .. end S
 act S
 pre S
 ended
@@ -70,14 +62,10 @@ pre A
 out 1 ActivateTask B
 post A
 end A
-pre C
-post C
-end C
+pre C .. end C
 core 1 .. act B
 in 0 ActivateTask B E_OK
-pre B
-post B
-end B
+pre B .. end B
 ended
 
 // A task sets the event that another core's task waits for.
@@ -96,9 +84,7 @@ wait W 4
 ev W 4
 free W
 in 0 SetEvent W 4 E_OK
-pre W
-post W
-end W
+pre W .. end W
 ended
 
 // Events of another core's tasks, one of which has none and one of which is suspended.

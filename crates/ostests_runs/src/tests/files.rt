@@ -86,19 +86,16 @@ fn reads(
     rt: &(impl Threads + Wait + Sync),
     alloc: Global,
     job: &Job,
-    texts: &[Option<&str>],
-) -> Result<usize, AllocError> {
-    let files = files_of(alloc, texts)?;
+    files: &[Option<Vec<u8>>],
+) -> usize {
     let read = Cell::new(0);
     let source = Counted {
-        given: Given {
-            files: files.as_slice(),
-        },
+        given: Given { files },
         count: &read,
     };
     let mut out = MemorySink::new(Vec::new(alloc));
     let _ = print_from(rt, alloc, job, source, &mut out);
-    Ok(read.get())
+    read.get()
 }
 
 #[test]
@@ -115,7 +112,8 @@ fn no_file_is_read_after_one_with_a_fault(rt: HostRuntime) -> Result<(), Fail> {
         (cut_of(0), [border, "x", "x"], 1),
     ];
     for (job, texts, count) in examples.as_slice() {
-        let read = reads(&rt, alloc, job, texts.map(Some).as_slice())?;
+        let files = files_of(alloc, texts.map(Some).as_slice())?;
+        let read = reads(&rt, alloc, job, files.as_slice());
         assert_eq!(rt; read, *count);
     }
     Ok(())

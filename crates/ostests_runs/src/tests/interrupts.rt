@@ -26,9 +26,7 @@ tick
 tick
 hook Protection E_OS_PROTECTION_TIME
 end W
-pre D
-post D
-end D
+pre D .. end D
 ended
 
 // The same, where the core shuts down.
@@ -53,12 +51,8 @@ act H
 stat I1 ActivateTask E_OK
 leave I1
 post A
-pre H
-post H
-end H
-pre A
-post A
-end A
+pre H .. end H
+pre A .. end A
 ended
 
 // An ISR that ends with interrupts suspended.
@@ -131,12 +125,8 @@ stat I ActivateTask E_OS_LIMIT
 hook Error E_OS_LIMIT
 leave I
 post A
-pre E
-post E
-wait E 1
-pre A
-post A
-end A
+pre E .. wait E 1
+pre A .. end A
 ended
 
 // A task at its script's end with interrupts suspended: only E_OS_MISSINGEND, and the pending ISR starts in the same
@@ -170,9 +160,7 @@ leave I
 alarm L
 act B
 post A
-pre B
-post B
-end B
+pre B .. end B
 pre A
 tick
 hook Protection E_OS_PROTECTION_TIME
@@ -290,12 +278,8 @@ in 1 ActivateTask H E_OS_LIMIT
 leave J
 leave I
 post A
-pre H
-post H
-end H
-pre A
-post A
-end A
+pre H .. end H
+pre A .. end A
 core 1 .. act B
 in 0 ActivateTask B E_OK
 pre B

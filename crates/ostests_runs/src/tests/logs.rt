@@ -26,9 +26,7 @@ post A
 end A
 core 1 .. act B
 in 0 ActivateTask B E_OK
-pre B
-post B
-end B
+pre B .. end B
 ended
 
 // The log of core 0, which replays to its block, also without its last line end.
@@ -75,9 +73,7 @@ stimuli {}
 run
 core 0
 start 1 E_OK .. pre A
-core 1
-hook Startup
-ended
+core 1 .. ended
 
 turns ""
 run -> 3

@@ -10,7 +10,7 @@ const CONFIG: &str = r#"config {"cores":[{"id":0}]}"#;
 
 const RIGHT: &str = "check\nok\ncore 0 separate\n";
 
-/// The run of the core, and its log, in each of the short forms.
+/// The run of the core, and its log, in each of the short forms; then two jobs, of which one ends and one waits.
 const SHORT: &str = r#"stimuli {}
 run
 core 0 .. ended
@@ -37,6 +37,15 @@ as before from drained
 
 replay 0
 as run
+
+config {"cores":[{"id":0,"tasks":[{"name":"A","prio":1,"auto":["M"],"script":"TerminateTask"},{"name":"W","prio":1,"extended":true,"auto":["M"],"script":"WaitEvent 1"}]}]}
+stimuli {"0":"op op"}
+run
+core 0 .. act A
+act W
+pre A .. end A
+pre W .. wait W 1
+ended
 "#;
 
 // Plays a table of one core with this block, or with none. It has so many jobs.
@@ -53,7 +62,7 @@ fn play_block(
 #[test]
 fn a_right_table_passes(rt: HostRuntime) -> Result<(), Fail> {
     play_block(&rt, rt.alloc(), RIGHT, 1)?;
-    play_block(&rt, rt.alloc(), SHORT, 6)?;
+    play_block(&rt, rt.alloc(), SHORT, 7)?;
     Ok(())
 }
 

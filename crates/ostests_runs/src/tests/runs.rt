@@ -64,15 +64,9 @@ act Z
 stat H ActivateTask E_OK
 post H
 end H
-pre X
-post X
-end X
-pre Y
-post Y
-end Y
-pre Z
-post Z
-end Z
+pre X .. end X
+pre Y .. end Y
+pre Z .. end Z
 ended
 
 // A core by itself that adds to a variable.
@@ -97,15 +91,9 @@ act U
 stat N ActivateTask E_OK
 stat N Schedule E_OK
 post N
-pre U
-post U
-end U
-pre N
-post N
-end N
-pre E
-post E
-end E
+pre U .. end U
+pre N .. end N
+pre E .. end E
 ended
 
 // A job that holds a resource runs at its ceiling, until it gives the resource back.
@@ -118,12 +106,8 @@ act H
 stat L ActivateTask E_OK
 stat L ReleaseResource E_OK
 post L
-pre H
-post H
-end H
-pre L
-post L
-end L
+pre H .. end H
+pre L .. end L
 ended
 
 // A job that holds a resource does not give way.
@@ -139,9 +123,7 @@ hook Error E_OS_RESOURCE
 stat N ReleaseResource E_OK
 post N
 end N
-pre U
-post U
-end U
+pre U .. end U
 ended
 
 // Refused services of resources; releasing one of two keeps the other's ceiling, and a job's end gives all back.
@@ -192,9 +174,7 @@ in 1 ActivateTask C E_OK
 stat A ActivateTask E_OK
 post A
 end A
-pre C
-post C
-end C
+pre C .. end C
 core 1 .. pre B
 out 0 ActivateTask C
 act D
@@ -202,9 +182,7 @@ in 0 ActivateTask D E_OK
 stat B ActivateTask E_OK
 post B
 end B
-pre D
-post D
-end D
+pre D .. end D
 ended
 
 // A task whose second job finds the variables of its first, and neither its position nor its status.

@@ -129,13 +129,17 @@ stimuli {"1":"op tick tick op"}
 run
 as run from core 1
 
-// Alarms of core 0 act on core 1, which shuts all cores down. A mailbox has room for one envelope.
-config {"cap":1,"cores":[{"id":0,"start":[1],"counters":[{"name":"C","max":9}],"alarms":[{"name":"L1","counter":"C","action":"ActivateTask P","auto":{"modes":["M"],"start":1,"cycle":0}},{"name":"L2","counter":"C","action":"ActivateTask Q","auto":{"modes":["M"],"start":1,"cycle":0}}]},{"id":1,"tasks":[{"name":"X","prio":2,"auto":["M"],"script":"ShutdownAllCores 7"},{"name":"P","prio":1,"script":"TerminateTask"},{"name":"Q","prio":1,"script":"TerminateTask"}]}]}
+// Core 0 has a spinlock, and its alarms act on core 1, which shuts all cores down. A mailbox has room for one
+// envelope.
+config {"cap":1,"spinlocks":[{"name":"S"}],"cores":[{"id":0,"start":[1],"tasks":[{"name":"A","prio":1,"auto":["M"],"script":"GetSpinlock S;TerminateTask"}],"counters":[{"name":"C","max":9}],"alarms":[{"name":"L1","counter":"C","action":"ActivateTask P","auto":{"modes":["M"],"start":1,"cycle":0}},{"name":"L2","counter":"C","action":"ActivateTask Q","auto":{"modes":["M"],"start":1,"cycle":0}}]},{"id":1,"tasks":[{"name":"X","prio":2,"auto":["M"],"script":"ShutdownAllCores 7"},{"name":"P","prio":1,"script":"TerminateTask"},{"name":"Q","prio":1,"script":"TerminateTask"}]}]}
 stimuli {"0":"op tick op","1":"op"}
-// A core that was halted drops actions.
+// The halt finds both letters in the outbox.
+turns "0o 1l 1o 0o 0l 1l 0o 1o 0l 1l 0o 0o 0o 1o 1o 0l 0o 0o 1s0 0o 0o 1s0 0o 1o 0l 1l 0l 1l"
 run
 core 0
-start 1 E_OK .. tick
+start 1 E_OK .. pre A
+stat A GetSpinlock E_OK
+tick
 alarm L1
 out 1 ActivateTask P
 alarm L2
@@ -146,6 +150,31 @@ core 1 .. pre X
 halt 1 E_OS_STATE
 hook Shutdown E_OS_STATE
 ended
+
+// The outbox comes before the spinlock.
+items 0
+began 1 E_OK .. pass2 0 1
+stim op
+granted S
+stim tick
+halt 1 E_OS_STATE
+post 1
+post 1
+freed S
+drained .. last 1 E_OS_STATE
+
+replay 0
+as run
+
+// The same without the spinlock.
+config {"cap":1,"cores":[{"id":0,"start":[1],"counters":[{"name":"C","max":9}],"alarms":[{"name":"L1","counter":"C","action":"ActivateTask P","auto":{"modes":["M"],"start":1,"cycle":0}},{"name":"L2","counter":"C","action":"ActivateTask Q","auto":{"modes":["M"],"start":1,"cycle":0}}]},{"id":1,"tasks":[{"name":"X","prio":2,"auto":["M"],"script":"ShutdownAllCores 7"},{"name":"P","prio":1,"script":"TerminateTask"},{"name":"Q","prio":1,"script":"TerminateTask"}]}]}
+stimuli {"0":"op tick op","1":"op"}
+// A core that was halted drops actions.
+run
+core 0
+start 1 E_OK
+hook Startup
+as run from tick
 
 // The halt finds both letters in the outbox, and the second one finds the mailbox full once.
 turns "0o 1l 1o 0o 0l 1l 0o 1o 0l 1l 0o 1o 0o 1o 0l 0o 0o 1s0 0o 1s0 1o 0o 0l 1l 0l 1l"
@@ -174,33 +203,6 @@ in 0 1 act ActivateTask Q
 drained .. last 1 E_OS_STATE
 
 replay 1
-as run
-
-// Core 0 has a spinlock, and its alarms act on core 1, which shuts all cores down. A mailbox has room for one
-// envelope.
-config {"cap":1,"spinlocks":[{"name":"S"}],"cores":[{"id":0,"start":[1],"tasks":[{"name":"A","prio":1,"auto":["M"],"script":"GetSpinlock S;TerminateTask"}],"counters":[{"name":"C","max":9}],"alarms":[{"name":"L1","counter":"C","action":"ActivateTask P","auto":{"modes":["M"],"start":1,"cycle":0}},{"name":"L2","counter":"C","action":"ActivateTask Q","auto":{"modes":["M"],"start":1,"cycle":0}}]},{"id":1,"tasks":[{"name":"X","prio":2,"auto":["M"],"script":"ShutdownAllCores 7"},{"name":"P","prio":1,"script":"TerminateTask"},{"name":"Q","prio":1,"script":"TerminateTask"}]}]}
-stimuli {"0":"op tick op","1":"op"}
-// The halt finds both letters in the outbox.
-turns "0o 1l 1o 0o 0l 1l 0o 1o 0l 1l 0o 0o 0o 1o 1o 0l 0o 0o 1s0 0o 0o 1s0 0o 1o 0l 1l 0l 1l"
-run
-core 0
-start 1 E_OK .. pre A
-stat A GetSpinlock E_OK
-as run from tick
-
-// The outbox comes before the spinlock.
-items 0
-began 1 E_OK .. pass2 0 1
-stim op
-granted S
-stim tick
-halt 1 E_OS_STATE
-post 1
-post 1
-freed S
-drained .. last 1 E_OS_STATE
-
-replay 0
 as run
 
 // A core that has asked and was not halted yet serves others, and dispatches nothing.

@@ -21,12 +21,8 @@ post A
 end A
 act H
 in 1 ActivateTask H E_OK
-pre H
-post H
-end H
-pre N
-post N
-end N
+pre H .. end H
+pre N .. end N
 core 1 .. pre B
 out 0 ActivateTask H
 stat B ActivateTask E_OK

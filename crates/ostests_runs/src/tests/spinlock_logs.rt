@@ -23,9 +23,7 @@ act H
 in 0 ActivateTask H E_OK
 stat B GetSpinlock E_OK
 post B
-pre H
-post H
-end H
+pre H .. end H
 pre B
 stat B ReleaseSpinlock E_OK
 post B

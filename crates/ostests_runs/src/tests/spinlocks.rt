@@ -28,9 +28,7 @@ hook Error E_OS_SPINLOCK
 stat A ReleaseSpinlock E_OK
 post A
 end A
-core 1
-hook Startup
-core 2
+core 1 .. core 2
 ended
 
 // If it has a resource too, that is what is said.
@@ -212,9 +210,7 @@ hook Protection E_OS_PROTECTION_TIME
 end A
 alarm L
 act H
-pre H
-post H
-end H
+pre H .. end H
 pre N
 stat N GetSpinlock E_OK
 stat N ReleaseSpinlock E_OK
@@ -222,7 +218,22 @@ post N
 end N
 ended
 
-// Or the core goes down by it.
+// Or it has held a resource for too many ticks: its core gives the spinlock back before another job runs.
+config {"spinlocks":[{"name":"S"}],"cores":[{"id":0,"protection":"PRO_TERMINATETASKISR","resources":[{"name":"R","ceiling":2,"lock":2}],"tasks":[{"name":"A","prio":2,"auto":["M"],"script":"GetResource R;GetSpinlock S;jump 2"},{"name":"N","prio":1,"auto":["M"],"script":"GetSpinlock S;ReleaseSpinlock S;TerminateTask"}]}]}
+stimuli {"0":"op op tick tick op op op"}
+run
+core 0 .. act A
+act N
+pre A
+stat A GetResource E_OK
+stat A GetSpinlock E_OK
+tick
+tick
+hook Protection E_OS_PROTECTION_LOCKED
+end A
+as before from pre N
+
+// Or the core goes down by its execution budget.
 config {"spinlocks":[{"name":"S"}],"cores":[{"id":0,"start":[1],"tasks":[{"name":"A","prio":1,"auto":["M"],"budget":2,"script":"work;GetSpinlock S;work"}]},{"id":1,"tasks":[{"name":"B","prio":1,"auto":["M"],"script":"work;work;work;GetSpinlock S;ReleaseSpinlock S;TerminateTask"}]}]}
 stimuli {"0":"op op tick tick op","1":"op op op op op op"}
 run
@@ -463,16 +474,15 @@ as before
 
 // Operations that are not in form.
 with GetSpinlock|GetSpinlock S S|GetSpinlock 0|GetSpinlock S;|getSpinlock S|TryToGetSpinlock|TryToGetSpinlock S|TryToGetSpinlock S v8|TryToGetSpinlock S 0|TryToGetSpinlock v0 S|ReleaseSpinlock|ReleaseSpinlock ? ?|ReleaseSpinlock S v0
-config {"spinlocks":[{"name":"S"}],"cores":[{"id":0,"start":[0],"tasks":[{"name":"A","prio":1,"script":"@"}]},{"id":1}]}
 check
 fault 10 BadScript
 
-config {"spinlocks":[{"name":"S"}],"cores":[{"id":0,"start":[0],"isrs":[{"name":"A","level":1,"script":"@"}]},{"id":1}]}
+config {"spinlocks":[{"name":"S"}],"cores":[{"id":0,"start":[0],"tasks":[{"name":"A","prio":1,"script":"@"}]},{"id":1}]}
 check
 as before
 "#;
 
 #[test]
 fn spinlocks_come_to_their_texts(rt: HostRuntime) -> Result<(), Fail> {
-    play_all(&rt, rt.alloc(), &[RUNS, STANDINGS, FORMS], 95)
+    play_all(&rt, rt.alloc(), &[RUNS, STANDINGS, FORMS], 96)
 }

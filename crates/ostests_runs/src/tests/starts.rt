@@ -68,9 +68,7 @@ stimuli {"0":"op tick"}
 run
 core 0
 start 1 E_OK .. tick
-core 1
-hook Startup
-ended
+core 1 .. ended
 
 stimuli {}
 items 1
@@ -175,18 +173,10 @@ act E
 point S2 0
 act B
 post D
-pre E
-post E
-end E
-pre B
-post B
-end B
-pre D
-post D
-end D
-pre A
-post A
-end A
+pre E .. end E
+pre B .. end B
+pre D .. end D
+pre A .. end A
 ended
 
 // A core without a mode names the first one.
@@ -214,9 +204,7 @@ stat A StartCore E_OS_ACCESS
 var A v0 1
 post A
 end A
-core 1
-hook Startup
-core 2
+core 1 .. core 2
 ended
 
 // With interrupts suspended StartCore is refused before its checks, again without the hook. The calls without a
@@ -254,10 +242,33 @@ post A
 end A
 core 1
 hook Startup
-core 2
-hook Startup
-core 3
+core 2 .. core 3
 ended
+"#;
+
+const SCRIPTS: &str = r#"
+// Operations that are in form, in a script of a task, and in one of an ISR. Core 0 starts cores, so it is bound in
+// any case.
+with StartCore ?|StartCore 0|StartCore 255|GetNumberOfActivatedCores v7|ShutdownOS 0|ShutdownOS 16|ShutdownAllCores 0|ShutdownAllCores 16
+config {"cores":[{"id":0,"start":[0],"tasks":[{"name":"A","prio":1,"script":"@"}]},{"id":1}]}
+check
+ok
+core 0 bound
+core 1 off
+
+config {"cores":[{"id":0,"start":[0],"isrs":[{"name":"A","level":1,"script":"@"}]},{"id":1}]}
+check
+as before
+
+// Operations that are not.
+with StartCore|StartCore 256|StartCore 01|StartCore -1|StartCore x|StartCore A|StartCore 1 2|StartCore 18446744073709551616|GetNumberOfActivatedCores|GetNumberOfActivatedCores v8|GetNumberOfActivatedCores ?|GetNumberOfActivatedCores 0|ShutdownOS|ShutdownOS 17|ShutdownOS 00|ShutdownOS ?|ShutdownOS E_OK|shutdownOS 0|ShutdownAllCores|ShutdownAllCores 17|ShutdownAllCores ?|ShutdownAllCores 0 0
+config {"cores":[{"id":0,"start":[0],"tasks":[{"name":"A","prio":1,"script":"@"}]},{"id":1}]}
+check
+fault 10 BadScript
+
+config {"cores":[{"id":0,"start":[0],"isrs":[{"name":"A","level":1,"script":"@"}]},{"id":1}]}
+check
+as before
 "#;
 
 // What binds cores, and what does not.
@@ -334,31 +345,6 @@ config {"cores":[{"id":0,"tasks":[{"name":"X","prio":1,"script":"ShutdownAllCore
 check
 ok
 core 0 bound
-"#;
-
-const SCRIPTS: &str = r#"
-// Operations that are in form, in a script of a task, and in one of an ISR. Core 0 starts cores, so it is bound in
-// any case.
-with StartCore ?|StartCore 0|StartCore 255|GetNumberOfActivatedCores v7|ShutdownOS 0|ShutdownOS 16|ShutdownAllCores 0|ShutdownAllCores 16
-config {"cores":[{"id":0,"start":[0],"tasks":[{"name":"A","prio":1,"script":"@"}]},{"id":1}]}
-check
-ok
-core 0 bound
-core 1 off
-
-config {"cores":[{"id":0,"start":[0],"isrs":[{"name":"A","level":1,"script":"@"}]},{"id":1}]}
-check
-as before
-
-// Operations that are not.
-with StartCore|StartCore 256|StartCore 01|StartCore -1|StartCore x|StartCore A|StartCore 1 2|StartCore 18446744073709551616|GetNumberOfActivatedCores|GetNumberOfActivatedCores v8|GetNumberOfActivatedCores ?|GetNumberOfActivatedCores 0|ShutdownOS|ShutdownOS 17|ShutdownOS 00|ShutdownOS ?|ShutdownOS E_OK|shutdownOS 0|ShutdownAllCores|ShutdownAllCores 17|ShutdownAllCores ?|ShutdownAllCores 0 0
-config {"cores":[{"id":0,"start":[0],"tasks":[{"name":"A","prio":1,"script":"@"}]},{"id":1}]}
-check
-fault 10 BadScript
-
-config {"cores":[{"id":0,"start":[0],"isrs":[{"name":"A","level":1,"script":"@"}]},{"id":1}]}
-check
-as before
 "#;
 
 #[test]

@@ -25,18 +25,14 @@ clr W 1
 stat W ClearEvent E_OK
 post W
 wait W 2
-pre B
-post B
-end B
+pre B .. end B
 tick
 tick
 stop S1
 begin S2
 point S2 0
 act B
-pre B
-post B
-end B
+pre B .. end B
 tick
 tick
 point S2 0
@@ -133,25 +129,19 @@ tick
 tick
 point S 1
 act B
-pre B
-post B
-end B
+pre B .. end B
 tick
 stop S
 begin V
 point V 0
 act B
-pre B
-post B
-end B
+pre B .. end B
 tick
 tick
 point V 2
 act B
 stop V
-pre B
-post B
-end B
+pre B .. end B
 tick
 tick
 ended
@@ -352,9 +342,7 @@ stimuli {"0":"op tick op op op op op"}
 run
 core 0 .. act A
 act W
-pre W
-post W
-wait W 1
+pre W .. wait W 1
 pre A
 tick
 point S 0
@@ -366,15 +354,9 @@ free W
 hook Error E_OS_ACCESS
 ev V 2
 post A
-pre B
-post B
-end B
-pre W
-post W
-end W
-pre A
-post A
-end A
+pre B .. end B
+pre W .. end W
+pre A .. end A
 pre V
 stat V GetEvent E_OK 2
 post V
@@ -441,9 +423,7 @@ tick
 tick
 point S 1
 act B
-pre B
-post B
-end B
+pre B .. end B
 >tick
 tick
 point S 1

@@ -92,8 +92,7 @@ fn result_within(
     alloc: Global,
     job: &Job,
     files: &[Option<Vec<u8>>],
-    refusal: Refusal,
-    left: usize,
+    (refusal, left): (Refusal, usize),
 ) -> Result<String, Difference> {
     let mut out = Failing::new(Vec::new(alloc), refusal, left);
     let mut err = MemorySink::new(Vec::new(alloc));
@@ -122,7 +121,7 @@ fn refuse_each(
     let whole = result_over(rt, alloc, job, files)?;
     let (text, _) = whole.split_once("and reports\n").ok_or("a result")?;
     for left in 0..=text.len() {
-        let result = result_within(rt, alloc, job, files, refusal, left)?;
+        let result = result_within(rt, alloc, job, files, (refusal, left))?;
         let due = due_within(alloc, text, whole.as_str(), left)?;
         same(alloc, "", result.as_str(), due.as_str())?;
     }

@@ -1,12 +1,9 @@
 //! The logical clocks of runs by threads.
 
 use super::reports::reports_of;
-use super::spinlocks::{OWED, SHARED};
-use super::threads::{BOUND_AND_SEPARATE, FEW, KINDS, MANY};
+use super::threads::{EXAMPLES, KINDS};
 use osbase::{CoreId, Item, MailKind, Report};
-use osplay::examples::{ASKERS, MUTUAL, POLLING};
 use osplay::given;
-use osplay::sixteen::RING;
 use std::alloc::Global;
 use std::process::Abort;
 use std::sync::Wait;
@@ -82,16 +79,7 @@ fn are_clocked(
 
 #[test]
 fn clocks_ascend_and_letters_come_after_they_were_sent(rt: HostRuntime) -> Result<(), Fail> {
-    let examples = [
-        (MUTUAL, 4, MANY),
-        (BOUND_AND_SEPARATE, 4, MANY),
-        (ASKERS, 0, MANY),
-        (OWED, 0, MANY),
-        (POLLING, 0, FEW),
-        (SHARED, 0, MANY),
-        (RING, 32, MANY),
-    ];
-    for (table, letters, turns) in examples.as_slice() {
+    for (table, _, letters, turns) in EXAMPLES.as_slice() {
         for mail in KINDS.iter() {
             let count = are_clocked(&rt, rt.alloc(), *mail, table, *turns)?;
             assert_eq!(rt; count, *letters);

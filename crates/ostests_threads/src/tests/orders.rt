@@ -120,17 +120,16 @@ fn runs_by_threads_have_an_order(rt: HostRuntime) -> Result<(), Fail> {
     Ok(())
 }
 
-// A run of which this core's thread is refused has an order.
+// A run whose gate refuses a core's thread has an order.
 fn has_order_without(
     rt: &(impl Abort + Threads + Wait + Sync),
     alloc: Global,
     mail: MailKind,
-    refused: CoreId,
+    gate: &Watcher,
 ) -> Result<(), Fail> {
     let config = read_config(alloc, FOUR_CORES)?;
     let stimuli = read_stimuli(alloc, &config, STIMULI)?;
-    let gate = Watcher::new(Some(refused), false);
-    match run_threads(rt, alloc, &config, &stimuli, mail, &gate, FEW) {
+    match run_threads(rt, alloc, &config, &stimuli, mail, gate, FEW) {
         Ok(_) => Err(Fail::from("a thread was refused")),
         Err(fault) => match fault.reason {
             ThreadReason::NoThread => {
@@ -145,7 +144,8 @@ fn has_order_without(
 fn a_run_without_a_thread_for_a_core_has_an_order(rt: HostRuntime) -> Result<(), Fail> {
     for mail in KINDS.iter() {
         for number in 0..4 {
-            has_order_without(&rt, rt.alloc(), *mail, CoreId { number })?;
+            let gate = Watcher::new(Some(CoreId { number }), false);
+            has_order_without(&rt, rt.alloc(), *mail, &gate)?;
         }
     }
     Ok(())

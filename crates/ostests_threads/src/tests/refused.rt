@@ -158,8 +158,6 @@ fn work<R: Wait + Abort, M: Mail>(rt: &R, alloc: Global, mail: M) -> Worked<M>
     let Ok(clocks) = Clocks::new(alloc) else {
         panic!(rt; "clocks")
     };
-    let wakers = Wakers::new();
-    let told = AtomicBool::new(false);
     let run = Run {
         config: &config,
         stimuli: &[],
@@ -167,8 +165,8 @@ fn work<R: Wait + Abort, M: Mail>(rt: &R, alloc: Global, mail: M) -> Worked<M>
         board: &board,
         bank: &bank,
         clocks: &clocks,
-        wakers: &wakers,
-        told: &told,
+        wakers: &Wakers::new(),
+        told: &AtomicBool::new(false),
         turns: 1000,
     };
     core_worker(rt, alloc, &run, seats, mail, &Open)

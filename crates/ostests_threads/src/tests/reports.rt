@@ -117,17 +117,12 @@ pub(super) fn replays(
     rt: &(impl Threads + Wait + Sync),
     alloc: Global,
     mail: MailKind,
-    (text, stimuli): (&str, &str),
+    texts: (&str, &str),
     turns: u64,
 ) -> Result<usize, Fail> {
+    let reports = reports_of(rt, alloc, mail, texts, turns)?;
+    let (text, _) = texts;
     let config = read_config(alloc, text)?;
-    let stimuli = read_stimuli(alloc, &config, stimuli)?;
-    let gate = Yielding::new(config.plan().cores.len());
-    match reports_under(rt, alloc, mail, &config, &stimuli, &gate, turns) {
-        Ok(reports) => {
-            replay_all(rt, alloc, (text, &config), reports.as_slice())?;
-            Ok(reports.len())
-        }
-        Err(fault) => Err(Fail::from(fault)),
-    }
+    replay_all(rt, alloc, (text, &config), reports.as_slice())?;
+    Ok(reports.len())
 }

@@ -25,18 +25,6 @@ as before
 threads locked 1000000000
 as before
 
-items 0
-began 1 E_OK .. pass2 0 1
-stim op
-granted S
-stim op
-stim op
-freed S
-drained .. last
-
-replay 0
-as run
-
 items 1
 on .. pass2 0 1
 stim op
@@ -47,6 +35,18 @@ stim op
 drained .. last
 
 replay 1
+as run
+
+items 0
+began 1 E_OK .. pass2 0 1
+stim op
+granted S
+stim op
+stim op
+freed S
+drained .. last
+
+replay 0
 as run
 
 // Before the answer to a ReleaseSpinlock no other item is taken, not even a halt.

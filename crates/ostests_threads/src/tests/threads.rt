@@ -41,9 +41,7 @@ in 1 ActivateTask C E_OK
 stat A ActivateTask E_OK
 post A
 end A
-pre C
-post C
-end C
+pre C .. end C
 core 1 .. pre B
 out 0 ActivateTask C
 act D
@@ -51,9 +49,7 @@ in 0 ActivateTask D E_OK
 stat B ActivateTask E_OK
 post B
 end B
-pre D
-post D
-end D
+pre D .. end D
 core 2 .. pre V
 var V v0 3
 post V
@@ -114,9 +110,7 @@ stalled
 config {"cores":[{"id":0},{"id":5}]}
 stimuli {}
 threads 1000
-core 0
-hook Startup
-core 5
+core 0 .. core 5
 ended
 
 // One order of the turns. By each of them the core takes an item.
@@ -278,20 +272,22 @@ fn sixteen_cores_in_a_ring_answer_each_other(rt: HostRuntime) -> Result<(), Fail
     Ok(())
 }
 
+/// Tables whose first files are run, with how many cores and letters each run has, and its turns.
+pub(super) const EXAMPLES: [(&str, usize, usize, u64); 9] = [
+    (MUTUAL, 2, 4, MANY),
+    (BOUND_AND_SEPARATE, 3, 4, MANY),
+    (ALL_DOWN, 2, 0, MANY),
+    (ASKERS, 2, 0, MANY),
+    (OWED, 2, 0, MANY),
+    (POLLING, 2, 0, MANY),
+    (SHARED, 3, 0, MANY),
+    (RING, 16, 32, MANY),
+    (REFUSED, 2, 0, FEW),
+];
+
 #[test]
 fn each_log_of_a_run_by_threads_replays_to_its_block(rt: HostRuntime) -> Result<(), Fail> {
-    let examples = [
-        (MUTUAL, 2, MANY),
-        (BOUND_AND_SEPARATE, 3, MANY),
-        (ALL_DOWN, 2, MANY),
-        (ASKERS, 2, MANY),
-        (OWED, 2, MANY),
-        (POLLING, 2, MANY),
-        (SHARED, 3, MANY),
-        (RING, 16, MANY),
-        (REFUSED, 2, FEW),
-    ];
-    for (table, cores, turns) in examples.as_slice() {
+    for (table, cores, _, turns) in EXAMPLES.as_slice() {
         let (config, stimuli) = given(table)?;
         for mail in KINDS.iter() {
             let replayed = replays(&rt, rt.alloc(), *mail, (config, stimuli), *turns)?;
