@@ -61,10 +61,7 @@ impl<'v> JsonReader<'v, bool> for BoolReader {
     ghost passes = { λ _ _. true };
 
     fn read(&self, _alloc: Global, value: &'v Value) -> Result<bool, Refusal> {
-        match value.as_bool() {
-            Some(truth) => Ok(truth),
-            None => Err(Refusal::Unfit),
-        }
+        value.as_bool().ok_or(Refusal::Unfit)
     }
 }
 

@@ -1,6 +1,6 @@
 //! Where the objects of a configuration's text stand, by their names.
 
-ghost use Rattle.std.specs.Prelude.{◌≡◌, IfOk, IfSome, IsTrue, count_by, find, is_some, option_copied, true};
+ghost use Rattle.std.specs.Prelude.{◌≡◌, IfOk, IfSome, IsTrue, Some, count_by, find, is_some, option_copied, true};
 ghost use Rattle.std.specs.List.{list_all};
 ghost use Rattle.osbase.specs.Names.{is_name};
 ghost use Rattle.osplan.specs.Representable.{are_distinct};
@@ -27,12 +27,54 @@ fn place_in(kind: ObjectKind, declaration: &Declaration) -> Option<Place>
     }
 }
 
+// So many hints, a power of two, so that two names of one configuration seldom have one.
+const HINTS: usize = 4096;
+
+// As the highest bits of a product, the hint depends on all bits of what is multiplied by this odd number.
+const SPREAD: u64 = 0x9e37_79b9_7f4a_7c15;
+
 /// Which object of a list has a name, and whether no two have one.
 #[derive(Drop)]
 struct Index<'t> {
     // Of each name where its first object stands in the list.
     first: HashMap<&'t str, usize>,
     are_apart: bool,
+    // Of each hint where some object stands whose name has it, so that most names are compared with one, and not hashed.
+    hints: Vec<usize>,
+}
+
+// The hint of a name: that of its first and its last eight bytes, since a hash of all its bytes takes longer than to compare them.
+#[inline(always)]
+fn hint_of(name: &str) -> usize {
+    let bytes = name.as_bytes();
+    let word = match (
+        bytes.as_chunks::<8>().0.first(),
+        bytes.as_rchunks::<8>().1.last(),
+    ) {
+        (Some(first), Some(last)) => u64::from_le_bytes(*first) ^ u64::from_be_bytes(*last),
+        _ => word_of_few(bytes),
+    };
+    (word.wrapping_mul(SPREAD) >> 52) as usize
+}
+
+// The bytes of a name that has fewer than eight.
+fn word_of_few(bytes: &[u8]) -> u64 {
+    let mut word = 0;
+    for byte in bytes {
+        word = (word << 8) | u64::from(*byte);
+    }
+    word
+}
+
+fn hints_of(alloc: Global, declared: &[Declaration]) -> Result<Vec<usize>, AllocError> {
+    // A hint that no name has leads past the last object.
+    let mut hints = vec![in alloc; declared.len(); HINTS]?;
+    for (place, declaration) in declared.iter().enumerate() {
+        if let Some(hint) = hints.get_mut(hint_of(declaration.name.as_str())) {
+            *hint = place;
+        }
+    }
+    Ok(hints)
 }
 
 fn index_of<'t>(alloc: Global, declared: &[Declaration<'t>]) -> Result<Index<'t>, AllocError>
@@ -47,7 +89,11 @@ fn index_of<'t>(alloc: Global, declared: &[Declaration<'t>]) -> Result<Index<'t>
         let later = first.insert(declared[place].name.as_str(), place)?;
         are_apart &= later.is_none();
     }
-    Ok(Index { first, are_apart })
+    Ok(Index {
+        first,
+        are_apart,
+        hints: hints_of(alloc, declared)?,
+    })
 }
 
 /// The objects that a text declares.
@@ -150,7 +196,33 @@ impl<'t> Objects<'t> {
     }
 
     // The first object that has the name.
+    #[inline(always)]
     fn find(&self, name: &str) -> Option<&Declaration<'t>>
+        ensures { option_copied result ≡ find (has_name name.now) self.now.declared }
+    {
+        match self.hinted(name) {
+            Some(declaration) => Some(declaration),
+            None => self.indexed(name),
+        }
+    }
+
+    // The object to which the hint of the name leads, if it has the name and no two objects have one.
+    #[inline(always)]
+    fn hinted(&self, name: &str) -> Option<&Declaration<'t>>
+        ensures { IfSome result (λ found. find (has_name name.now) self.now.declared ≡ Some found.now) }
+    {
+        let place = self.index.hints.as_slice().get(hint_of(name))?;
+        let declaration = self.declared.as_slice().get(*place)?;
+        if self.index.are_apart && declaration.name.as_str() == name {
+            Some(declaration)
+        } else {
+            None
+        }
+    }
+
+    // The first object that has the name, by the hash of the name.
+    #[inline(never)]
+    fn indexed(&self, name: &str) -> Option<&Declaration<'t>>
         ensures { option_copied result ≡ find (has_name name.now) self.now.declared }
     {
         match self.index.first.get(name) {

@@ -15,6 +15,6 @@ mod writing;
 pub use actions::is_action;
 pub use numbers::{int_of, number_in};
 pub use parsing::{has_masks, is_known, op_of_text, references_of_text};
-pub use places::Places;
+pub use places::{AnyName, Places};
 pub use words::cut;
 pub use writing::{Names, op_text};

@@ -160,12 +160,15 @@ fn first_of<'t>(verbs: &[Verb], text: &'t str) -> Option<(Verb, Option<&'t str>)
 }
 
 // The verb of a text's first word, and what follows it. The words are short, so each is compared where it would stand, and
-// the end of the first one is not looked for.
+// the end of the first one is not looked for. The verb that comes most is compared by itself.
 #[inline(always)]
 fn first_verb(text: &str) -> Option<(Verb, Option<&str>)>
     ensures { option_map verb_and_words result ≡ first_read (words_of text.now) VERBS }
 {
-    first_of(&VERBS, text)
+    match rest_of(Verb::ActivateTask, text) {
+        Some(rest) => Some((Verb::ActivateTask, rest)),
+        None => first_of(&VERBS, text),
+    }
 }
 
 // The operation of a verb, whatever its arguments are.
@@ -215,6 +218,7 @@ fn op_with_verb<P: Places>(places: &P, verb: Verb, rest: Option<&str>) -> Option
 
 /// The operation that a text means; None if it is not in form and in range, as an empty one, or if a name in it
 /// has no place.
+#[inline(always)]
 pub fn op_of_text<P: Places>(places: &P, text: &str) -> Option<Op>
     ensures { result ≡ op_of_text (P.place places.now) text.now }
 {

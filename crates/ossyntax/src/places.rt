@@ -16,7 +16,7 @@ pub trait Places {
         ensures in_form { IfSome result (λ _. is_name name.now ≡ true) };
 }
 
-// Gives every name a place, so that a text is judged whatever its names stand for.
+/// Gives every name a place, so that a text is judged whatever its names stand for.
 #[derive(Clone, Copy)]
 pub struct AnyName;
 

@@ -3,7 +3,7 @@
 ghost use Rattle.std.specs.Prelude.{◌≡◌, IfOk, Some, length, map, nat_le};
 ghost use Rattle.std.specs.List.{list_all, list_any};
 ghost use Rattle.oscript.specs.{Calls.any_action as any_action_value, Rows.has_masks as has_events, Rows.uses_resource, declared.Op.Op as OpValue};
-ghost use Rattle.ossyntax.specs.Operation.{op_of_text, place_of_any};
+ghost use Rattle.ossyntax.specs.Operation.{op_of_text};
 ghost use Rattle.osplan.specs.Representable.{goes_within, is_jumping_within};
 ghost use Rattle.osplan.specs.Limits as limits;
 ghost use Rattle.osschema.specs.Declarations.{counter_ref, place_of};
@@ -13,33 +13,13 @@ ghost use Rattle.osvalidate.specs.Verdict.{Judges, action_verdict, counter_verdi
 use crate::verdicts::{Judged, Verdict};
 use osbase::{
     CoreId, CounterRef, List, OPERATIONS, ObjectKind, Place, Reference, RemoteCall, TaskRef,
-    is_name,
 };
 use oscript::{Op, Script, action_of_op};
 use osjson::{PartReader, Refusal, read_parts};
 use osplan::{ConfFault, is_local_to};
 use osschema::Objects;
-use ossyntax::{Places, has_masks, is_action, is_known, op_of_text, references_of_text};
+use ossyntax::{AnyName, Places, has_masks, is_action, is_known, op_of_text, references_of_text};
 use std::alloc::{AllocError, Global};
-
-// Gives every name a place, so that a text is judged whatever its names refer to.
-#[derive(Clone, Copy)]
-struct AnyName;
-
-impl Places for AnyName {
-    ghost place = { λ _ kind name. place_of_any kind name };
-
-    fn place(&self, _kind: ObjectKind, name: &str) -> Option<Place> {
-        if is_name(name) {
-            Some(Place {
-                core: CoreId { number: 0 },
-                index: 0,
-            })
-        } else {
-            None
-        }
-    }
-}
 
 // Whether the text is an operation in form and in range.
 fn is_operation(text: &str) -> bool
