@@ -1,23 +1,37 @@
 -- One turn of a run, as its contract has it.
-use Rattle.std.proofs.Common.{◌≡◌, ℕ, suc, ◌<◌, Bool, true, false, not, Option, Some, None, option_map, slice_get, List, [], ◌∷◌, length, get_or, set, refl, sym, ap, subst, ◌∙◌, arith, nat_eq, Result, Ok, Err}
+use Rattle.std.proofs.Common.{◌≡◌, ℕ, suc, ◌<◌, Bool, true, false, not, Option, Some, None, is_none, option_map, slice_get, List, [], ◌∷◌, length, get_or, set, refl, sym, ap, subst, ◌∙◌, arith, nat_eq, Result, Ok, Err}
 use Rattle.std.specs.{Result.OnErr, List.position, List.position_or_len}
 use Rattle.std.proofs.{lemmas.Bool.not-true, lemmas.Bool.Decides.nat_tests, lemmas.List.Elements.All-set, Math.Seq.map-set_same}
-use Rattle.osbase.specs.{declared.references.CoreId.CoreId, declared.messages.Envelope.Envelope, declared.items.Item.Item, declared.turns.Choice.Choice, declared.turns.CoreStimuli.CoreStimuli, History.same_core, declared.statuses.Status.TheVariants.EOsId}
+use Rattle.osbase.specs.{declared.references.CoreId.CoreId, declared.messages.Envelope.Envelope, declared.items.Item.Item, declared.items.Stimulus.Stimulus, declared.turns.Choice.Choice, declared.turns.CoreStimuli.CoreStimuli, History.same_core, declared.statuses.Status.TheVariants.EOsId}
 use Rattle.osplan.specs.{declared.plans.Plan.Plan, View.view_of}
-use Rattle.osstate.specs.Does.{Reads}
+use Rattle.osstate.specs.{Does.Reads, State.KernelState}
 use Rattle.osbase.proofs.Same.{same_core-true}
 use Rattle.oskernel.specs.{Step.outbox_size, Step.takes, declared.wants.Watch.Watch, Wants.front_of, Wants.want_in, Wants.watch_in}
-use Rattle.osrun.specs.{declared.core_runs.CoreRun.CoreRun, declared.requests.Request.Request, Fits.history_by, CoreRuns.IsCoreRun, Requests.item_by, Requests.next_item, Requests.request_by, Requests.spin_call_of, CoreRuns.Keeps, CoreRuns.Took}
+use Rattle.osrun.specs.{declared.core_runs.CoreRun.CoreRun, declared.requests.Request.Request, Fits.history_by, CoreRuns.IsCoreRun, Requests.item_by, Requests.look_request, Requests.next_item, Requests.request_by, Requests.spin_call_of, CoreRuns.Keeps, CoreRuns.Took}
 use Rattle.osrun.specs.declared.requests.Request.TheVariants.{OfBoard, OfSpins, Room, Oldest, StartUnknown, TakeStimulus}
 use Rattle.osspin.specs.Spins.{spin_reply}
 use Rattle.osworld.specs.declared.answering.Shared.{Shared}
 use Rattle.osworld.specs.World.{World, turn, is_unchanged, item_total}
-use Rattle.osworld.specs.Answering.{reply_by, mail_after, IsPlaced, next_by, settled, after_call}
+use Rattle.osworld.specs.Answering.{reply_by, is_idle_look, is_undisturbed, mail_after, IsPlaced, next_by, settled, after_call}
 use Rattle.osworld.specs.Playing.{IsCutShort, IsPlayed, Plays}
 use Rattle.osrun.proofs.Resulting.{is-item, spinlock-item}
 use Rattle.osworld.proofs.Listed.{is_seat_of, seat_is_of, seat_nowhere, core_run_place}
 use Rattle.osworld.proofs.Turning.{turn-nobody, turn-nothing, turn-refused, turn-taken, turn-appends}
 use Rattle.osrun.proofs.CoreRunning.{seated-kept, took-kept}
+
+-- A look of a core that nothing disturbs names nothing.
+nobody-asked : {A : Type 0} (o : Option A) → is_none o ≡ true → o ≡ None
+nobody-asked None e = refl
+nobody-asked (Some x) e = cc
+
+pub idle-look : (plan : Plan) (shared : Shared) (id : CoreId) (stimuli : List Stimulus) (s : KernelState) (choice : Choice) → is_idle_look choice (watch_in s) shared.board ≡ true → next_by plan shared id stimuli s choice ≡ None
+idle-look plan shared id stimuli s Choice.Look idle = by (watch_in s) idle
+  where
+    by : (watch : Watch) → is_undisturbed watch shared.board ≡ true → next_item id watch (reply_by shared id) (Some (look_request watch)) ≡ None
+    by Watch.Nothing none = refl
+    by Watch.Halt none = rw (nobody-asked shared.board.halt none) refl
+    by watch none = cc
+idle-look plan shared id stimuli s choice idle = cc
 
 one_more-differs : (n : ℕ) → true ≡ not (nat_eq n (suc n))
 one_more-differs n = grind (arith, nat_tests)

@@ -29,6 +29,11 @@ is_undisturbed Watch.Nothing board = true
 is_undisturbed Watch.Halt board = is_none board.halt
 is_undisturbed watch board = false
 
+-- Its look results in nothing.
+abbrev pub is_idle_look : Choice → Watch → BoardState → Bool
+is_idle_look Choice.Look watch board = is_undisturbed watch board
+is_idle_look choice watch board = false
+
 -- What the turn asks, by the state of the core's kernel, and the item to which that answer leads.
 abbrev pub next_by : Plan → Shared → CoreId → List Stimulus → KernelState → Choice → Option (Request × Item)
 next_by plan shared id stimuli s choice =

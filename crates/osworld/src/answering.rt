@@ -1,14 +1,13 @@
 //! The reply to a turn's request, and what the turn changes beside the core that takes its item.
 
-ghost use Rattle.std.specs.Prelude.{◌≡◌, ◌<◌, ◌≤◌, ◌&&◌, nat_lt, if◌then◌else◌, None, IfOk, IsTrue};
+ghost use Rattle.std.specs.Prelude.{◌≡◌, ◌<◌, ◌≤◌, ◌&&◌, nat_lt, if◌then◌else◌, IfOk};
 ghost use Rattle.osbase.specs.declared.limits.TheConstants.{CORES};
 ghost use Rattle.osmail.specs.Mail.{empty_mail, has_mail, has_room, oldest_of};
-ghost use Rattle.osplan.specs.declared.plans.Plan.{Plan as PlanValue};
 ghost use Rattle.osboard.specs.Boards.{first_board};
 ghost use Rattle.osspin.specs.Spins.{no_holders};
 ghost use Rattle.oskernel.specs.Wants.{front_of, watch_in};
 ghost use Rattle.osrun.specs.Requests.{item_by};
-ghost use Rattle.osworld.specs.Answering.{reply_by, mail_after, is_undisturbed, IsPlaced, next_by, after_call};
+ghost use Rattle.osworld.specs.Answering.{reply_by, mail_after, is_idle_look, is_undisturbed, IsPlaced, next_by, after_call};
 
 use osbase::{CORES, Choice, CoreId, Item, Letter, MAILBOX};
 use osboard::BoardList;
@@ -62,7 +61,7 @@ impl Shared {
     /// a shutdown of all cores that nobody has requested.
     #[inline(always)]
     pub fn is_idle_look(&self, core_run: &CoreRun, choice: Choice) -> bool
-        ensures { (plan : PlanValue) → IsTrue result → next_by plan self.now core_run.now.id core_run.now.stimuli.now core_run.now.kernel choice ≡ None }
+        ensures { result ≡ is_idle_look choice (watch_in core_run.now.kernel) self.now.board }
     {
         match choice {
             Choice::Look => self.is_undisturbed(core_run),

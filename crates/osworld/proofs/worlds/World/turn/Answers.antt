@@ -2,7 +2,7 @@ use Rattle.std.proofs.Common.{[], ◌∷◌, sym, ◌∙◌}
 use Rattle.std.proofs.lemmas.{Result.IfOk-weaker, Result.on_err_weaker}
 use Rattle.osbase.specs.declared.references.CoreId.{CoreId}
 use Rattle.osworld.specs.Playing.{SitsAt, StopsShort}
-use Rattle.osworld.proofs.Turned.{nobody-played, unanswered-played}
+use Rattle.osworld.proofs.Turned.{idle-look, nobody-played, unanswered-played}
 use Rattle.osworld.proofs.worlds.World.turn.Goals as goal
 
 pub returns-in_default-clause-ok : goal.returns-in_default-clause-ok
@@ -12,7 +12,7 @@ returns-in_default-clause-ok c stimuli w plays =
 pub returns-then-is_idle_look-clause-ok : goal.returns-then-is_idle_look-clause-ok
 returns-then-is_idle_look-clause-ok c stimuli w plays =
     unanswered-played c.args.self.now.config.now stimuli w c.args.self.now.core_runs.items c.args.self.now.shared plays c.args.core c.args.choice c.in-Some.at c.index.result.now
-    (sym c.place_of.ensures.place ∙ c.in-Some.is) c.index.ensures (c.is_idle_look.ensures c.args.self.now.config.now c.if-is_idle_look.true)
+    (sym c.place_of.ensures.place ∙ c.in-Some.is) c.index.ensures (idle-look c.args.self.now.config.now c.args.self.now.shared c.index.result.now.id c.index.result.now.stimuli.now c.index.result.now.kernel c.args.choice (sym c.is_idle_look.ensures ∙ c.if-is_idle_look.true))
 
 pub returns-clause-ok : goal.returns-clause-ok
 returns-clause-ok c =
