@@ -27,25 +27,52 @@ fn place_in(kind: ObjectKind, declaration: &Declaration) -> Option<Place>
     }
 }
 
-// So many hints, a power of two, so that two names of one configuration seldom have one.
-const HINTS: usize = 4096;
-
-// As the highest bits of a product, the hint depends on all bits of what is multiplied by this odd number.
-const SPREAD: u64 = 0x9e37_79b9_7f4a_7c15;
-
 /// Which object of a list has a name, and whether no two have one.
 #[derive(Drop)]
 struct Index<'t> {
     // Of each name where its first object stands in the list.
     first: HashMap<&'t str, usize>,
     are_apart: bool,
-    // Of each hint where some object stands whose name has it, so that most names are compared with one, and not hashed.
-    hints: Vec<usize>,
+    hints: Hints,
 }
 
-// The hint of a name: that of its first and its last eight bytes, since a hash of all its bytes takes longer than to compare them.
+// Of each hint where an object stands whose name may have it, so that most names are compared with one, and not hashed.
+#[derive(Drop)]
+struct Hints {
+    places: Vec<u16>,
+}
+
+// So many hints there are for each object, so that two names of one configuration seldom have one.
+const HINTS: usize = 16;
+
+// The highest bits of a product depend on all bits of what is multiplied by this odd number.
+const SPREAD: u64 = 0x9e37_79b9_7f4a_7c15;
+
+impl Hints {
+    fn of(alloc: Global, declared: &[Declaration]) -> Result<Self, AllocError> {
+        let count = declared.len().saturating_mul(HINTS);
+        let mut places = vec![in alloc; 0; count]?;
+        for (place, declaration) in declared.iter().enumerate() {
+            let hint = hint_of(declaration.name.as_str(), count);
+            if let (Some(hinted), Ok(place)) = (places.get_mut(hint), u16::try_from(place)) {
+                *hinted = place;
+            }
+        }
+        Ok(Hints { places })
+    }
+
+    #[inline(always)]
+    fn place(&self, name: &str) -> Option<usize> {
+        let places = self.places.as_slice();
+        let place = places.get(hint_of(name, places.len()))?;
+        Some(usize::from(*place))
+    }
+}
+
+// The hint of a name, of so many: that of its first and its last eight bytes, since a hash of all its bytes takes longer than to
+// compare them.
 #[inline(always)]
-fn hint_of(name: &str) -> usize {
+fn hint_of(name: &str, count: usize) -> usize {
     let bytes = name.as_bytes();
     let word = match (
         bytes.as_chunks::<8>().0.first(),
@@ -54,7 +81,8 @@ fn hint_of(name: &str) -> usize {
         (Some(first), Some(last)) => u64::from_le_bytes(*first) ^ u64::from_be_bytes(*last),
         _ => word_of_few(bytes),
     };
-    (word.wrapping_mul(SPREAD) >> 52) as usize
+    let spread = word.wrapping_mul(SPREAD) >> 32;
+    (spread.wrapping_mul(count as u64) >> 32) as usize
 }
 
 // The bytes of a name that has fewer than eight.
@@ -64,17 +92,6 @@ fn word_of_few(bytes: &[u8]) -> u64 {
         word = (word << 8) | u64::from(*byte);
     }
     word
-}
-
-fn hints_of(alloc: Global, declared: &[Declaration]) -> Result<Vec<usize>, AllocError> {
-    // A hint that no name has leads past the last object.
-    let mut hints = vec![in alloc; declared.len(); HINTS]?;
-    for (place, declaration) in declared.iter().enumerate() {
-        if let Some(hint) = hints.get_mut(hint_of(declaration.name.as_str())) {
-            *hint = place;
-        }
-    }
-    Ok(hints)
 }
 
 fn index_of<'t>(alloc: Global, declared: &[Declaration<'t>]) -> Result<Index<'t>, AllocError>
@@ -92,7 +109,7 @@ fn index_of<'t>(alloc: Global, declared: &[Declaration<'t>]) -> Result<Index<'t>
     Ok(Index {
         first,
         are_apart,
-        hints: hints_of(alloc, declared)?,
+        hints: Hints::of(alloc, declared)?,
     })
 }
 
@@ -211,8 +228,8 @@ impl<'t> Objects<'t> {
     fn hinted(&self, name: &str) -> Option<&Declaration<'t>>
         ensures { IfSome result (λ found. find (has_name name.now) self.now.declared ≡ Some found.now) }
     {
-        let place = self.index.hints.as_slice().get(hint_of(name))?;
-        let declaration = self.declared.as_slice().get(*place)?;
+        let place = self.index.hints.place(name)?;
+        let declaration = self.declared.as_slice().get(place)?;
         if self.index.are_apart && declaration.name.as_str() == name {
             Some(declaration)
         } else {
