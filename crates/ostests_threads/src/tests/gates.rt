@@ -2,10 +2,10 @@
 //! has the same verdict whatever the schedule is.
 
 use super::reports::text_under;
-use super::threads::{FEW, KINDS};
+use super::threads::KINDS;
 use osbase::{CORES, CoreId};
 use osplay::{cut_of, result_of, same};
-use osthreads::{Gate, MailKind};
+use osthreads::{AWAKE, Gate, MailKind};
 use std::alloc::Global;
 use std::process::Abort;
 use std::sync::Wait;
@@ -47,6 +47,9 @@ const CORE_3: CoreId = CoreId { number: 3 };
 
 /// Turns that change nothing before a worker stops: many where its core is to end, so that it waits for the others.
 const MANY: u64 = 100_000;
+
+/// As many turns as a worker makes whole rounds before it sleeps.
+const SLEEPLESS: u64 = AWAKE;
 
 // Lets each thread start but that of one core, if it names one, and counts the turns that each of so many cores began. Where
 // cores meet, each of the first turns of a core waits until every other began as many, for so many tries. A started core whose
@@ -135,7 +138,8 @@ impl Gate for Watcher {
     }
 }
 
-// Holds every core but core 0 until so many turns of core 0 in a row changed nothing, for so many tries.
+// Holds every core but core 0 until core 0 has stopped, for so many tries. It stops after so many turns in a row that changed
+// nothing, so few that it never sleeps among them.
 #[derive(Drop)]
 struct Delay {
     fruitless: AtomicU64,
@@ -154,7 +158,7 @@ impl Delay {
 
     fn has_core_0_stopped(&self) -> bool {
         for _ in 0..TRIES {
-            if self.fruitless.load(Ordering::SeqCst) >= FEW {
+            if self.fruitless.load(Ordering::SeqCst) >= SLEEPLESS {
                 return true;
             }
             thread::yield_now();
@@ -289,7 +293,7 @@ fn a_core_that_waits_for_ever_does_not_end(rt: HostRuntime) -> Result<(), Fail> 
     let alloc = rt.alloc();
     for mail in KINDS.iter() {
         let gate = Delay::new();
-        let text = four_under(&rt, alloc, *mail, &gate, FEW)?;
+        let text = four_under(&rt, alloc, *mail, &gate, SLEEPLESS)?;
         assert_eq!(rt; gate.missed.load(Ordering::SeqCst), 0);
         has(alloc, text.as_str(), "worker ", NONE_ENDS)?;
         assert!(rt;
