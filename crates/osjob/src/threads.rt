@@ -11,7 +11,7 @@ use crate::sources::Source;
 use crossbeam_utils::CachePadded;
 use osbase::{CORES, CoreId, MailKind};
 use oscommand::Print;
-use osthreads::{AWAKE, Gate, run_threads};
+use osthreads::{AWAKE, Gate, ROUND, run_threads};
 use ostrace::Sink;
 use std::alloc::Global;
 use std::sync::Wait;
@@ -20,18 +20,14 @@ use std::thread::Threads;
 use std::{array, thread};
 
 /// The gate of the program: each thread may start, and a core that found nothing to do for as long as a worker stays awake
-/// gives up its processor before it sleeps. Beside busy programs a processor that is given up comes back late. Most turns of
-/// a core that works change nothing, since a round serves every other core.
+/// gives up its processor before it sleeps. Beside busy programs a processor that is given up comes back late. Also of a core
+/// at work most turns change nothing: of three in a round, the one that serves the other cores, and the look.
 ///
 /// A store to a word that threads share takes as long as some forty instructions, so most turns of a core that works make one.
 /// It counts its fruitless turns, whatever comes between them, and is watched from a quarter of its patience on: then `before`
 /// finds whether the last turn was one of them, and if it was not, the count begins again.
 #[derive(Drop)]
 pub struct Yielding {
-    // As a count, the turns of so many whole rounds of the run's cores.
-    patience: u64,
-    // The count from which a core is watched.
-    watched: u64,
     // Each core's count, on a cache line of its own, since no other core writes it.
     cores: [CachePadded<AtomicU64>; CORES],
 }
@@ -41,15 +37,15 @@ const TURN: u64 = 2;
 
 const WAS_LAST: u64 = 1;
 
+// The count at which a core gives up its processor, and the one from which it is watched.
+const PATIENCE: u64 = AWAKE * ROUND * TURN;
+
+const WATCHED: u64 = PATIENCE / 4;
+
 impl Yielding {
-    /// The gate of a run of so many cores. A core's round serves each other one, does its own work, and looks at the
-    /// board.
-    pub fn new(cores: usize) -> Self {
-        let turns = (cores as u64).wrapping_add(1).wrapping_mul(AWAKE);
-        let patience = turns.wrapping_mul(TURN);
+    /// The gate of a run that has not begun.
+    pub fn new() -> Self {
         Yielding {
-            patience,
-            watched: patience / 4,
             cores: array::from_fn(|_| CachePadded::new(AtomicU64::new(0))),
         }
     }
@@ -65,7 +61,7 @@ impl Gate for Yielding {
             return;
         };
         let seen = count.load(Ordering::Relaxed);
-        if seen < self.watched {
+        if seen < WATCHED {
             return;
         }
         let was_last = seen & WAS_LAST == WAS_LAST;
@@ -78,7 +74,7 @@ impl Gate for Yielding {
             return;
         };
         let turns = (count.load(Ordering::Relaxed) | WAS_LAST).wrapping_add(TURN);
-        if turns < self.patience {
+        if turns < PATIENCE {
             count.store(turns, Ordering::Relaxed);
         } else {
             count.store(0, Ordering::Relaxed);
@@ -103,15 +99,8 @@ pub fn run_by_threads<R: Threads + Wait + Sync, S: Source + Drop, O: Sink>(
         (λ files. IsThreadsPrinted O.taken O.failed out.old out.new turns print files (S.count source) result) }
 {
     let (config, stimuli, _) = input_of(alloc, None, logged_core(print), source)?;
-    let reports = run_threads(
-        rt,
-        alloc,
-        &config,
-        &stimuli,
-        mail,
-        &Yielding::new(config.plan().cores.len()),
-        turns,
-    )?;
+    let gate = Yielding::new();
+    let reports = run_threads(rt, alloc, &config, &stimuli, mail, &gate, turns)?;
     let reports = reports.as_slice();
     match print {
         Print::Trace => print_reports(alloc, &config, None, out, reports),

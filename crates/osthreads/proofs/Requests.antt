@@ -1,7 +1,7 @@
 -- What a worker's turns ask, and which items the answers result in.
 use Rattle.std.proofs.Common.{◌≡◌, ◌⊎◌, Bool, true, false, cond, Option, Some, None, IsTrue, List, [], ◌∷◌, ◌++◌, length, refl, sym, ap, subst, ◌∙◌, arith, unwrap_or}
 use Rattle.std.proofs.{lemmas.Bool.ltb-true, lemmas.Option.same_Some}
-use Rattle.osbase.specs.{declared.statuses.Status.TheVariants.EOk, declared.statuses.Status.TheVariants.EOsState, declared.references.CoreId.CoreId, declared.items.CoreMode.CoreMode, declared.items.CoreMode.TheVariants.Named, declared.items.CoreMode.TheVariants.DontCare, declared.items.Item.Item, declared.items.Stimulus.Stimulus, declared.turns.Choice.Choice, History.same_core, Sets.has_core}
+use Rattle.osbase.specs.{declared.statuses.Status.Status, declared.statuses.Status.TheVariants.EOk, declared.statuses.Status.TheVariants.EOsState, declared.references.CoreId.CoreId, declared.items.CoreMode.CoreMode, declared.items.CoreMode.TheVariants.Named, declared.items.CoreMode.TheVariants.DontCare, declared.items.Item.Item, declared.items.Stimulus.Stimulus, declared.turns.Choice.Choice, History.same_core, Sets.has_core}
 use Rattle.osplan.specs.{declared.plans.Plan.Plan, declared.plans.Core.Core}
 use Rattle.osplan.specs.Limits.{is_core_known, is_core_mode, is_within_limits, sizes_of}
 use Rattle.osplan.specs.View.{View, core_of, is_configured, no_core, view_of}
@@ -13,8 +13,8 @@ use Rattle.oskernel.specs.{declared.wants.Want.Want, declared.wants.Watch.Watch,
 use Rattle.osshared.specs.{declared.histories.Entry.Entry, Seats.Extends, Seats.Held}
 use Rattle.osshared.specs.Histories.{IsLegal, IsLegalFrom, Object, entry}
 use Rattle.osboard.specs.{declared.calls.BoardState.BoardState, declared.calls.BoardCall.BoardCall, declared.calls.BoardReply.BoardReply}
-use Rattle.osboard.specs.declared.calls.BoardCall.TheVariants.{Start, Enter, MakeReady, Drain, AskHalt}
-use Rattle.osboard.specs.declared.calls.BoardReply.TheVariants.{Drained}
+use Rattle.osboard.specs.declared.calls.BoardCall.TheVariants.{Start, Enter, MakeReady, Drain, AskHalt, LookHalt}
+use Rattle.osboard.specs.declared.calls.BoardReply.TheVariants.{Halting}
 use Rattle.osboard.specs.Boards.{HasPlace, IsMode, board_reply, first_asked, one_board, start_answer}
 use Rattle.osspin.specs.{declared.calls.SpinCall.SpinCall, declared.calls.SpinReply.SpinReply, declared.calls.SpinReply.TheVariants.Answered}
 use Rattle.osspin.specs.Spins.{holder_of, is_free, is_held_by, spin_reply, spinlocks}
@@ -70,6 +70,15 @@ board-takes id k call reply item results names = rw (same_Some item results.item
 -- The one item that the answer results in is one that the core does not take.
 pub refused-item : (id : CoreId) (k : KernelState) (request : Request) (answer : Reply) (i : Item) → item_by id (watch_in k) request answer ≡ Some i → takes_in outbox_size k i ≡ false → IsFruitless id k request answer
 refused-item id k request answer i names not_this item is = rw (same_Some item i (sym is ∙ names)) not_this
+
+-- A core that watches for a shutdown of all cores halts where one was requested, and takes no item where none was.
+module _ (id : CoreId) (k : KernelState) (watch : watch_in k ≡ Watch.Halt) where
+  pub halts : (halt : Option (CoreId × Status)) (asked : CoreId × Status) → halt ≡ Some asked → item_by id (watch_in k) (OfBoard LookHalt) (Replied (Halting halt)) ≡ Some (Item.Halt asked.0 asked.1)
+  halts halt asked is = rw (watch, is) refl
+
+  pub unasked : (halt : Option (CoreId × Status)) → ((asked : CoreId × Status) → halt ≡ Some asked → ⊥) → IsFruitless id k (OfBoard LookHalt) (Replied (Halting halt))
+  unasked (Some asked) none item names = absurd (none asked refl)
+  unasked None none item names = let nothing = rw watch at names in cc
 
 -- Whatever the board answers to a call that changes it, the core takes no item then, if it does not take the one that was expected.
 pub call-fruitless : (id : CoreId) (k : KernelState) (call : BoardCall) → ChangesBoard call → takes_in outbox_size k (item_of_call id call) ≡ false → (answer : Reply) → MayAnswer id (OfBoard call) answer → IsFruitless id k (OfBoard call) answer

@@ -1,15 +1,15 @@
 -- A worker's shift: its beginning, its turns, and what it hands back.
 use Rattle.std.proofs.Common.{⊎_elim, ◌≡◌, ℕ, zero, suc, ◌+◌, ◌*◌, ◌/◌, ◌<◌, ◌≤◌, Bool, true, false, None, List, [], length, refl, sym, subst, ◌∙◌, arith}
-use Rattle.std.proofs.{lemmas.Bool.cases_eq, lemmas.Bool.false≢true, lemmas.Bool.Decides.nat_tests, Math.Nat.div-lt_iff_lt-mul}
+use Rattle.std.proofs.{lemmas.Bool.cases_eq, lemmas.Bool.cases_lt, lemmas.Bool.false≢true, lemmas.Bool.Decides.nat_tests, Math.Nat.div-lt_iff_lt-mul}
 use Rattle.osbase.specs.{declared.references.CoreId.CoreId, declared.turns.CoreStimuli.CoreStimuli, History.first_phase, Runs.stimuli_of}
 use Rattle.osplan.specs.{declared.plans.Plan.Plan, View.view_of}
 use Rattle.osstate.specs.State.{state_of}
 use Rattle.osrun.specs.{Requests.Calls, Requests.no_calls, declared.core_runs.CoreRun.CoreRun, Fits.ids_of, CoreRuns.Keeps, CoreRuns.is_ended_phase, CoreRuns.report_of}
 use Rattle.osmail.specs.Ends.{Streams}
 use Rattle.osrun.proofs.CoreRunning.{seated-first, seated-own}
-use Rattle.osthreads.specs.{declared.run.Run.Run, declared.turns.Stop.Stop, declared.worker.Shift.Shift, declared.worker.Worked.Worked, Seats.made_from}
-use Rattle.osthreads.specs.Rounds.{IsGoing, IsStopped, core_count, loads_at, next_at, since_own, turns_of}
-use Rattle.osthreads.specs.Working.{HasDone, HasNoWork, HasWorked, IsFinished, IsWorked, is_ended_by, is_finished_by, refusal_at}
+use Rattle.osthreads.specs.{declared.run.Run.Run, declared.turns.Stop.Stop, declared.turns.Turned.Turned, declared.turns.Turned.TheVariants.Nothing, declared.turns.Turned.TheVariants.Took, declared.turns.Turned.TheVariants.Refused, declared.worker.Shift.Shift, declared.worker.Worker.Worker, declared.worker.Worked.Worked, Seats.made_from}
+use Rattle.osthreads.specs.Rounds.{IsGoing, IsNext, IsStopped, core_count, loads_at, places_of, since_own}
+use Rattle.osthreads.specs.Working.{HasDone, HasNoWork, HasWorked, IsFinished, IsTurn, IsWorked, UnlessTook, is_ended_by, is_finished_by, refusal_at}
 use Rattle.osthreads.proofs.Working.{stuck-by-items}
 
 -- A core has not ended at first.
@@ -33,29 +33,41 @@ begun plan stimuli core id made sent taken is_id is_kernel is_left no_items no_m
   };
 }
 
+-- A core serves at a place of its round, or does its own work, or looks.
+by-place : {A : Type 0} (cores at : ℕ) → (at + 1 < cores → A) → (at + 1 ≡ cores → A) → (cores ≤ at → A) → A
+by-place cores at served worked looked = ⊎_elim served (λ late. ⊎_elim worked (λ other. looked (omega (arith, late, other))) (cases_eq (at + 1) cores)) (cases_lt (at + 1) cores)
+
 -- The next place, and the turns that changed nothing, with one more.
-went-round : (cores at : ℕ) → at ≤ cores → next_at cores at ≤ cores
-went-round cores at place = grind (arith, nat_tests)
+module _ (cores at : ℕ) (turned : Turned) (next : ℕ) (is : IsNext cores at turned next) where
+  went-round : at ≤ cores → next ≤ cores
+  went-round place = by-place cores at (λ serves. omega (arith, (is.served serves).within)) (λ own. omega (arith, is.worked own)) (λ looks. omega (arith, is.looked looks))
 
-one-more : (cores at fruitless loads : ℕ) → at ≤ cores → fruitless ≤ turns_of cores loads + at → fruitless + 1 ≤ turns_of cores ((loads + 0) + loads_at cores at) + next_at cores at
-one-more cores at fruitless loads place count = grind (arith, nat_tests)
+  one-more : (fruitless loads : ℕ) → at ≤ cores → fruitless ≤ places_of cores loads + at → fruitless + 1 ≤ places_of cores ((loads + 0) + loads_at cores at) + next
+  one-more fruitless loads place count = by-place cores at
+      (λ serves. let past = (is.served serves).past in grind (arith, nat_tests, serves, past, count))
+      (λ own. let end = is.worked own in grind (arith, nat_tests, own, end, count))
+      (λ looks. let begin = is.looked looks in grind (arith, nat_tests, looks, begin, place, count))
 
--- How long ago the core's own turn was, at most a round; with one turn more it is one more, unless that turn was it.
+  -- With one turn more the core's own turn is one turn longer ago, unless that turn was it.
+  pub own-next : 0 < cores → at ≤ cores → turned ≡ Nothing → (at + 1 ≡ cores → ⊥) → since_own cores next ≡ since_own cores at + 1
+  own-next some place none other = by-place cores at
+      (λ serves. let end = (is.served serves).all none in grind (arith, nat_tests, serves, end))
+      (λ own. absurd (other own))
+      (λ looks. let begin = is.looked looks in grind (arith, nat_tests, looks, begin, some, place))
+
+-- The core's own turn was at most a round ago.
 pub own-before : (cores at : ℕ) → 0 < since_own cores at
 own-before cores at = grind (arith, nat_tests)
 
 own-within : (cores at : ℕ) → at ≤ cores → since_own cores at ≤ cores + 1
 own-within cores at place = grind (arith, nat_tests)
 
-own-next : (cores at : ℕ) → 0 < cores → at ≤ cores → (at + 1 ≡ cores → ⊥) → since_own cores (next_at cores at) ≡ since_own cores at + 1
-own-next cores at some place other = grind (arith, nat_tests)
-
 -- So many whole rounds are in the turns.
-rounds : (cores n : ℕ) → turns_of cores n ≡ n * (cores + 1)
+rounds : (cores n : ℕ) → places_of cores n ≡ n * (cores + 1)
 rounds cores zero = omega arith
 rounds cores (suc n) = let rest = rounds cores n in omega arith
 
-whole-rounds : (cores turns loads : ℕ) → turns < turns_of cores (suc loads) → turns / (cores + 1) ≤ loads
+whole-rounds : (cores turns loads : ℕ) → turns < places_of cores (suc loads) → turns / (cores + 1) ≤ loads
 whole-rounds cores turns loads short =
     let product : turns < suc loads * (cores + 1) = omega (arith, short, rounds cores (suc loads)) in
     let quotient : turns / (cores + 1) < suc loads = (div-lt_iff_lt-mul {k = cores + 1} {x = turns} {y = suc loads} (omega arith)).1 product in
@@ -68,6 +80,29 @@ no-look cores at before = grind (arith, nat_tests)
 pub a-look : (cores at : ℕ) → cores ≤ at → loads_at cores at ≡ 1
 a-look cores at last = grind (arith, nat_tests)
 
+-- No turn, and a turn after one that changed nothing.
+module _ {M E : Type 0} (sent taken : M → Streams) (which : M → E) where
+  no-more : (stimuli : List CoreStimuli) (loads : ℕ) (w : Worker M) → HasWorked sent taken stimuli None (loads + 0) w → HasWorked sent taken stimuli None loads w
+  no-more stimuli loads w = subst (λ (n : ℕ). HasWorked sent taken stimuli None n w) (omega arith)
+
+  no-less : (stimuli : List CoreStimuli) (loads : ℕ) (w : Worker M) → HasWorked sent taken stimuli None loads w → HasWorked sent taken stimuli None (loads + 0) w
+  no-less stimuli loads w = subst (λ (n : ℕ). HasWorked sent taken stimuli None n w) (omega arith)
+
+  pub no-turn : (w : Worker M) → IsTurn sent taken which 0 Nothing w w
+  no-turn w = record { turns = λ stimuli loads done. no-less stimuli loads w done; core = refl; same = record { run = refl; id = refl; end = refl } }
+
+  unless-on : (turned : Turned) (old mid new : CoreRun) → mid ≡ old → UnlessTook turned (new ≡ mid) → UnlessTook turned (new ≡ old)
+  unless-on Took old mid new kept keeps = tt
+  unless-on Nothing old mid new kept keeps = keeps ∙ kept
+  unless-on (Refused from e) old mid new kept keeps = keeps ∙ kept
+
+  pub turn-on : (turned : Turned) (old mid new : Worker M) → IsTurn sent taken which 0 Nothing old mid → IsTurn sent taken which 0 turned mid new → IsTurn sent taken which 0 turned old new
+  turn-on turned old mid new first then = record {
+    turns = λ stimuli loads done. then.turns stimuli loads (no-more stimuli loads mid (first.turns stimuli loads done));
+    core = unless-on turned old.core mid.core new.core first.core then.core;
+    same = record { run = then.same.run ∙ first.same.run; id = then.same.id ∙ first.same.id; end = then.same.end ∙ first.same.end };
+  }
+
 -- A worker that did nothing in as many turns as were allowed.
 pub stopped-stalled : {M : Type 0} (sent taken : M → Streams) (stimuli : List CoreStimuli) (shift : Shift M) → IsGoing sent taken stimuli shift → shift.worker.run.now.turns ≤ shift.fruitless → IsStopped sent taken stimuli Stop.Stalled shift
 stopped-stalled sent taken stimuli shift going enough = record {
@@ -79,9 +114,9 @@ stopped-stalled sent taken stimuli shift going enough = record {
 }
 
 -- A worker that continues after a turn.
-module _ {M : Type 0} (sent taken : M → Streams) (stimuli : List CoreStimuli) (old new : Shift M) (run : new.worker.run ≡ old.worker.run) (moved : new.at ≡ next_at (core_count old) old.at) (place : old.at ≤ core_count old) where
+module _ {M : Type 0} (sent taken : M → Streams) (stimuli : List CoreStimuli) (old new : Shift M) (run : new.worker.run ≡ old.worker.run) (turned : Turned) (moved : IsNext (core_count old) old.at turned new.at) (place : old.at ≤ core_count old) where
   placed : new.at ≤ core_count new
-  placed = rw (run, moved) (went-round (core_count old) old.at place)
+  placed = rw run (went-round (core_count old) old.at turned new.at moved place)
 
   pub went-took : new.fruitless ≡ 0 → is_ended_phase new.worker.core.kernel.progress.phase ≡ false → HasWorked sent taken stimuli None 0 new.worker → IsGoing sent taken stimuli new
   went-took none running worked = record {
@@ -94,16 +129,16 @@ module _ {M : Type 0} (sent taken : M → Streams) (stimuli : List CoreStimuli) 
   }
 
   -- After a turn that changed nothing the core has as little work as before.
-  pub went-nothing : Keeps old.worker.core new.worker.core → new.fruitless ≡ old.fruitless + 1 → (going : IsGoing sent taken stimuli old) → (old.at + 1 ≡ core_count old → HasNoWork old.worker)
+  pub went-nothing : turned ≡ Nothing → Keeps old.worker.core new.worker.core → new.fruitless ≡ old.fruitless + 1 → (going : IsGoing sent taken stimuli old) → (old.at + 1 ≡ core_count old → HasNoWork old.worker)
       → HasWorked sent taken stimuli None ((going.loads + 0) + loads_at (core_count old) old.at) new.worker → IsGoing sent taken stimuli new
-  went-nothing keeps one going now worked = record {
+  went-nothing none keeps one going now worked = record {
     loads = (going.loads + 0) + loads_at (core_count old) old.at;
     worked = worked;
-    count = rw (run, moved, one) (one-more (core_count old) old.at old.fruitless going.loads place going.count);
+    count = rw (run, one) (one-more (core_count old) old.at turned new.at moved old.fruitless going.loads place going.count);
     place = placed;
     running = rw keeps.kernel going.running;
-    stuck = rw (run, moved, one, keeps.id, keeps.kernel, keeps.left)
-        (λ some own. ⊎_elim now (λ other. going.stuck some (omega (arith, own, own-next (core_count old) old.at some place other))) (cases_eq (old.at + 1) (core_count old)));
+    stuck = rw (run, one, keeps.id, keeps.kernel, keeps.left)
+        (λ some own. ⊎_elim now (λ other. going.stuck some (omega (arith, own, own-next (core_count old) old.at turned new.at moved some place none other))) (cases_eq (old.at + 1) (core_count old)));
   }
 
 -- A worker that stopped since its core had ended, or that stalled.

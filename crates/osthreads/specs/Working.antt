@@ -217,9 +217,9 @@ is_finished_by Stop.Ended = true
 is_finished_by Stop.Stalled = true
 is_finished_by stop = false
 
--- So many turns in a row changed nothing. A round has a turn for each configured core, its own for the core itself, and a look. So the
--- core's calls of the board end with a look for each whole round, and if there was one, the core can do nothing alone, but for a
--- letter that may wait for room in a mailbox, GetSpinlock that may wait for its spinlock, and a release (see `MayWait`).
+-- So many turns in a row changed nothing. A round has at most a turn for each configured core, its own for the core itself, and a look. So
+-- the core's calls of the board end with a look for each of so many turns, and if there were so many, the core can do nothing alone, but
+-- for a letter that may wait for room in a mailbox, GetSpinlock that may wait for its spinlock, and a release (see `MayWait`).
 pub record HasStalled (plan : Plan) (stimuli : List CoreStimuli) (turns : ℕ) (report : Report) (loads : ℕ) : Type 0 where
   pub rounds : turns / (length (ids_of plan) + 1) ≤ loads
   pub stuck : length (ids_of plan) < turns

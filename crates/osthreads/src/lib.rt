@@ -26,5 +26,5 @@ pub use runs::{ThreadFault, ThreadReason, run_threads};
 pub use seats::Seats;
 pub use shifts::core_worker;
 pub use turns::Stop;
-pub use wakers::{AWAKE, Wakers};
+pub use wakers::{AWAKE, ROUND, Wakers};
 pub use worker::Worked;

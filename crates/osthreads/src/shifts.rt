@@ -1,11 +1,11 @@
 //! One core's worker: turn by turn, until its core has ended or its turns change nothing any more.
 
-ghost use Rattle.std.specs.Prelude.{◌≡◌, ◌+◌, ◌<◌, [], IsSome, IfNone, IfSome, List, length};
+ghost use Rattle.std.specs.Prelude.{◌≡◌, ◌+◌, ◌<◌, [], IsSome, IfNone, IfSome, List};
 ghost use Rattle.osbase.specs.{declared.references.CoreId.CoreId as CoreIdValue, declared.turns.CoreStimuli.CoreStimuli as CoreStimuliValue};
 ghost use Rattle.osplan.specs.View.{core_of};
 ghost use Rattle.osrun.specs.{Fits.ids_of, CoreRuns.report_of, Requests.no_calls};
 ghost use Rattle.osthreads.specs.Seats.{AreAt, made_from, shared};
-ghost use Rattle.osthreads.specs.Rounds.{IsGoing, IsStopped, loads_at, next_at};
+ghost use Rattle.osthreads.specs.Rounds.{IsGoing, IsNext, IsServed, IsStopped, core_count, loads_at};
 ghost use Rattle.osthreads.specs.Working.{HasNoWork, IsSameWorker, IsTurn, IsWorked, MayTurn, UnlessTook};
 
 use crate::gates::Gate;
@@ -13,6 +13,7 @@ use crate::run::Run;
 use crate::seats::Seats;
 use crate::stamps::Stamps;
 use crate::turns::{Stop, Turned};
+use crate::wakers::ROUND;
 use crate::worker::{Shift, Worked, Worker};
 use osbase::CoreId;
 use osmail::Mail;
@@ -22,57 +23,79 @@ use std::sync::Wait;
 use std::sync::atomic::Ordering;
 
 impl<'a, M: Mail> Shift<'a, M> {
-    // The other core that is served at this place of the round. The cores ascend, and the own one is left out.
-    fn other(&self) -> CoreId
-        requires { self.now.at + 1 < length self.now.worker.run.now.cores.now }
+    // The other core at this place of the round. The cores ascend, and the own one is left out.
+    fn other(&self, at: usize) -> CoreId
+        requires { at + 1 < core_count self.now }
     {
-        let core = self.worker.run.cores[self.at];
+        let core = self.worker.run.cores[at];
         if core.number < self.worker.core.id.number {
             core
         } else {
-            self.worker.run.cores[self.at + 1]
+            self.worker.run.cores[at + 1]
         }
     }
 
-    // The turn at this place of the round.
+    // Whether an envelope may have come that this core can take. A core at work learns so from its sender, for one word that it
+    // loads is cheaper than to look at all mailboxes in vain; one that finds no work looks itself.
+    fn may_find_mail(&self) -> bool {
+        let worker = &self.worker;
+        worker.core.kernel.may_serve()
+            && (self.at > 0
+                || self.fruitless >= ROUND
+                || worker.run.wakers.take_news(worker.core.id))
+    }
+
+    // Serves the next core of the round that sent an envelope. If none did, the core's own turn is next.
+    fn serve(&mut self) -> Turned
+        requires room { MayTurn M.has_room self.old.worker }
+        requires others { self.old.at + 1 < core_count self.old }
+        ensures turn { IsTurn M.sent M.taken M.which 0 result self.old.worker self.new.worker }
+        ensures at { IsServed (core_count self.old) self.old.at result self.new.at }
+        ensures fruitless { self.new.fruitless ≡ self.old.fruitless }
+    {
+        let others = self.worker.run.cores.len() - 1;
+        if self.may_find_mail() {
+            for at in self.at..others {
+                let from = self.other(at);
+                match self.worker.serve(from) {
+                    Turned::Nothing => {}
+                    turned => {
+                        self.at = at + 1;
+                        return turned;
+                    }
+                }
+            }
+        }
+        self.at = others;
+        Turned::Nothing
+    }
+
+    // The turn at this place of the round, which comes to the next one.
     fn turn(&mut self) -> Turned
         requires { MayTurn M.has_room self.old.worker }
-        ensures turn { IsTurn M.sent M.taken M.which (loads_at (length self.old.worker.run.now.cores.now) self.old.at) result self.old.worker self.new.worker }
-        ensures stuck { self.old.at + 1 ≡ length self.old.worker.run.now.cores.now → UnlessTook result (HasNoWork self.old.worker) }
-        ensures at { self.new.at ≡ self.old.at }
+        ensures turn { IsTurn M.sent M.taken M.which (loads_at (core_count self.old) self.old.at) result self.old.worker self.new.worker }
+        ensures stuck { self.old.at + 1 ≡ core_count self.old → UnlessTook result (HasNoWork self.old.worker) }
+        ensures at { IsNext (core_count self.old) self.old.at result self.new.at }
         ensures fruitless { self.new.fruitless ≡ self.old.fruitless }
     {
         let cores = self.worker.run.cores.len();
         if self.at >= cores {
+            self.at = 0;
             return self.worker.look();
         }
         if self.at + 1 == cores {
+            self.at = cores;
             return self.worker.own();
         }
-        let from = self.other();
-        self.worker.serve(from)
-    }
-
-    // The next place of the round.
-    fn go_round(&mut self)
-        ensures worker { self.new.worker ≡ self.old.worker }
-        ensures fruitless { self.new.fruitless ≡ self.old.fruitless }
-        ensures at { self.new.at ≡ next_at (length self.old.worker.run.now.cores.now) self.old.at }
-    {
-        self.at = if self.at < self.worker.run.cores.len() {
-            self.at + 1
-        } else {
-            0
-        };
+        self.serve()
     }
 
     // At the end of a round that changed nothing, as those before it, the worker may sleep.
     fn rest<R: Wait>(&self, rt: &R) {
         if self.at == 0 {
             let run = self.worker.run;
-            let round = run.cores.len() as u64 + 1;
             run.wakers
-                .rest(rt, self.worker.core.id, self.fruitless / round);
+                .rest(rt, self.worker.core.id, self.fruitless / ROUND);
         }
     }
 
@@ -104,7 +127,6 @@ impl<'a, M: Mail> Shift<'a, M> {
         match self.turn() {
             Turned::Took => {
                 self.fruitless = 0;
-                self.go_round();
                 self.tell();
                 if self.worker.core.has_ended() {
                     return Some(Stop::Ended);
@@ -113,7 +135,6 @@ impl<'a, M: Mail> Shift<'a, M> {
             }
             Turned::Nothing => {
                 self.fruitless += 1;
-                self.go_round();
                 gate.idle(self.worker.core.id);
                 self.rest(rt);
                 None
@@ -148,9 +169,10 @@ impl<'a, M: Mail> Shift<'a, M> {
     }
 }
 
-/// The worker of one core. In rounds it serves every other core by ascending number, does its core's own work and looks
-/// at the board, until its core has ended, so many turns in a row changed nothing, an allocation failed, it was
-/// to stop, or it took an envelope that its core cannot take. One whose allocation failed tells the others to stop.
+/// The worker of one core. In rounds it serves the other cores by ascending number, does its core's own work and looks at
+/// the board, until its core has ended, so many turns in a row changed nothing, an allocation failed, it was to stop, or it
+/// took an envelope that its core cannot take. A turn that serves takes one envelope, of the next core that sent one, and
+/// changes nothing if none is left to serve. A worker whose allocation failed tells the others to stop.
 pub fn core_worker<'a, R: Wait, M: Mail, G: Gate>(
     rt: &R,
     alloc: Global,

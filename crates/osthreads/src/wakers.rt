@@ -1,6 +1,7 @@
-//! Sleep of a worker that finds nothing to do, and what wakes it.
+//! Sleep of a worker that finds nothing to do, what wakes it, and news of its mail.
 //!
-//! A wake that is lost costs its worker the time that it sleeps at most, and nothing else. So no clause speaks of one.
+//! A wake that is lost costs its worker the time that it sleeps at most, and nothing else. So no clause speaks of one, and none of
+//! news, since a worker without work looks for mail itself.
 
 use crossbeam_utils::CachePadded;
 use osbase::{CORES, CoreId, Item};
@@ -9,6 +10,10 @@ use std::sync::Wait;
 use std::sync::atomic::{AtomicBool, Ordering};
 use std::thread::Parker;
 use std::time::Duration;
+
+/// The turns of a round in which a worker finds nothing to do: it serves the other cores, does its core's own work, and looks at
+/// the board.
+pub const ROUND: u64 = 3;
 
 /// So many rounds in a row that change nothing a worker goes round before it sleeps. What another core does for it comes
 /// within a few of them, if that core's thread runs.
@@ -35,16 +40,19 @@ pub struct Wakers {
 #[derive(Drop)]
 struct Waker {
     waits: AtomicBool,
+    // Whether an envelope may have come since the core looked last: at first one that was there before its worker.
+    has_news: AtomicBool,
     parker: Parker,
 }
 
 impl Wakers {
-    /// The wakers of a run in which no core waits.
+    /// The wakers of a run in which no core waits, and each has to look for mail.
     pub fn new() -> Self {
         Wakers {
             cores: array::from_fn(|_| {
                 CachePadded::new(Waker {
                     waits: AtomicBool::new(false),
+                    has_news: AtomicBool::new(true),
                     parker: Parker::new(),
                 })
             }),
@@ -52,12 +60,19 @@ impl Wakers {
     }
 
     /// Wakes whom an item of this core may concern: the receiver of a letter, its sender, which may have waited for room, and
-    /// of a spinlock that is given back or a change of the board all that wait. The core itself waits no longer.
+    /// of a spinlock that is given back or a change of the board all that wait. The core itself waits no longer. A letter is
+    /// news for its receiver, and one that was received for its core, since more may have come with it.
     pub fn tell(&self, cores: &[CoreId], core: CoreId, item: &Item) {
         self.withdraw(core);
         match *item {
-            Item::Posted(to) => self.wake(to),
-            Item::Received { from, .. } => self.wake(from),
+            Item::Posted(to) => {
+                self.bring_news(to);
+                self.wake(to);
+            }
+            Item::Received { from, .. } => {
+                self.bring_news(core);
+                self.wake(from);
+            }
             Item::Freed(_)
             | Item::Began { .. }
             | Item::Entered
@@ -66,6 +81,23 @@ impl Wakers {
             | Item::Halt { .. } => self.wake_all(cores),
             _ => {}
         }
+    }
+
+    // An envelope may have come for this core.
+    fn bring_news(&self, core: CoreId) {
+        if let Some(waker) = self.cores.get(usize::from(core.number)) {
+            waker.has_news.store(true, Ordering::SeqCst);
+        }
+    }
+
+    /// Before this core looks for mail: whether an envelope may have come since it looked last. That is forgotten here, before
+    /// it looks, so that what comes meanwhile is news again. Of an envelope that no worker sent, only `tell` brings news.
+    #[inline(always)]
+    pub(crate) fn take_news(&self, core: CoreId) -> bool {
+        let Some(waker) = self.cores.get(usize::from(core.number)) else {
+            return true;
+        };
+        waker.has_news.load(Ordering::SeqCst) && waker.has_news.swap(false, Ordering::SeqCst)
     }
 
     /// After so many whole rounds in a row in which this core found nothing to do. At first it only continues. Then it announces

@@ -3,18 +3,20 @@
 
 ghost use Rattle.std.specs.Prelude.{false, ◌≡◌, ◌<◌, ◌⊎◌, IsTrue, OnOk};
 ghost use Rattle.osadmit.specs.Admission.{takes_in};
-ghost use Rattle.oskernel.specs.Step.{outbox_size};
+ghost use Rattle.oskernel.specs.{Step.outbox_size, Wants.watch_in, declared.wants.Watch.TheVariants.Halt};
 ghost use Rattle.osshared.specs.{Histories.entry, Seats.Extends};
 ghost use Rattle.osspin.specs.{declared.calls.SpinReply.TheVariants.Answered, Spins.spinlocks};
 ghost use Rattle.osrun.specs.{declared.requests.Reply.Reply as ReplyValue, declared.requests.Reply.TheVariants.Unasked, declared.requests.Request.TheVariants.OfBoard, declared.requests.Request.TheVariants.OfSpins, declared.requests.Request.TheVariants.Room, Requests.spin_call_of};
 ghost use Rattle.osbase.specs.declared.limits.TheConstants.{SPINLOCKS};
 ghost use Rattle.osthreads.specs.Calling.{ChangesBoard, LoadsBoard, item_of_call, item_of_wish};
+ghost use Rattle.osthreads.specs.declared.turns.Turned.TheVariants.{Nothing};
 ghost use Rattle.osthreads.specs.Working.{AsksBoard, HasNoWork, HasTaken, IsAsked, IsFruitless, IsTurn, IsUnchanged, MayAnswer, MayTake, MayTurn, MayWait, UnlessTook};
 
 use crate::turns::Turned;
 use crate::worker::Worker;
 use osbase::{Choice, CoreId, Item, Status};
 use osboard::BoardCall;
+use oskernel::Watch;
 use osmail::Mail;
 use osrun::{Reply, Request, SpinWish, look_request, spin_call_of};
 use osspin::Clocked;
@@ -31,10 +33,11 @@ impl<'a, M: Mail> Worker<'a, M> {
         self.mail.room()
     }
 
-    /// Serves another core: the oldest envelope from it, if one came and this core may serve.
+    /// Serves another core: the oldest envelope from it, if one came and this core may serve. Where none is taken, the room stays.
     pub fn serve(&mut self, from: CoreId) -> Turned
         requires { MayTurn M.has_room self.old }
-        ensures { IsTurn M.sent M.taken M.which 0 result self.old self.new }
+        ensures turn { IsTurn M.sent M.taken M.which 0 result self.old self.new }
+        ensures room { result ≡ Nothing → MayTurn M.has_room self.new }
     {
         if !self.core.kernel.may_serve() {
             return Turned::Nothing;
@@ -82,9 +85,29 @@ impl<'a, M: Mail> Worker<'a, M> {
         requires { MayTake self.old }
         ensures { IsTurn M.sent M.taken M.which 1 result self.old self.new }
     {
-        match look_request(self.core.kernel.watch()) {
+        let watch = self.core.kernel.watch();
+        if let Watch::Halt = watch {
+            return self.look_halt();
+        }
+        match look_request(watch) {
             Request::OfBoard(call) => self.load_board(call),
             _ => unreachable!(),
+        }
+    }
+
+    // Looks for a shutdown of all cores, as a core at work does. Seldom one was requested.
+    fn look_halt(&mut self) -> Turned
+        requires room { MayTake self.old }
+        requires watch { watch_in self.old.core.kernel ≡ Halt }
+        ensures { IsTurn M.sent M.taken M.which 1 result self.old self.new }
+    {
+        let Some((core, status)) = self.run.board.look_halt(&mut self.seats.board) else {
+            return Turned::Nothing;
+        };
+        if self.take_found(Item::Halt { core, status }) {
+            Turned::Took
+        } else {
+            Turned::Nothing
         }
     }
 
@@ -99,12 +122,27 @@ impl<'a, M: Mail> Worker<'a, M> {
         let Some(item) = self.core.item_for_reply(Request::OfBoard(call), &answer) else {
             return Turned::Nothing;
         };
+        if self.take_found(item) {
+            Turned::Took
+        } else {
+            Turned::Nothing
+        }
+    }
+
+    // The core takes the item that it found on the board, if it can.
+    #[inline(never)]
+    fn take_found(&mut self, item: Item) -> bool
+        requires { MayTake self.old }
+        ensures result { result ≡ takes_in outbox_size self.old.core.kernel item }
+        ensures taken { IsTrue result → HasTaken self.old self.new item }
+        ensures none { result ≡ false → self.new ≡ self.old }
+    {
         if !self.core.kernel.may_take(&item) {
-            return Turned::Nothing;
+            return false;
         }
         self.stamps.read(Clocked::Board);
         self.take(item);
-        Turned::Took
+        true
     }
 
     // Makes a call that changes the board, where the core may take the item that it results in.

@@ -100,7 +100,7 @@ fn has_order(
 ) -> Result<(), Fail> {
     let config = read_config(alloc, config)?;
     let stimuli = read_stimuli(alloc, &config, stimuli)?;
-    let gate = Yielding::new(config.plan().cores.len());
+    let gate = Yielding::new();
     let reports = run_threads(rt, alloc, &config, &stimuli, mail, &gate, turns)?;
     are_ordered(rt, alloc, &config, &stimuli, reports.as_slice())
 }

@@ -108,7 +108,7 @@ pub(super) fn reports_of(
 ) -> Result<Vec<Report>, Fail> {
     let config = read_config(alloc, config)?;
     let stimuli = read_stimuli(alloc, &config, stimuli)?;
-    let gate = Yielding::new(config.plan().cores.len());
+    let gate = Yielding::new();
     Ok(reports_under(rt, alloc, mail, &config, &stimuli, &gate, turns)?)
 }
 

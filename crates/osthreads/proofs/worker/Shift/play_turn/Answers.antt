@@ -1,5 +1,6 @@
-use Rattle.std.proofs.Common.{◌+◌, ap, sym, ◌∙◌, arith}
+use Rattle.std.proofs.Common.{◌+◌, ap, refl, sym, ◌∙◌, arith}
 use Rattle.osrun.specs.CoreRuns.{Keeps}
+use Rattle.osthreads.specs.declared.turns.Turned.TheVariants.{Nothing, Took}
 use Rattle.osthreads.proofs.Shifting.{stopped-stalled, went-nothing, went-took}
 use Rattle.osthreads.proofs.worker.Shift.play_turn.Goals as goal
 
@@ -18,7 +19,7 @@ returns-then-is_err-clause-some g c stimuli going = record {
 pub returns-then-has_ended-clause-some : goal.returns-then-has_ended-clause-some
 returns-then-has_ended-clause-some g c stimuli going = record {
   loads = 0;
-  worked = rw (c.go_round.ensures.worker) (c.in-Took.ensures.turn.turns stimuli _ (c.make_room.ensures.keeps.turns stimuli going.loads going.worked));
+  worked = c.in-Took.ensures.turn.turns stimuli _ (c.make_room.ensures.keeps.turns stimuli going.loads going.worked);
   ended = sym c.has_ended.ensures ∙ c.if-has_ended.true;
   stalled = λ e. cc;
   stuck = λ e. cc;
@@ -28,20 +29,19 @@ pub returns-else-has_ended-clause-none : goal.returns-else-has_ended-clause-none
 returns-else-has_ended-clause-none g c stimuli going =
     let old = c.args.self.now in
     let room = c.make_room.ensures.keeps in
-    went-took (g.M.Mail.sent) (g.M.Mail.taken) stimuli old c.go_round.new.self (rw (c.go_round.ensures.worker, c.turn.ensures.turn.same.run) room.same.run)
-    (rw (c.go_round.ensures.at, c.turn.ensures.turn.same.run, room.same.run, c.turn.ensures.at)) going.place c.go_round.ensures.fruitless (sym c.has_ended.ensures ∙ c.if-has_ended.false)
-    (rw (c.go_round.ensures.worker) (c.in-Took.ensures.turn.turns stimuli _ (room.turns stimuli going.loads going.worked)))
+    went-took (g.M.Mail.sent) (g.M.Mail.taken) stimuli old _ (rw (c.turn.ensures.turn.same.run) room.same.run) Took
+    (rw (← room.same.run) c.in-Took.ensures.at) going.place (refl {a = 0}) (sym c.has_ended.ensures ∙ c.if-has_ended.false)
+    (c.in-Took.ensures.turn.turns stimuli _ (room.turns stimuli going.loads going.worked))
 
 pub returns-in-Nothing-clause-none : goal.returns-in-Nothing-clause-none
 returns-in-Nothing-clause-none g c stimuli going =
     let old = c.args.self.now in
-    let new = c.go_round-in-Nothing.new.self in
     let room = c.make_room.ensures.keeps in
-    let keeps : Keeps old.worker.core new.worker.core = rw (c.go_round-in-Nothing.ensures.worker, c.in-Nothing.ensures.turn.core) room.core in
-    went-nothing (g.M.Mail.sent) (g.M.Mail.taken) stimuli old new (rw (c.go_round-in-Nothing.ensures.worker, c.turn.ensures.turn.same.run) room.same.run)
-    (rw (c.go_round-in-Nothing.ensures.at, c.turn.ensures.turn.same.run, room.same.run, c.turn.ensures.at)) going.place keeps (c.go_round-in-Nothing.ensures.fruitless ∙ ap (λ n. n + 1) c.turn.ensures.fruitless) going
+    let keeps : Keeps old.worker.core c.turn.new.self.worker.core = rw (c.in-Nothing.ensures.turn.core) room.core in
+    went-nothing (g.M.Mail.sent) (g.M.Mail.taken) stimuli old _ (rw (c.turn.ensures.turn.same.run) room.same.run) Nothing
+    (rw (← room.same.run) c.in-Nothing.ensures.at) going.place (refl {a = Nothing}) keeps (ap (λ n. n + 1) c.turn.ensures.fruitless) going
     (λ here. rw (← room.same.run, ← room.core.id, ← room.core.kernel, ← room.core.left) (c.in-Nothing.ensures.stuck (rw room.same.run here)))
-    (rw (c.go_round-in-Nothing.ensures.worker, ← room.same.run) (c.in-Nothing.ensures.turn.turns stimuli _ (room.turns stimuli going.loads going.worked)))
+    (rw (← room.same.run) (c.in-Nothing.ensures.turn.turns stimuli _ (room.turns stimuli going.loads going.worked)))
 
 pub returns-in-Refused-clause-some : goal.returns-in-Refused-clause-some
 returns-in-Refused-clause-some g c stimuli going = record {

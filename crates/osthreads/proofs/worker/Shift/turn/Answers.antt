@@ -10,4 +10,4 @@ pub returns-then-self-cores-2-clause-turn : goal.returns-then-self-cores-2-claus
 returns-then-self-cores-2-clause-turn g c = rw (no-look (length c.args.self.now.worker.run.now.cores.now) c.args.self.now.at (omega (arith, c.if-self-cores-2.true))) c.own.ensures.turn
 
 pub returns-clause-turn : goal.returns-clause-turn
-returns-clause-turn g c = rw (no-look (length c.args.self.now.worker.run.now.cores.now) c.args.self.now.at (grind (arith, nat_tests, c.if-self-cores.false))) c.serve.ensures
+returns-clause-turn g c = rw (no-look (length c.args.self.now.worker.run.now.cores.now) c.args.self.now.at (grind (arith, nat_tests, c.if-self-cores.false))) c.serve.ensures.turn

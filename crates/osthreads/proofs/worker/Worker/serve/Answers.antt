@@ -4,8 +4,8 @@ use Rattle.osrun.specs.{declared.requests.Request.TheVariants.Oldest, declared.r
 use Rattle.osthreads.proofs.Working.{turn-took}
 use Rattle.osthreads.proofs.worker.Worker.serve.Goals as goal
 
-pub returns : goal.returns
-returns g c =
+pub returns-clause-turn : goal.returns-clause-turn
+returns-clause-turn g c =
     let old = c.args.self.now in
     let e = c.in-Some.envelope.letter in
     turn-took _ _ _ 0 old _ _ (Oldest c.args.from) (Found (Some e)) (Item.Received c.args.from e.number e.message) (Choice.Serve c.args.from, refl) refl (sym c.may_take.ensures.state ∙ c.if-not-may_take.false)
