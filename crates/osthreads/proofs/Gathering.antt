@@ -162,6 +162,10 @@ module _ (plan : Plan) (stimuli : List CoreStimuli) (turns : ℕ) (shared : Shar
 
 -- ---- seats
 
+-- One pair more.
+pub paired-more : (done more : List BoardSeat) (b : BoardSeat) (spins left : List SpinSeat) (s : SpinSeat) (seats : List Seats) → paired (done ++ b ∷ more) spins ≡ seats ++ paired (b ∷ more) (s ∷ left) → paired ((done ++ b ∷ []) ++ more) spins ≡ (seats ++ record { board = b; spins = s } ∷ []) ++ paired more left
+paired-more done more b spins left s seats before = ap (λ (bs : List BoardSeat). paired bs spins) (append_assoc done (b ∷ []) more) ∙ before ∙ sym (append_assoc seats (record { board = b; spins = s } ∷ []) (paired more left))
+
 -- One seat at the board more, where no other is left.
 pub paired-none : (done : List BoardSeat) (b : BoardSeat) (spins left : List SpinSeat) (seats : List Seats) → left ≡ [] → ((more : List BoardSeat) → paired (done ++ more) spins ≡ seats ++ paired more left) → (more : List BoardSeat) → paired ((done ++ b ∷ []) ++ more) spins ≡ seats ++ paired more left
 paired-none done b spins left seats is so more = rw (append_assoc done (b ∷ []) more, so (b ∷ more), is) (by more)

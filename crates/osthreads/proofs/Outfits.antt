@@ -14,6 +14,11 @@ use Rattle.osthreads.proofs.Gathering.{AreGathered, AreOneEach, gathered, report
 
 -- ---- before the threads
 
+-- What holds of all, and of the last.
+pub all_snoc : {X : Type 0} (P : X → Type 0) (xs : List X) (x : X) → AllByRecursion P (xs ++ x ∷ []) → AllByRecursion P xs × P x
+all_snoc P [] x all = (tt, all.0)
+all_snoc P (y ∷ ys) x all = let more = all_snoc P ys x all.1 in ((all.0, more.0), more.1)
+
 -- One core's seats more, with the next end, if there is one.
 abbrev outfit : Seats → Option RingEnd → Outfit
 outfit s end = record { seats = s; end = end }

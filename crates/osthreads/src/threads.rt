@@ -1,7 +1,6 @@
 //! A worker for each configured core, each on a thread of its own.
 
-ghost use Rattle.std.specs.Option.{option_to_list};
-ghost use Rattle.std.specs.Prelude.{◌≡◌, ◌++◌, ◌+◌, ◌≤◌, length, map, [], IfErr, IfNone, IfOk, IfSome, None, Some, vec_len, vec_capacity};
+ghost use Rattle.std.specs.Prelude.{◌≡◌, ◌≤◌, map, [], IfErr, IfOk, None, Some, vec_len, vec_capacity};
 ghost use Rattle.osthreads.specs.Seats.{shared};
 ghost use Rattle.osthreads.specs.Threads.{AreEnded, AreReady, IsEnded, IsReady, IsSameEnd, end_kept, end_of, outfit_cores};
 
@@ -156,19 +155,6 @@ fn start<'s, E, R: Threads + Wait + Sync, G: Gate + Sync>(
     }
 }
 
-// The last core's outfit; it is ready, as all of them are.
-fn last_outfit(run: &Run<'_>, outfits: &mut Vec<Outfit>) -> Option<Outfit>
-    requires { AreReady run.now.config.now run.now.cores.now (shared run.now.board.now run.now.bank.now) outfits.old.items }
-    ensures outfit { IfSome result (λ last. IsReady run.now.config.now run.now.cores.now (shared run.now.board.now run.now.bank.now) last) }
-    ensures none { IfNone result (outfits.old.items ≡ []) }
-    ensures rest { AreReady run.now.config.now run.now.cores.now (shared run.now.board.now run.now.bank.now) outfits.new.items }
-    ensures items { outfits.old.items ≡ outfits.new.items ++ option_to_list result }
-    ensures len { vec_len outfits.new + length (option_to_list result) ≡ vec_len outfits.old }
-{
-    let _run = run;
-    outfits.pop()
-}
-
 // Starts a thread for each core's outfit, the last one first, and then joins them. It says whether each could be started. Where one
 // could not, no more are started, and each core has an ending all the same.
 fn run_each<'s, E, R: Threads + Wait + Sync, G: Gate + Sync>(
@@ -189,7 +175,7 @@ fn run_each<'s, E, R: Threads + Wait + Sync, G: Gate + Sync>(
     ensures len { vec_len endings.new ≤ vec_len outfits.old }
     ensures capacity { vec_capacity endings.new ≡ vec_capacity endings.old }
 {
-    let Some(last) = last_outfit(run, outfits) else {
+    let Some(last) = outfits.pop() else {
         return true;
     };
     let started = start(rt, scope, alloc, run, last, locked, gate);

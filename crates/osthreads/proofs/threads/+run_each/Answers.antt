@@ -3,7 +3,7 @@ use Rattle.osbase.specs.declared.references.CoreId.{CoreId}
 use Rattle.osthreads.specs.{declared.ending.Ending.Ending, declared.run.Run.Run, declared.ending.Outfit.Outfit, Seats.shared}
 use Rattle.osthreads.specs.Threads.{AreEnded, IsEnded, end_kept, end_of, outfit_cores, which_end}
 use Rattle.osmail.proofs.Through.{map-snoc}
-use Rattle.osthreads.proofs.Gathering.{ended-push}
+use Rattle.osthreads.proofs.{Gathering.ended-push, Outfits.all_snoc}
 use Rattle.osthreads.proofs.threads.+run_each.Goals as goal
 
 abbrev EndedIn : Run → CoreId → Ending → Type 0
@@ -22,14 +22,20 @@ ended-more run os rest outfit es more e split pushed ended here =
 ends-more : (os rest : List Outfit) (outfit : Outfit) (es more : List Ending) (e : Ending) → os ≡ rest ++ outfit ∷ [] → more ≡ es ++ e ∷ [] → map end_kept es ≡ map end_of rest → end_kept e ≡ end_of outfit → map end_kept more ≡ map end_of os
 ends-more os rest outfit es more e split pushed ends here = rw (split, pushed, map-snoc end_kept es e, map-snoc end_of rest outfit, ends, here)
 
+pub start-started-requires-after_bounds : goal.start-started-requires-after_bounds
+start-started-requires-after_bounds g n c lifetimes outlive = (all_snoc _ c.pop.new.self.items c.in-Some.last (rw c.in-Some.ensures.items at c.requires.ready)).1
+
+pub run_each-complete-requires-clause-ready : goal.run_each-complete-requires-clause-ready
+run_each-complete-requires-clause-ready g n c lifetimes outlive = (all_snoc _ c.pop.new.self.items c.in-Some.last (rw c.in-Some.ensures.items at c.requires.ready)).0
+
 pub returns-in-Ok-clause-ended : goal.returns-in-Ok-clause-ended
 returns-in-Ok-clause-ended g n c =
-    ended-more c.args.run.now c.args.outfits.now.items c.last_outfit.new.outfits.items c.in-Some.last c.run_each-complete.new.endings.items _ c.join.result c.in-Some.ensures.items c.push_reserved.ensures.items
+    ended-more c.args.run.now c.args.outfits.now.items c.pop.new.self.items c.in-Some.last c.run_each-complete.new.endings.items _ c.join.result c.in-Some.ensures.items c.push_reserved.ensures.items
     c.run_each-complete.ensures.ended (rw (c.in-Ok.ensures.run, c.in-Ok.ensures.id) at c.join.ensures.0)
 
 pub returns-in-Err-clause-ended : goal.returns-in-Err-clause-ended
 returns-in-Err-clause-ended g n c =
-    ended-more c.args.run.now c.args.outfits.now.items c.last_outfit.new.outfits.items c.in-Some.last c.run_each-complete.new.endings.items _ c.in-Err.ending c.in-Some.ensures.items c.push_reserved-in-Err.ensures.items
+    ended-more c.args.run.now c.args.outfits.now.items c.pop.new.self.items c.in-Some.last c.run_each-complete.new.endings.items _ c.in-Err.ending c.in-Some.ensures.items c.push_reserved-in-Err.ensures.items
     c.run_each-complete.ensures.ended c.in-Err.ensures.here.0
 
 pub returns-in-Ok-clause-ends : goal.returns-in-Ok-clause-ends
