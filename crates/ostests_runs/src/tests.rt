@@ -22,5 +22,6 @@ mod spinlock_logs;
 mod spinlocks;
 mod starts;
 mod tables;
+mod trace;
 mod words;
 mod writes;

@@ -1,5 +1,4 @@
-//! Tests of what the cores share and of the texts of their traces: spinlocks, the board, mailboxes, and the lines that are
-//! written of marks.
+//! Tests of what the cores share: spinlocks, the board, mailboxes; and of the queue of jobs.
 //!
 //! The crate has no code. The crates that it tests have no tests of their own, so each of them is proved once.
 #![tactic(auto)]

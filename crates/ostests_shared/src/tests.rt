@@ -2,4 +2,3 @@ mod board;
 mod mail;
 mod queue;
 mod spinlocks;
-mod trace;

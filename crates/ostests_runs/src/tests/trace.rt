@@ -6,7 +6,7 @@ mod sinks;
 
 use marks::{ONE, ZERO};
 use osbase::{CoreId, List, Mark, Report};
-use osload::read_config;
+use osconf::read_config;
 use ostrace::{MemorySink, Word, WriteFailed, WriteSink, write_ended_words, write_reports};
 use sinks::{FailingSink, Refusal};
 use std::alloc::{AllocError, Global};
