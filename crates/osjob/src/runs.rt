@@ -176,7 +176,7 @@ fn write_run<O: Sink>(
     write_all(out, last_line(ended).as_bytes())
 }
 
-fn last_line(ended: bool) -> &'static str
+pub(crate) fn last_line(ended: bool) -> &'static str
     ensures { result.now ≡ last_line ended }
 {
     if ended { "ended\n" } else { "stalled\n" }

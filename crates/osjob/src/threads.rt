@@ -1,18 +1,23 @@
 //! A run by threads: its files are read, its cores run, and the reports are printed.
 
-ghost use Rattle.std.specs.Prelude.{◌≡◌, ◌<◌, ◌^◌};
-ghost use Rattle.osjob.specs.{Performs.IsThreadsPrinted, Runs.Consumes, Runs.logged_core};
+ghost use Rattle.std.specs.Prelude.{◌≡◌, ◌++◌, ◌<◌, ◌^◌, None};
+ghost use Rattle.ostrace.specs.Taken.{Writes};
+ghost use Rattle.ostrace_text.specs.Trace.{text_of};
+ghost use Rattle.osjob.specs.{Performs.IsReported, Performs.IsThreadsPrinted, Performs.PrintsOrFaults, Runs.Consumes, Runs.last_line, Runs.logged_core};
 
+use crate::endings::written;
 use crate::faults::Fault;
 use crate::orders::print_order;
 use crate::outcomes::Outcome;
-use crate::runs::{input_of, print_reports};
+use crate::runs::{input_of, last_line, print_reports};
 use crate::sources::Source;
 use crossbeam_utils::CachePadded;
-use osbase::{CORES, CoreId, MailKind};
+use osbase::{CORES, CoreId, MailKind, Report};
 use oscommand::Print;
+use osconf::Config;
 use osthreads::{AWAKE, Gate, ROUND, run_threads};
-use ostrace::Sink;
+use ostrace::{Sink, WriteFailed, write_all, write_reports_by_threads};
+use osworld::have_all_ended;
 use std::alloc::Global;
 use std::sync::Wait;
 use std::sync::atomic::{AtomicU64, Ordering};
@@ -103,10 +108,45 @@ pub fn run_by_threads<R: Threads + Wait + Sync, S: Source + Drop, O: Sink>(
     let reports = run_threads(rt, alloc, &config, &stimuli, mail, &gate, turns)?;
     let reports = reports.as_slice();
     match print {
-        Print::Trace => print_reports(alloc, &config, None, out, reports),
+        Print::Trace => print_by_threads(rt, alloc, &config, out, reports),
         Print::Log(core) => print_reports(alloc, &config, Some(core), out, reports),
         Print::Order => print_order(alloc, &config, &stimuli, out, reports),
     }
+}
+
+// Prints the reports, each core's block made by a thread of its own, and whether the run ended or stalled; answers which.
+fn print_by_threads<R: Threads + Sync, O: Sink>(
+    rt: &R,
+    alloc: Global,
+    config: &Config,
+    out: &mut O,
+    reports: &[Report],
+) -> Result<Outcome, Fault>
+    requires { O.failed out.old < 2 ^ 48 }
+    ensures { PrintsOrFaults O.taken O.failed out.old out.new (IsReported config.now reports.now None)
+        (λ fault. fault ≡ Fault.NoMemoryToRun) result }
+{
+    let ended = have_all_ended(config.plan(), reports);
+    written(
+        write_by_threads(rt, alloc, config, out, reports, ended),
+        Ok(Outcome::of_run(ended)),
+    )
+}
+
+fn write_by_threads<R: Threads + Sync, O: Sink>(
+    rt: &R,
+    alloc: Global,
+    config: &Config,
+    out: &mut O,
+    reports: &[Report],
+    ended: bool,
+) -> Result<(), WriteFailed>
+    requires { O.failed out.old < 2 ^ 48 }
+    ensures { Writes O.taken O.failed out.old out.new
+        (text_of config.now reports.now ++ last_line ended) result }
+{
+    write_reports_by_threads(rt, alloc, config, out, reports)?;
+    write_all(out, last_line(ended).as_bytes())
 }
 
 // The core whose log is to be printed, if it is a log.

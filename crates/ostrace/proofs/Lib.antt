@@ -1,6 +1,7 @@
-pub mod Writing
-pub mod Gathering
-pub mod Quoted
 pub mod CoreNumbers
-pub mod Spaced
+pub mod Gathering
+pub mod Made
+pub mod Quoted
 pub mod ReadBack
+pub mod Spaced
+pub mod Writing

@@ -1,4 +1,5 @@
-pub mod Taken
-pub mod Pieces
 pub mod Gathers
+pub mod Made
+pub mod Pieces
 pub mod Schedules
+pub mod Taken

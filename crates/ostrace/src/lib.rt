@@ -4,11 +4,13 @@
 mod copies;
 mod gathered;
 mod lines;
+mod parts;
 pub mod reports;
 mod schedules;
 pub mod sinks;
 mod words;
 
+pub use parts::write_reports_by_threads;
 pub use reports::write_reports;
 pub use schedules::schedule_text;
 pub use sinks::{MemorySink, Sink, WriteFailed, WriteSink, write_all};

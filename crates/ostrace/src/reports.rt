@@ -12,7 +12,7 @@ use osbase::{CoreId, Mark, Report};
 use osplan::{Config, Plan};
 use ostrace_text::BlockNames;
 
-fn write_ended_title<S: Sink>(
+pub(crate) fn write_ended_title<S: Sink>(
     out: &mut S,
     gathered: &mut Gathered,
     core: CoreId,
@@ -40,7 +40,7 @@ fn write_ended_line<S: Sink>(
     gathered.put_text(out, "\n")
 }
 
-fn write_lines<S: Sink>(
+pub(crate) fn write_lines<S: Sink>(
     out: &mut S,
     gathered: &mut Gathered,
     names: &BlockNames,

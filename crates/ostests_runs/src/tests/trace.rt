@@ -7,7 +7,10 @@ mod sinks;
 use marks::{ONE, ZERO};
 use osbase::{CoreId, List, Mark, Report};
 use osconf::read_config;
-use ostrace::{MemorySink, Word, WriteFailed, WriteSink, write_ended_words, write_reports};
+use ostrace::{
+    MemorySink, Word, WriteFailed, WriteSink, write_ended_words, write_reports,
+    write_reports_by_threads,
+};
 use sinks::{FailingSink, Refusal};
 use std::alloc::{AllocError, Global};
 use std::process::Abort;
@@ -140,6 +143,50 @@ fn many_lines_are_written_in_parts(rt: HostRuntime) -> Result<(), Fail> {
         before = count;
     }
     assert!(rt; before == text.len());
+    Ok(())
+}
+
+// So many marks of core 0, and few of core 1.
+fn long_and_short(alloc: Global, count: usize) -> Result<Vec<Report>, AllocError> {
+    let mut marks = Vec::with_capacity(alloc, count)?;
+    for at in 0..count {
+        marks.push(marks::TASKS[at % marks::TASKS.len()])?;
+    }
+    let few = marks::ANSWER.to_vec(alloc)?;
+    let mut reports = Vec::with_capacity(alloc, 2)?;
+    reports.push(report(alloc, ZERO, marks))?;
+    reports.push(report(alloc, ONE, few))?;
+    Ok(reports)
+}
+
+// A block has too few lines for threads, lines for one round, just as many as a round has, and more.
+#[test]
+fn threads_write_the_same_text(rt: HostRuntime) -> Result<(), Fail> {
+    let alloc = rt.alloc();
+    let config = read_config(alloc, CONFIG)?;
+    for count in [100, 40_000, 131_072, 200_000] {
+        let reports = long_and_short(alloc, count)?;
+        let mut text = MemorySink::new(Vec::new(alloc));
+        assert!(rt; write_reports(&config, &mut text, reports.as_slice()).is_ok());
+        let mut out = MemorySink::new(Vec::new(alloc));
+        let outcome = write_reports_by_threads(&rt, alloc, &config, &mut out, reports.as_slice());
+        let text = text.bytes.as_slice();
+        assert!(rt;
+            outcome.is_ok() && out.bytes.as_slice() == text,
+            "{count} marks"
+        );
+        for writes in [0, 1, 3, 50_000, 2_000_000] {
+            let mut out = FailingSink::new(alloc, Refusal::Fails, writes);
+            let outcome = write_reports_by_threads(
+                &rt,
+                alloc,
+                &config,
+                &mut out,
+                reports.as_slice(),
+            );
+            judge(&rt, &out, outcome, text, writes);
+        }
+    }
     Ok(())
 }
 

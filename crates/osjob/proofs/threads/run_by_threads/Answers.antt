@@ -35,7 +35,7 @@ returns-in-Trace g c =
     Consumes-as _ _ _ _ _ _ c.in_ok-config.ensures.input (λ read.
     rw c.in-Trace.is (reports-come _ _ _ _ _ BreaksThreads _ _ _ c.in_ok-config.config _ _ c.in_ok-reports.reports.items _ _
     (record { stimuli = c.in_ok-config.stimuli; given = read.0.given; sound = reports.sound; finished = reports.finished })
-    refl read.0 tt (rw c.as_slice-reports.ensures.value at c.print_reports.ensures)))
+    refl read.0 tt (rw c.as_slice-reports.ensures.value at c.print_by_threads.ensures)))
 
 pub returns-in-Log : goal.returns-in-Log
 returns-in-Log g c =
@@ -43,7 +43,7 @@ returns-in-Log g c =
     Consumes-as _ _ _ _ _ _ c.in_ok-config.ensures.input (λ read.
     rw c.in-Log.is (reports-come _ _ _ _ _ BreaksThreads _ _ _ c.in_ok-config.config _ _ c.in_ok-reports.reports.items _ _
     (record { stimuli = c.in_ok-config.stimuli; given = read.0.given; sound = reports.sound; finished = reports.finished })
-    (rw (c.in-Log.is) at (rw c.logged_core.ensures at read.1)) read.0 tt (rw c.as_slice-reports.ensures.value at c.print_reports-in-Log.ensures)))
+    (rw (c.in-Log.is) at (rw c.logged_core.ensures at read.1)) read.0 tt (rw c.as_slice-reports.ensures.value at c.print_reports.ensures)))
 
 pub returns : goal.returns
 returns g c =
