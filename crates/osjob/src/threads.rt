@@ -114,7 +114,7 @@ pub fn run_by_threads<R: Threads + Wait + Sync, S: Source + Drop, O: Sink>(
     }
 }
 
-// Prints the reports, each core's block made by a thread of its own, and whether the run ended or stalled; answers which.
+// Prints the reports, each core's block made in parts, by threads, and whether the run ended or stalled; answers which.
 fn print_by_threads<R: Threads + Sync, O: Sink>(
     rt: &R,
     alloc: Global,

@@ -21,7 +21,7 @@ const PARTS: usize = 8;
 // memory of one round serves for the next.
 const LEAST: usize = 4096;
 
-const MOST: usize = 16_384;
+const MOST: usize = 131_072;
 
 const ROUND: usize = PARTS * MOST;
 

@@ -159,22 +159,33 @@ fn long_and_short(alloc: Global, count: usize) -> Result<Vec<Report>, AllocError
     Ok(reports)
 }
 
-// A block has too few lines for threads, lines for one round, just as many as a round has, and more.
+// A block has too few lines for threads, lines for one round, and some more than a round has.
 #[test]
 fn threads_write_the_same_text(rt: HostRuntime) -> Result<(), Fail> {
     let alloc = rt.alloc();
     let config = read_config(alloc, CONFIG)?;
-    for count in [100, 40_000, 131_072, 200_000] {
+    for count in [100, 40_000, 1_048_580] {
         let reports = long_and_short(alloc, count)?;
         let mut text = MemorySink::new(Vec::new(alloc));
         assert!(rt; write_reports(&config, &mut text, reports.as_slice()).is_ok());
         let mut out = MemorySink::new(Vec::new(alloc));
         let outcome = write_reports_by_threads(&rt, alloc, &config, &mut out, reports.as_slice());
-        let text = text.bytes.as_slice();
         assert!(rt;
-            outcome.is_ok() && out.bytes.as_slice() == text,
+            outcome.is_ok() && out.bytes.as_slice() == text.bytes.as_slice(),
             "{count} marks"
         );
+    }
+    Ok(())
+}
+
+#[test]
+fn a_refused_write_of_what_threads_made_leaves_a_beginning(rt: HostRuntime) -> Result<(), Fail> {
+    let alloc = rt.alloc();
+    let config = read_config(alloc, CONFIG)?;
+    for count in [100, 40_000] {
+        let reports = long_and_short(alloc, count)?;
+        let mut text = MemorySink::new(Vec::new(alloc));
+        assert!(rt; write_reports(&config, &mut text, reports.as_slice()).is_ok());
         for writes in [0, 1, 3, 50_000, 2_000_000] {
             let mut out = FailingSink::new(alloc, Refusal::Fails, writes);
             let outcome = write_reports_by_threads(
@@ -184,7 +195,7 @@ fn threads_write_the_same_text(rt: HostRuntime) -> Result<(), Fail> {
                 &mut out,
                 reports.as_slice(),
             );
-            judge(&rt, &out, outcome, text, writes);
+            judge(&rt, &out, outcome, text.bytes.as_slice(), writes);
         }
     }
     Ok(())
