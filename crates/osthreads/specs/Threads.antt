@@ -10,7 +10,7 @@ use Rattle.osmail.specs.Rings.{EndId, IsUnused, core_of_end, end_id, ring_sent, 
 use Rattle.osboard.specs.Boards.{IsLook}
 use Rattle.osspin.specs.Spins.{IsRefusedCall}
 use Rattle.osrun.specs.{Requests.Calls, Requests.no_calls, Fits.history_by, Fits.ids_of, Sound.AreSound}
-use Rattle.osthreads.specs.{declared.ending.Ending.Ending, declared.ending.Kept.Kept, declared.ending.Kept.TheVariants.Rings, declared.ending.Kept.TheVariants.Steps, declared.ending.Outfit.Outfit, declared.seats.Seats.Seats, declared.runs.Prepared.Prepared, declared.runs.Returned.Returned, declared.runs.ThreadReason.ThreadReason}
+use Rattle.osthreads.specs.{declared.ending.Ending.Ending, declared.ending.Kept.Kept, declared.ending.Kept.TheVariants.Rings, declared.ending.Kept.TheVariants.Steps, declared.ending.Outfit.Outfit, declared.seats.Seats.Seats, declared.runs.Prepared.Prepared, declared.runs.Returned.Returned, declared.runs.Seated.Seated, declared.runs.ThreadReason.ThreadReason}
 use Rattle.osthreads.specs.Runs.{IsOneCore, IsRun, new_board, new_spins}
 use Rattle.osthreads.specs.Seats.{AreAt, Shared, first_seats, made_from, shared}
 use Rattle.osthreads.specs.Working.{IsFinished, IsMailed, is_finished_by, is_kept_by, refusal_at}
@@ -68,6 +68,12 @@ pub record HasRoomFor (count : ℕ) (returned : Returned) : Type 0 where
   pub spins : (returned.spins.items ≡ []) × (count ≤ vec_capacity returned.spins)
   pub ends : (returned.ends.items ≡ []) × (count ≤ vec_capacity returned.ends)
   pub reports : (returned.reports.items ≡ []) × (count ≤ vec_capacity returned.reports)
+
+-- What the cores of this configuration share, and the seats of each there.
+pub record IsSeated (plan : Plan) (s : Seated) : Type 0 where
+  pub board : s.board.plan ≡ new_board plan
+  pub bank : s.bank.plan ≡ new_spins plan
+  pub seats : s.seats.items ≡ map (first_seats (shared s.board s.bank)) (ids_of plan)
 
 -- What a run of this configuration by mail of this kind needs before its threads start: the configured cores, what they share, an outfit
 -- for each, and room for what its thread gives back.

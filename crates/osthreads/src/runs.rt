@@ -7,7 +7,7 @@ ghost use Rattle.std.specs.List.{AllByRecursion, list_all, list_any};
 ghost use Rattle.osplan.specs.Stimuli.{AreKnown};
 ghost use Rattle.osrun.specs.Sound.{AreSound};
 ghost use Rattle.osthreads.specs.{declared.ending.Ending.Ending as EndingValue, Runs.AreFinished, declared.runs.ThreadReason.TheVariants.NoMemory, declared.runs.ThreadReason.TheVariants.NoThread, Seats.paired, Working.is_kept_by, Working.was_stopped_by};
-ghost use Rattle.osthreads.specs.Threads.{AreAllFinished, AreAllKept, AreEndsFor, AreParts, AreSettled, HasRoomFor, IsPrepared, IsSettled, IsThreadFault, equipped};
+ghost use Rattle.osthreads.specs.Threads.{AreAllFinished, AreAllKept, AreEndsFor, AreParts, AreSettled, HasRoomFor, IsPrepared, IsSeated, IsSettled, IsThreadFault, equipped};
 
 use crate::ending::{Ending, Outfit};
 use crate::gates::Gate;
@@ -54,6 +54,14 @@ pub enum ThreadReason {
 pub struct ThreadFault {
     pub reason: ThreadReason,
     pub reports: Vec<Report>,
+}
+
+// What the cores share, and the seats of each there, by ascending core.
+#[derive(Drop)]
+struct Seated {
+    board: Board,
+    bank: SpinBank,
+    seats: Vec<Seats>,
 }
 
 // What a run needs before its threads start. All its memory is taken before, but for what the workers' turns allocate.
@@ -161,19 +169,28 @@ fn mail_of(
     }
 }
 
+// What the cores share, and the seats of each there.
+fn seat(alloc: Global, config: &Config) -> Result<Seated, AllocError>
+    ensures { IfOk result (IsSeated config.now) }
+{
+    let plan = config.plan();
+    let (board, at_board) = Board::new(alloc, List::from_vec(ids_of(alloc, plan)?), plan.master)?;
+    let (bank, at_spins) = SpinBank::new(alloc, List::from_vec(ids_of(alloc, plan)?))?;
+    let seats = pair(alloc, at_board, at_spins)?;
+    Ok(Seated { board, bank, seats })
+}
+
 fn prepare(alloc: Global, config: &Config, kind: MailKind) -> Result<Prepared, AllocError>
     ensures { IfOk result (IsPrepared config.now kind) }
 {
     let plan = config.plan();
     let cores = ids_of(alloc, plan)?;
-    let (board, at_board) = Board::new(alloc, List::from_vec(ids_of(alloc, plan)?), plan.master)?;
-    let (bank, at_spins) = SpinBank::new(alloc, List::from_vec(ids_of(alloc, plan)?))?;
-    let seats = pair(alloc, at_board, at_spins)?;
-    let clocks = Clocks::new(alloc)?;
     let (mail, ends) = mail_of(alloc, kind, cores.as_slice(), usize::from(plan.cap))?;
+    let Seated { board, bank, seats } = seat(alloc, config)?;
     let outfits = equip(alloc, seats, ends)?;
     let endings = Vec::with_capacity(alloc, outfits.len())?;
     let returned = Returned::new(alloc, outfits.len())?;
+    let clocks = Clocks::new(alloc)?;
     Ok(Prepared {
         cores,
         board,
