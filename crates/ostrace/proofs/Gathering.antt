@@ -6,6 +6,10 @@ use Rattle.ostrace_text.specs.Trace.{led, spaced}
 use Rattle.ostrace.specs.{Gathers.Gathers, Pieces.led_text, Pieces.word_text, Taken.Writes, declared.words.Word.Word}
 use Rattle.ostrace.proofs.Writing.{Appends-then}
 
+-- what is said of the first elements and of the others is said of all
+pub flat_whole : {X : Type 0} (f : X → List ℕ) (xs : List X) (i : ℕ) → flat_map f (take i xs) ++ flat_map f (drop i xs) ≡ flat_map f xs
+flat_whole f xs i = sym (flat_map-append f (take i xs) (drop i xs)) ∙ ap (flat_map f) (take-append-drop i xs)
+
 -- the words of texts that are joined
 pub ruleset joining = (append_assoc, append-nil, flat_map-append, flat_map-map)
 
@@ -57,7 +61,7 @@ module _ {X : Type 0} (f : X → List ℕ) (xs : List X) (i : ℕ) {x : X} (more
 
   pub Gathers-broken : {e : E} → IsErr result → Gathers taken failed mid new during after (f x) (Err e) → Gathers taken failed old new before after (flat_map f xs) result
   Gathers-broken {e} is_err broken =
-      Gathers-stop (flat_map f (drop (i + 1) xs)) result is_err (Gathers-then (Err e) all broken (simp (more, joining))) (sym (flat_map-append f (take (i + 1) xs) (drop (i + 1) xs)) ∙ ap (flat_map f) (take-append-drop (i + 1) xs))
+      Gathers-stop (flat_map f (drop (i + 1) xs)) result is_err (Gathers-then (Err e) all broken (simp (more, joining))) (flat_whole f xs (i + 1))
 
 -- ---- from a sink, and to it
 

@@ -1,6 +1,6 @@
 pub mod CoreNumbers
 pub mod Gathering
-pub mod Made
+pub mod Joined
 pub mod Quoted
 pub mod ReadBack
 pub mod Spaced

@@ -1,5 +1,5 @@
 pub mod Gathers
-pub mod Made
+pub mod Parts
 pub mod Pieces
 pub mod Schedules
 pub mod Taken

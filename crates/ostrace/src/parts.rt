@@ -1,183 +1,142 @@
-//! The text of reports, each block of which is made in parts, by threads.
+//! Parts of blocks: what a thread makes of the text of reports at once.
 
-ghost use Rattle.std.specs.Prelude.{◌≡◌, ◌++◌, ◌*◌, ◌^◌, ◌<◌, ◌≤◌, IfSome, length};
-ghost use Rattle.ostrace.specs.{Made.AreMade, Made.part_of, Taken.Writes};
-ghost use Rattle.ostrace_text.specs.Trace.{block_of, line_end, lines_of, text_of, title_of};
+ghost use Rattle.std.specs.Prelude.{◌≡◌, ◌+◌, ◌++◌, ◌^◌, ◌<◌, ◌≤◌, IfOk, OnOk, length};
+ghost use Rattle.ostrace.specs.{Gathers.Gathers, Parts.part_text, Parts.parts_text, Parts.title_before, Taken.Writes};
+ghost use Rattle.ostrace_text.specs.Trace.{block_of, text_of};
 
 use crate::gathered::Gathered;
 use crate::reports::{write_ended_title, write_lines};
-use crate::sinks::{MemorySink, Sink, WriteFailed, write_all};
+use crate::sinks::{Sink, WriteFailed};
 use osbase::{CoreId, Mark, Report};
-use osplan::{Config, Plan};
+use osplan::Plan;
 use ostrace_text::BlockNames;
-use std::alloc::Global;
-use std::thread;
-use std::thread::Threads;
+use std::alloc::{AllocError, Global};
 
-// So many threads make lines at once, one part each.
-const PARTS: usize = 8;
-
-// A part has at least so many lines, since fewer are written sooner than a thread is started, and at most so many, so that the
-// memory of one round serves for the next.
-const LEAST: usize = 4096;
-
-const MOST: usize = 131_072;
-
-const ROUND: usize = PARTS * MOST;
-
-// For a line so many bytes of memory are taken beforehand. Most lines have fewer.
-const BYTES: usize = 16;
-
-// The part of the marks at this place, where each has so many.
-fn part_of(marks: &[Mark], size: usize, at: usize) -> &[Mark]
-    ensures { result.now ≡ part_of marks.now size at }
-{
-    let rest = &marks[at.saturating_mul(size).min(marks.len())..];
-    &rest[..size.min(rest.len())]
+/// Lines of a block one after another. Its title stands before them if they are its first ones.
+#[derive(Clone, Copy)]
+pub(crate) struct Part<'a> {
+    plan: &'a Plan,
+    core: CoreId,
+    is_first: bool,
+    marks: &'a [Mark],
 }
 
-fn write_title<S: Sink>(out: &mut S, core: CoreId) -> Result<(), WriteFailed>
-    requires { S.failed out.old < 2 ^ 48 }
-    ensures { Writes S.taken S.failed out.old out.new (title_of core ++ line_end) result }
-{
-    let mut gathered = Gathered::new();
-    write_ended_title(out, &mut gathered, core)?;
-    gathered.send(out)
-}
+impl<'a> Part<'a> {
+    /// A whole block.
+    pub(crate) fn whole(plan: &'a Plan, report: &'a Report) -> Self
+        ensures { part_text result ≡ block_of plan.now report.now }
+    {
+        Part {
+            plan,
+            core: report.core,
+            is_first: true,
+            marks: report.marks.as_slice(),
+        }
+    }
 
-// Writes the lines of marks one after another.
-fn write_here<S: Sink>(out: &mut S, names: &BlockNames, marks: &[Mark]) -> Result<(), WriteFailed>
-    requires { S.failed out.old < 2 ^ 48 }
-    ensures { Writes S.taken S.failed out.old out.new (lines_of names.now marks.now) result }
-{
-    let mut gathered = Gathered::new();
-    write_lines(out, &mut gathered, names, marks)?;
-    gathered.send(out)
-}
+    /// How many lines it has, without the title.
+    pub(crate) fn line_count(&self) -> usize
+        ensures { result ≡ length self.now.marks.now }
+    {
+        self.marks.len()
+    }
 
-// The lines of marks, if there is memory for them.
-fn lines_in_memory(alloc: Global, names: &BlockNames, marks: &[Mark]) -> Option<Vec<u8>>
-    ensures { IfSome result (λ text. text.items ≡ lines_of names.now marks.now) }
-{
-    let bytes = Vec::with_capacity(alloc, marks.len().saturating_mul(BYTES)).ok()?;
-    let mut out = MemorySink::new(bytes);
-    match write_here(&mut out, names, marks) {
-        Ok(()) => Some(out.bytes),
-        Err(WriteFailed) => None,
+    // So many of its lines, and the others.
+    fn split_at(self, count: usize) -> (Self, Self)
+        requires { count ≤ length self.marks.now }
+        ensures text { part_text result.0 ++ part_text result.1 ≡ part_text self.entry }
+        ensures left { length result.1.marks.now + count ≡ length self.entry.marks.now }
+    {
+        let (marks, others) = self.marks.split_at(count);
+        let rest = Part {
+            is_first: false,
+            marks: others,
+            ..self
+        };
+        (Part { marks, ..self }, rest)
+    }
+
+    fn gather_title<S: Sink>(&self, out: &mut S, gathered: &mut Gathered) -> Result<(), WriteFailed>
+        requires { S.failed out.old < 2 ^ 48 }
+        ensures { Gathers S.taken S.failed out.old out.new gathered.old gathered.new
+            (title_before self.now) result }
+    {
+        if !self.is_first {
+            return Ok(());
+        }
+        write_ended_title(out, gathered, self.core)
+    }
+
+    /// Gathers its text.
+    pub(crate) fn gather<S: Sink>(
+        &self,
+        out: &mut S,
+        gathered: &mut Gathered,
+    ) -> Result<(), WriteFailed>
+        requires { S.failed out.old < 2 ^ 48 }
+        ensures { Gathers S.taken S.failed out.old out.new gathered.old gathered.new
+            (part_text self.now) result }
+    {
+        self.gather_title(out, gathered)?;
+        let names = BlockNames::new(self.plan, self.core);
+        write_lines(out, gathered, &names, self.marks)
     }
 }
 
-// Writes a part's lines: as they were made, or else made now.
-fn write_part<S: Sink>(
+fn gather_parts<S: Sink>(
     out: &mut S,
-    names: &BlockNames,
-    marks: &[Mark],
-    text: Option<&[u8]>,
+    gathered: &mut Gathered,
+    parts: &[Part],
 ) -> Result<(), WriteFailed>
-    requires failed { S.failed out.old < 2 ^ 48 }
-    requires text { IfSome text (λ bytes. bytes.now ≡ lines_of names.now marks.now) }
-    ensures { Writes S.taken S.failed out.old out.new (lines_of names.now marks.now) result }
+    requires { S.failed out.old < 2 ^ 48 }
+    ensures { Gathers S.taken S.failed out.old out.new gathered.old gathered.new
+        (parts_text parts.now) result }
 {
-    match text {
-        Some(bytes) => write_all(out, bytes),
-        None => write_here(out, names, marks),
+    for part in parts {
+        part.gather(out, gathered)?;
     }
+    Ok(())
 }
 
-// Writes the lines of all parts, each of so many marks, of which some were made.
-fn write_parts<S: Sink>(
-    out: &mut S,
-    names: &BlockNames,
-    marks: &[Mark],
+/// Writes the parts one after another.
+pub(crate) fn write_parts<S: Sink>(out: &mut S, parts: &[Part]) -> Result<(), WriteFailed>
+    requires { S.failed out.old < 2 ^ 48 }
+    ensures { Writes S.taken S.failed out.old out.new (parts_text parts.now) result }
+{
+    let mut gathered = Gathered::new();
+    gather_parts(out, &mut gathered, parts)?;
+    gathered.send(out)
+}
+
+// Adds the parts of a block, each of so many lines.
+fn push_block<'a>(parts: &mut Vec<Part<'a>>, block: Part<'a>, size: usize) -> Result<(), AllocError>
+    requires { 0 < size }
+    ensures { OnOk result (parts_text parts.new.items ≡
+        parts_text parts.old.items ++ part_text block.entry) }
+{
+    let mut rest = block;
+    while rest.line_count() > size {
+        let (part, others) = rest.split_at(size);
+        parts.push(part)?;
+        rest = others;
+    }
+    parts.push(rest)?;
+    Ok(())
+}
+
+/// The parts of all blocks, each of so many lines.
+pub(crate) fn parts_of<'a>(
+    alloc: Global,
+    plan: &'a Plan,
+    reports: &'a [Report],
     size: usize,
-    texts: &[Option<Vec<u8>>],
-) -> Result<(), WriteFailed>
-    requires failed { S.failed out.old < 2 ^ 48 }
-    requires parts { AreMade names.now marks.now size texts.now }
-    requires all { length marks.now ≤ length texts.now * size }
-    ensures { Writes S.taken S.failed out.old out.new (lines_of names.now marks.now) result }
+) -> Result<Vec<Part<'a>>, AllocError>
+    requires { 0 < size }
+    ensures { IfOk result (λ parts. parts_text parts.items ≡ text_of plan.now reports.now) }
 {
-    for (at, text) in texts.iter().enumerate() {
-        let text = text.as_ref().map(Vec::as_slice);
-        write_part(out, names, part_of(marks, size, at), text)?;
-    }
-    Ok(())
-}
-
-// Writes lines that threads make, one part each. Few lines need no thread.
-fn write_round<R: Threads + Sync, S: Sink>(
-    rt: &R,
-    alloc: Global,
-    out: &mut S,
-    names: &BlockNames,
-    marks: &[Mark],
-) -> Result<(), WriteFailed>
-    requires { S.failed out.old < 2 ^ 48 }
-    ensures { Writes S.taken S.failed out.old out.new (lines_of names.now marks.now) result }
-{
-    let size = marks.len() / PARTS + 1;
-    if size < LEAST {
-        return write_here(out, names, marks);
-    }
-    let made = thread::map_indices(
-        rt,
-        alloc,
-        PARTS,
-        &|at| { lines_in_memory(alloc, names, part_of(marks, size, at)) },
-    );
-    match made {
-        Ok(texts) => write_parts(out, names, marks, size, texts.as_slice()),
-        Err(_) => write_here(out, names, marks),
-    }
-}
-
-// Writes the lines of a block, round by round.
-fn write_lines_by_threads<R: Threads + Sync, S: Sink>(
-    rt: &R,
-    alloc: Global,
-    out: &mut S,
-    names: &BlockNames,
-    marks: &[Mark],
-) -> Result<(), WriteFailed>
-    requires { S.failed out.old < 2 ^ 48 }
-    ensures { Writes S.taken S.failed out.old out.new (lines_of names.now marks.now) result }
-{
-    let rounds = marks.len() / ROUND + 1;
-    for at in 0..rounds {
-        write_round(rt, alloc, out, names, part_of(marks, ROUND, at))?;
-    }
-    Ok(())
-}
-
-fn write_block_by_threads<R: Threads + Sync, S: Sink>(
-    rt: &R,
-    alloc: Global,
-    out: &mut S,
-    plan: &Plan,
-    report: &Report,
-) -> Result<(), WriteFailed>
-    requires { S.failed out.old < 2 ^ 48 }
-    ensures { Writes S.taken S.failed out.old out.new (block_of plan.now report.now) result }
-{
-    write_title(out, report.core)?;
-    let names = BlockNames::new(plan, report.core);
-    write_lines_by_threads(rt, alloc, out, &names, report.marks.as_slice())
-}
-
-/// Writes the blocks of the reports in their order, as `write_reports` does. A block with many lines is made in memory first, in
-/// parts, each by a thread of its own if the system has one. A part for which there is no memory is made when it is written.
-pub fn write_reports_by_threads<R: Threads + Sync, S: Sink>(
-    rt: &R,
-    alloc: Global,
-    config: &Config,
-    out: &mut S,
-    reports: &[Report],
-) -> Result<(), WriteFailed>
-    requires { S.failed out.old < 2 ^ 48 }
-    ensures { Writes S.taken S.failed out.old out.new (text_of config.now reports.now) result }
-{
+    let mut parts = Vec::new(alloc);
     for report in reports {
-        write_block_by_threads(rt, alloc, out, config.plan(), report)?;
+        push_block(&mut parts, Part::whole(plan, report), size)?;
     }
-    Ok(())
+    Ok(parts)
 }

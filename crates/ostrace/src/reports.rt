@@ -7,6 +7,7 @@ ghost use Rattle.ostrace_text.specs.Trace.{block_of, line_end, line_of, lines_of
 
 use crate::gathered::Gathered;
 use crate::lines::{write_line, write_verb_and_core};
+use crate::parts::Part;
 use crate::sinks::{Sink, WriteFailed};
 use osbase::{CoreId, Mark, Report};
 use osplan::{Config, Plan};
@@ -56,21 +57,6 @@ pub(crate) fn write_lines<S: Sink>(
     Ok(())
 }
 
-fn write_block<S: Sink>(
-    out: &mut S,
-    gathered: &mut Gathered,
-    plan: &Plan,
-    report: &Report,
-) -> Result<(), WriteFailed>
-    requires { S.failed out.old < 2 ^ 48 }
-    ensures { Gathers S.taken S.failed out.old out.new gathered.old gathered.new
-        (block_of plan.now report.now) result }
-{
-    write_ended_title(out, gathered, report.core)?;
-    let names = BlockNames::new(plan, report.core);
-    write_lines(out, gathered, &names, report.marks.as_slice())
-}
-
 fn gather_blocks<S: Sink>(
     out: &mut S,
     gathered: &mut Gathered,
@@ -82,13 +68,17 @@ fn gather_blocks<S: Sink>(
         (text_of plan.now reports.now) result }
 {
     for report in reports {
-        write_block(out, gathered, plan, report)?;
+        Part::whole(plan, report).gather(out, gathered)?;
     }
     Ok(())
 }
 
-// Writes the blocks of the reports in their order.
-fn write_blocks<S: Sink>(plan: &Plan, out: &mut S, reports: &[Report]) -> Result<(), WriteFailed>
+/// Writes the blocks of the reports in their order.
+pub(crate) fn write_blocks<S: Sink>(
+    plan: &Plan,
+    out: &mut S,
+    reports: &[Report],
+) -> Result<(), WriteFailed>
     requires { S.failed out.old < 2 ^ 48 }
     ensures { Writes S.taken S.failed out.old out.new (text_of plan.now reports.now) result }
 {

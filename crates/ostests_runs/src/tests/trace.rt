@@ -6,7 +6,7 @@ mod sinks;
 
 use marks::{ONE, ZERO};
 use osbase::{CoreId, List, Mark, Report};
-use osconf::read_config;
+use osconf::{Config, read_config};
 use ostrace::{
     MemorySink, Word, WriteFailed, WriteSink, write_ended_words, write_reports,
     write_reports_by_threads,
@@ -16,6 +16,7 @@ use std::alloc::{AllocError, Global};
 use std::process::Abort;
 use std::slice;
 use std::test::Fail;
+use std::thread::Threads;
 
 // Core 0 has the task A, the ISR I1, the alarm L and the table S1; core 1 has the task Blink.
 const CONFIG: &str =
@@ -63,17 +64,27 @@ fn exchange(alloc: Global) -> Result<Vec<Report>, AllocError> {
     Ok(reports)
 }
 
+// Memory takes the text of the exchange.
+fn write_to_memory(rt: &impl Abort, alloc: Global, config: &Config, reports: &[Report]) {
+    let mut out = MemorySink::new(Vec::new(alloc));
+    assert!(rt; write_reports(config, &mut out, reports).is_ok());
+    assert!(rt; out.bytes.as_slice() == marks::EXCHANGE_LINES.as_bytes());
+}
+
+// So does a stream.
+fn write_to_a_stream(rt: &impl Abort, alloc: Global, config: &Config, reports: &[Report]) {
+    let mut stream = WriteSink::new(Vec::new(alloc));
+    assert!(rt; write_reports(config, &mut stream, reports).is_ok());
+    assert!(rt; stream.writer.as_slice() == marks::EXCHANGE_LINES.as_bytes());
+    assert!(rt; stream.failed == 0);
+}
+
 #[test]
 fn reports_are_blocks_in_their_order(rt: HostRuntime) -> Result<(), Fail> {
-    let reports = exchange(rt.alloc())?;
     let config = read_config(rt.alloc(), CONFIG)?;
-    let text = marks::EXCHANGE_LINES.as_bytes();
-    let mut out = MemorySink::new(Vec::new(rt.alloc()));
-    assert!(rt; write_reports(&config, &mut out, reports.as_slice()).is_ok());
-    assert!(rt; out.bytes.as_slice() == text);
-    let mut stream = WriteSink::new(Vec::new(rt.alloc()));
-    assert!(rt; write_reports(&config, &mut stream, reports.as_slice()).is_ok());
-    assert!(rt; stream.writer.as_slice() == text && stream.failed == 0);
+    let reports = exchange(rt.alloc())?;
+    write_to_memory(&rt, rt.alloc(), &config, reports.as_slice());
+    write_to_a_stream(&rt, rt.alloc(), &config, reports.as_slice());
     Ok(())
 }
 
@@ -104,15 +115,34 @@ fn judge(
     bytes.len()
 }
 
+// How many bytes of the reports' text a sink takes that refuses the write behind so many.
+fn taken_of(
+    rt: &impl Abort,
+    alloc: Global,
+    config: &Config,
+    reports: &[Report],
+    text: &[u8],
+    (refusal, writes): (Refusal, usize),
+) -> usize {
+    let mut out = FailingSink::new(alloc, refusal, writes);
+    let outcome = write_reports(config, &mut out, reports);
+    judge(rt, &out, outcome, text, writes)
+}
+
 // Each write of the exchange is refused in turn, and at last none.
 fn refuse_each(rt: &impl Abort, alloc: Global, refusal: Refusal) -> Result<(), Fail> {
-    let reports = exchange(alloc)?;
     let config = read_config(alloc, CONFIG)?;
+    let reports = exchange(alloc)?;
     let text = marks::EXCHANGE_LINES.as_bytes();
     for writes in 0..40 {
-        let mut out = FailingSink::new(alloc, refusal, writes);
-        let outcome = write_reports(&config, &mut out, reports.as_slice());
-        let count = judge(rt, &out, outcome, text, writes);
+        let count = taken_of(
+            rt,
+            alloc,
+            &config,
+            reports.as_slice(),
+            text,
+            (refusal, writes),
+        );
         assert!(rt;
             count == text.len().min(writes * 3),
             "{refusal:?} after {writes} writes"
@@ -127,78 +157,116 @@ fn each_refused_write_leaves_a_beginning(rt: HostRuntime) -> Result<(), Fail> {
     refuse_each(&rt, rt.alloc(), Refusal::TakesNothing)
 }
 
-#[test]
-fn many_lines_are_written_in_parts(rt: HostRuntime) -> Result<(), Fail> {
-    let marks = vec![in rt.alloc(); Mark::Tick; 5000]?;
-    let report = report(rt.alloc(), ZERO, marks);
-    let config = read_config(rt.alloc(), CONFIG)?;
-    let ticks = "tick\n".repeat(rt.alloc(), 5000)?;
-    let text = format!(in rt.alloc(); "core 0\n{ticks}")?;
+// More writes leave more of this text, and at last all of it.
+fn refuse_some(rt: &impl Abort, alloc: Global, config: &Config, report: &Report, text: &[u8]) {
+    let reports = slice::from_ref(report);
     let mut before = 0;
     for writes in [0, 1, 5460, 5461, 5462, 6000, 8000, 9000] {
-        let mut out = FailingSink::new(rt.alloc(), Refusal::Fails, writes);
-        let outcome = write_reports(&config, &mut out, slice::from_ref(&report));
-        let count = judge(&rt, &out, outcome, text.as_str().as_bytes(), writes);
+        let count = taken_of(rt, alloc, config, reports, text, (Refusal::Fails, writes));
         assert!(rt; count >= before, "after {writes} writes");
         before = count;
     }
     assert!(rt; before == text.len());
+}
+
+#[test]
+fn many_lines_are_written_in_parts(rt: HostRuntime) -> Result<(), Fail> {
+    let config = read_config(rt.alloc(), CONFIG)?;
+    let ticks = report(rt.alloc(), ZERO, vec![in rt.alloc(); Mark::Tick; 5000]?);
+    let lines = "tick\n".repeat(rt.alloc(), 5000)?;
+    let text = format!(in rt.alloc(); "core 0\n{lines}")?;
+    refuse_some(&rt, rt.alloc(), &config, &ticks, text.as_str().as_bytes());
     Ok(())
 }
 
-// So many marks of core 0, and few of core 1.
-fn long_and_short(alloc: Global, count: usize) -> Result<Vec<Report>, AllocError> {
+// So many marks of tasks.
+fn marks_of(alloc: Global, count: usize) -> Result<Vec<Mark>, AllocError> {
     let mut marks = Vec::with_capacity(alloc, count)?;
     for at in 0..count {
         marks.push(marks::TASKS[at % marks::TASKS.len()])?;
     }
-    let few = marks::ANSWER.to_vec(alloc)?;
-    let mut reports = Vec::with_capacity(alloc, 2)?;
-    reports.push(report(alloc, ZERO, marks))?;
-    reports.push(report(alloc, ONE, few))?;
+    Ok(marks)
+}
+
+// So many marks of core 0, an eighth of them once more, and few of core 1.
+fn uneven(alloc: Global, count: usize) -> Result<Vec<Report>, AllocError> {
+    let mut reports = Vec::with_capacity(alloc, 3)?;
+    for count in [count, count / 8] {
+        reports.push(report(alloc, ZERO, marks_of(alloc, count)?))?;
+    }
+    reports.push(report(alloc, ONE, marks::ANSWER.to_vec(alloc)?))?;
     Ok(reports)
 }
 
-// A block has too few lines for threads, lines for one round, and some more than a round has.
+// The text of these reports, made by one thread.
+fn text_of(alloc: Global, config: &Config, reports: &[Report]) -> Result<Vec<u8>, WriteFailed> {
+    let mut out = MemorySink::new(Vec::new(alloc));
+    write_reports(config, &mut out, reports)?;
+    Ok(out.bytes)
+}
+
+// Threads write the same.
+fn compare_by_threads(
+    rt: &(impl Abort + Threads + Sync),
+    alloc: Global,
+    config: &Config,
+    reports: &[Report],
+) -> Result<(), WriteFailed> {
+    let text = text_of(alloc, config, reports)?;
+    let mut out = MemorySink::new(Vec::new(alloc));
+    write_reports_by_threads(rt, alloc, config, &mut out, reports)?;
+    assert!(rt; out.bytes.as_slice() == text.as_slice());
+    Ok(())
+}
+
+// There are too few lines for threads, some more parts than a round has, and just as many lines as a round has, with others.
 #[test]
 fn threads_write_the_same_text(rt: HostRuntime) -> Result<(), Fail> {
-    let alloc = rt.alloc();
-    let config = read_config(alloc, CONFIG)?;
-    for count in [100, 40_000, 1_048_580] {
-        let reports = long_and_short(alloc, count)?;
-        let mut text = MemorySink::new(Vec::new(alloc));
-        assert!(rt; write_reports(&config, &mut text, reports.as_slice()).is_ok());
-        let mut out = MemorySink::new(Vec::new(alloc));
-        let outcome = write_reports_by_threads(&rt, alloc, &config, &mut out, reports.as_slice());
-        assert!(rt;
-            outcome.is_ok() && out.bytes.as_slice() == text.bytes.as_slice(),
-            "{count} marks"
-        );
+    let config = read_config(rt.alloc(), CONFIG)?;
+    for count in [100, 40_000, 1_048_576] {
+        let reports = uneven(rt.alloc(), count)?;
+        compare_by_threads(&rt, rt.alloc(), &config, reports.as_slice())?;
+    }
+    Ok(())
+}
+
+// A write of what threads made is refused, and the sink has a beginning of the text.
+fn refuse_by_threads(
+    rt: &(impl Abort + Threads + Sync),
+    alloc: Global,
+    config: &Config,
+    reports: &[Report],
+) -> Result<(), WriteFailed> {
+    let text = text_of(alloc, config, reports)?;
+    for writes in [0, 1, 3, 50_000, 2_000_000] {
+        let mut out = FailingSink::new(alloc, Refusal::Fails, writes);
+        let outcome = write_reports_by_threads(rt, alloc, config, &mut out, reports);
+        judge(rt, &out, outcome, text.as_slice(), writes);
     }
     Ok(())
 }
 
 #[test]
 fn a_refused_write_of_what_threads_made_leaves_a_beginning(rt: HostRuntime) -> Result<(), Fail> {
-    let alloc = rt.alloc();
-    let config = read_config(alloc, CONFIG)?;
+    let config = read_config(rt.alloc(), CONFIG)?;
     for count in [100, 40_000] {
-        let reports = long_and_short(alloc, count)?;
-        let mut text = MemorySink::new(Vec::new(alloc));
-        assert!(rt; write_reports(&config, &mut text, reports.as_slice()).is_ok());
-        for writes in [0, 1, 3, 50_000, 2_000_000] {
-            let mut out = FailingSink::new(alloc, Refusal::Fails, writes);
-            let outcome = write_reports_by_threads(
-                &rt,
-                alloc,
-                &config,
-                &mut out,
-                reports.as_slice(),
-            );
-            judge(&rt, &out, outcome, text.bytes.as_slice(), writes);
-        }
+        let reports = uneven(rt.alloc(), count)?;
+        refuse_by_threads(&rt, rt.alloc(), &config, reports.as_slice())?;
     }
     Ok(())
+}
+
+// More writes leave more of the words' text, and at last all of it.
+fn refuse_words(rt: &impl Abort, alloc: Global, words: &[Word], text: &[u8]) {
+    let mut before = 0;
+    for writes in [0, 1, 5460, 5461, 5462, 9000, 15000, 20000, 30000] {
+        let mut out = FailingSink::new(alloc, Refusal::TakesNothing, writes);
+        let outcome = write_ended_words(&mut out, "many", words);
+        let count = judge(rt, &out, outcome, text, writes);
+        assert!(rt; count >= before, "after {writes} writes");
+        before = count;
+    }
+    assert!(rt; before == text.len());
 }
 
 // Behind words for which there is room comes one for which there never is.
@@ -214,14 +282,6 @@ fn a_long_word_is_written_by_itself(rt: HostRuntime) -> Result<(), Fail> {
         Word::Text(ticks.as_str()),
         Word::Text(long.as_str()),
     ];
-    let mut before = 0;
-    for writes in [0, 1, 5460, 5461, 5462, 9000, 15000, 20000, 30000] {
-        let mut out = FailingSink::new(rt.alloc(), Refusal::TakesNothing, writes);
-        let outcome = write_ended_words(&mut out, "many", &words);
-        let count = judge(&rt, &out, outcome, text.as_str().as_bytes(), writes);
-        assert!(rt; count >= before, "after {writes} writes");
-        before = count;
-    }
-    assert!(rt; before == text.len());
+    refuse_words(&rt, rt.alloc(), &words, text.as_str().as_bytes());
     Ok(())
 }

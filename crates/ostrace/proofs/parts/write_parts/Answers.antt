@@ -1,11 +1,8 @@
-use Rattle.std.proofs.Common.{◌*◌}
-use Rattle.ostrace.proofs.Made.{Writes-part_broken, Wrote-more, next_part}
+use Rattle.ostrace.proofs.Gathering.{Writes-gathered, Writes-not_gathered}
 use Rattle.ostrace.proofs.parts.write_parts.Goals as goal
 
-pub returns-in_err-write_part : goal.returns-in_err-write_part
-returns-in_err-write_part g c =
-    Writes-part_broken c.args.names.now c.args.marks.now (c.loop-at.at * c.args.size) c.args.size _ _ _ _ _ c.loop-at.invariant _ _ c.from_residual.ensures.0 (rw c.part_of.ensures at c.in_err-write_part.ensures)
+pub returns-in_err-gather_parts : goal.returns-in_err-gather_parts
+returns-in_err-gather_parts g c = Writes-not_gathered _ c.from_residual.ensures.0 (rw c.new-gathered.ensures at c.in_err-gather_parts.ensures)
 
-pub loop-at-preserved : goal.loop-at-preserved
-loop-at-preserved g c =
-    rw (next_part c.loop-at.at c.args.size) (Wrote-more c.args.names.now c.args.marks.now (c.loop-at.at * c.args.size) c.args.size _ _ _ _ _ c.loop-at.invariant _ (rw c.part_of.ensures at c.in_ok-write_part.ensures))
+pub returns : goal.returns
+returns g c = Writes-gathered _ (rw c.new-gathered.ensures at c.in_ok-gather_parts.ensures) c.send.ensures.written

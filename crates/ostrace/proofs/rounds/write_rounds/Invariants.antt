@@ -1,0 +1,7 @@
+use Rattle.std.proofs.Common.{◌*◌, take}
+use Rattle.ostrace.specs.{Parts.parts_text, declared.rounds.TheConstants.PARTS}
+use Rattle.ostrace.proofs.Writing.{Wrote}
+use Rattle.ostrace.proofs.rounds.write_rounds.Given as goal
+
+abbrev pub invariant-loop-at : goal.invariant-loop-at
+invariant-loop-at g l = Wrote g.S.Sink.taken g.S.Sink.failed l.initial.out l.out (parts_text (take (l.at * PARTS) l.parts))
