@@ -2,7 +2,7 @@
 //! order is seen by playing them.
 
 use crate::worlds::World;
-use osbase::{Item, List, Report, SPINLOCKS, Schedule, SpinlockId, Stimuli, Turn};
+use osbase::{Choice, Item, List, Report, SPINLOCKS, Schedule, SpinlockId, Stimuli, Turn};
 use osplan::Config;
 use std::alloc::{AllocError, Global};
 
@@ -16,9 +16,19 @@ pub(crate) fn turns_sought(
 ) -> Option<Schedule> {
     let mut world = World::new(alloc, config, stimuli.as_slice()).ok()?;
     let mut tracks = tracks_of(alloc, reports).ok()?;
+    played(alloc, &mut world, tracks.as_mut_slice(), count_of(reports))
+}
+
+// The turns by which at most so many items are played.
+fn played(
+    alloc: Global,
+    world: &mut World,
+    tracks: &mut [Track],
+    count: usize,
+) -> Option<Schedule> {
     let mut turns = List::new(alloc);
-    for _ in 0..count_of(reports) {
-        let Some((at, turn)) = next_turn(tracks.as_slice(), &world) else {
+    for _ in 0..count {
+        let Some((at, turn)) = next_turn(tracks, world) else {
             break;
         };
         world.turn(turn.0, turn.1).ok()?;
@@ -44,18 +54,27 @@ fn next_turn(tracks: &[Track], world: &World) -> Option<(usize, Turn)> {
     let mut least: Option<u64> = None;
     let mut found = None;
     for (at, track) in tracks.iter().enumerate() {
-        let Some((item, clock)) = track.next() else {
-            continue;
-        };
-        if is_reached(least, clock) || waits(tracks, item, clock) {
-            continue;
-        }
-        if let Some(choice) = world.choice_for(track.report.core, item) {
+        if let Some((clock, choice)) = sooner_choice(tracks, world, track, least) {
             least = Some(clock);
             found = Some((at, (track.report.core, choice)));
         }
     }
     found
+}
+
+// The choice by which the core takes its next item now, and the item's clock, if that is less than the least one so far.
+fn sooner_choice(
+    tracks: &[Track],
+    world: &World,
+    track: &Track,
+    least: Option<u64>,
+) -> Option<(u64, Choice)> {
+    let (item, clock) = track.next()?;
+    if is_reached(least, clock) || waits(tracks, item, clock) {
+        return None;
+    }
+    let choice = world.choice_for(track.report.core, item)?;
+    Some((clock, choice))
 }
 
 // Whether another core's item with at most this clock was found.
@@ -88,16 +107,20 @@ struct Track<'a> {
 fn tracks_of(alloc: Global, reports: &[Report]) -> Result<Vec<Track<'_>>, AllocError> {
     let mut tracks = Vec::with_capacity(alloc, reports.len())?;
     for report in reports {
-        tracks.push(Track {
-            report,
-            place: 0,
-            uses: first_uses(report.items.as_slice()),
-        })?;
+        tracks.push(Track::new(report))?;
     }
     Ok(tracks)
 }
 
 impl<'a> Track<'a> {
+    fn new(report: &'a Report) -> Self {
+        Track {
+            report,
+            place: 0,
+            uses: first_uses(report.items.as_slice()),
+        }
+    }
+
     // The next item, with its clock.
     fn next(&self) -> Option<(&'a Item, u64)> {
         let item = self.report.items.as_slice().get(self.place)?;
