@@ -16,6 +16,19 @@ use std::sync::Wait;
 use std::test::Fail;
 use std::thread::Threads;
 
+// The job over these files comes to this fault.
+fn compare_fault(
+    rt: &(impl Threads + Wait + Sync),
+    alloc: Global,
+    job: &Job,
+    files: &[Option<Vec<u8>>],
+    fault: &str,
+) -> Result<(), Difference> {
+    let result = result_over(rt, alloc, job, files)?;
+    let due = result_text(alloc, "", fault, 1)?;
+    same(alloc, fault, result.as_str(), due.as_str())
+}
+
 // The job over three files, of which this one is another, comes to this fault.
 fn compare_with(
     rt: &(impl Threads + Wait + Sync),
@@ -27,12 +40,10 @@ fn compare_with(
 ) -> Result<(), Difference> {
     let (border, _) = given(BORDER)?;
     let mut files = files_of(alloc, &[Some(border), Some("{}"), Some("x")])?;
-    if at < files.len() {
-        files[at] = file;
+    if let Some(place) = files.get_mut(at) {
+        *place = file;
     }
-    let result = result_over(rt, alloc, job, files.as_slice())?;
-    let due = result_text(alloc, "", fault, 1)?;
-    same(alloc, fault, result.as_str(), due.as_str())
+    compare_fault(rt, alloc, job, files.as_slice(), fault)
 }
 
 // Of each file of a job the fault where it is no text. Where it cannot be read, the fault is one for all.

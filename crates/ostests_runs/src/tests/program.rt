@@ -3,61 +3,79 @@
 use super::writes::{Failing, Refusal};
 use osjob::{Fault, NoWords, Outcome, answer, close};
 use ostrace::MemorySink;
+use std::alloc::Global;
+use std::process::Abort;
+use std::rt::Files;
+use std::sync::Wait;
 use std::test::Fail;
+use std::thread::Threads;
+
+// Closes over an output that has these bytes and refuses the write behind so many: so much is sent off, and this line is told.
+fn close_over(
+    rt: &impl Abort,
+    alloc: Global,
+    bytes: Vec<u8>,
+    left: usize,
+    ending: Result<Outcome, Fault>,
+    (sent, line, status): (usize, &str, u8),
+) {
+    let mut out = Failing::new(bytes, Refusal::Fails, left);
+    let mut err = MemorySink::new(Vec::new(alloc));
+    assert_eq!(rt; close(ending, &mut out, &mut err), status);
+    assert_eq!(rt; out.sent, sent);
+    assert_eq!(rt; err.bytes.as_slice(), line.as_bytes());
+}
 
 #[test]
 fn a_text_is_sent_off_and_then_its_fault_is_told(rt: HostRuntime) -> Result<(), Fail> {
-    let alloc = rt.alloc();
     let examples = [
-        (Ok(Outcome::Stalled), 1, 7, "", 3),
-        (Err(Fault::NoMemoryToRun), 1, 7, "fault 16 NoMemory\n", 1),
-        (Ok(Outcome::Stalled), 0, 0, "fault 19 WriteFailed\n", 1),
-        (Err(Fault::NoMemoryToRun), 0, 0, "fault 19 WriteFailed\n", 1),
+        (Ok(Outcome::Stalled), 1, (7, "", 3)),
+        (Err(Fault::NoMemoryToRun), 1, (7, "fault 16 NoMemory\n", 1)),
+        (Ok(Outcome::Stalled), 0, (0, "fault 19 WriteFailed\n", 1)),
+        (
+            Err(Fault::NoMemoryToRun),
+            0,
+            (0, "fault 19 WriteFailed\n", 1),
+        ),
     ];
-    for (ending, left, sent, line, status) in examples.as_slice() {
-        let mut out = Failing::new(Vec::from_slice(alloc, b"core 0\n")?, Refusal::Fails, *left);
-        let mut err = MemorySink::new(Vec::new(alloc));
-        assert_eq!(rt; close(*ending, &mut out, &mut err), *status);
-        assert_eq!(rt; out.sent, *sent);
-        assert_eq!(rt; err.bytes.as_slice(), line.as_bytes());
+    for (ending, left, told) in examples.as_slice() {
+        let bytes = Vec::from_slice(rt.alloc(), b"core 0\n")?;
+        close_over(&rt, rt.alloc(), bytes, *left, *ending, *told);
     }
     Ok(())
 }
 
+// Answers these words over an output that takes nothing of the write behind so many.
+fn answer_words(
+    rt: &(impl AllocGlobal + Files + Threads + Wait + Abort + Sync),
+    words: Vec<&str>,
+    left: usize,
+    (text, line, status): (&str, &str, u8),
+) {
+    let mut out = Failing::new(Vec::new(rt.alloc()), Refusal::TakesNothing, left);
+    let mut err = MemorySink::new(Vec::new(rt.alloc()));
+    assert_eq!(rt; answer(rt, Ok(words), &mut out, &mut err), status);
+    assert_eq!(rt; out.bytes.as_slice(), text.as_bytes());
+    assert_eq!(rt; err.bytes.as_slice(), line.as_bytes());
+}
+
 #[test]
 fn words_come_to_a_text_or_a_line_and_a_status(rt: HostRuntime) -> Result<(), Fail> {
-    let alloc = rt.alloc();
+    let version = ["mcos", "--version"].as_slice();
+    let failed = "fault 19 WriteFailed\n";
     let examples = [
-        (["mcos", "--version"].as_slice(), 99, "mcos 0.2.0\n", "", 0),
-        (
-            ["mcos", "--version"].as_slice(),
-            11,
-            "mcos 0.2.0\n",
-            "fault 19 WriteFailed\n",
-            1,
-        ),
-        (
-            ["mcos", "--version"].as_slice(),
-            4,
-            "mcos",
-            "fault 19 WriteFailed\n",
-            1,
-        ),
+        (version, 99, ("mcos 0.2.0\n", "", 0)),
+        (version, 11, ("mcos 0.2.0\n", failed, 1)),
+        (version, 4, ("mcos", failed, 1)),
         (
             ["mcos", "check", "no/such"].as_slice(),
             99,
-            "",
-            "fault 21 Unreadable\n",
-            1,
+            ("", "fault 21 Unreadable\n", 1),
         ),
     ];
-    for (words, left, text, line, status) in examples.as_slice() {
-        let mut out = Failing::new(Vec::new(alloc), Refusal::TakesNothing, *left);
-        let mut err = MemorySink::new(Vec::new(alloc));
-        let words = Ok(Vec::from_slice(alloc, *words)?);
-        assert_eq!(rt; answer(&rt, words, &mut out, &mut err), *status);
-        assert_eq!(rt; out.bytes.as_slice(), text.as_bytes());
-        assert_eq!(rt; err.bytes.as_slice(), line.as_bytes());
+    for (words, left, told) in examples.as_slice() {
+        let words = Vec::from_slice(rt.alloc(), *words)?;
+        answer_words(&rt, words, *left, *told);
     }
     Ok(())
 }

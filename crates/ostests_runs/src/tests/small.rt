@@ -82,17 +82,25 @@ fn replay_small(
     Ok(())
 }
 
+// So it does with each core's report.
+fn replay_each(
+    rt: &impl Abort,
+    alloc: Global,
+    config: &Config,
+    reports: &[Report],
+) -> Result<(), Fail> {
+    for report in reports {
+        replay_small(rt, alloc, config, report)?;
+    }
+    Ok(())
+}
+
 // The small kernel takes what the cores of a run took.
 fn play_small(rt: &impl Abort, alloc: Global, config: &str, stimuli: &str) -> Result<(), Fail> {
     let config = read_config(alloc, config)?;
     let stimuli = read_stimuli(alloc, &config, stimuli)?;
     match reports_of(alloc, &config, &stimuli) {
-        Ok(reports) => {
-            for report in reports.as_slice() {
-                replay_small(rt, alloc, &config, report)?;
-            }
-            Ok(())
-        }
+        Ok(reports) => replay_each(rt, alloc, &config, reports.as_slice()),
         Err(fault) => Err(Fail::from(fault)),
     }
 }

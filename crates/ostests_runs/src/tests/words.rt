@@ -45,9 +45,10 @@ mcos threads a b --order=true => exits with 2
 mcos run a b --order => exits with 2
 "#;
 
-// The job that these words make, or how the program exits.
-fn job_text(alloc: Global, words: &[&str]) -> Result<String, AllocError> {
-    match job_of(alloc, words) {
+// The job that the words of this line make, or how the program exits.
+fn job_text(alloc: Global, line: &str) -> Result<String, AllocError> {
+    let words: Vec<&str> = line.split_whitespace().collect(alloc)?;
+    match job_of(alloc, words.as_slice()) {
         Ok(job) => format!(in alloc; "{job:?}"),
         Err(error) => format!(in alloc; "exits with {}", error.exit_code()),
     }
@@ -58,8 +59,7 @@ fn words_make_a_job_or_are_wrong_usage(rt: HostRuntime) -> Result<(), Fail> {
     let alloc = rt.alloc();
     let mut cases = 0usize;
     for (line, due) in WORDS.lines().filter_map(|line| line.split_once(" => ")) {
-        let words: Vec<&str> = line.split_whitespace().collect(alloc)?;
-        let text = job_text(alloc, words.as_slice())?;
+        let text = job_text(alloc, line)?;
         same(alloc, line, text.as_str(), due)?;
         cases = cases.saturating_add(1);
     }

@@ -110,6 +110,20 @@ fn due_within(alloc: Global, text: &str, whole: &str, left: usize) -> Result<Str
     }
 }
 
+// The write behind so many of the job's text is refused, or none if it has no more.
+fn refuse_one(
+    rt: &(impl Threads + Wait + Sync),
+    alloc: Global,
+    job: &Job,
+    files: &[Option<Vec<u8>>],
+    (text, whole): (&str, &str),
+    (refusal, left): (Refusal, usize),
+) -> Result<(), Difference> {
+    let result = result_within(rt, alloc, job, files, (refusal, left))?;
+    let due = due_within(alloc, text, whole, left)?;
+    same(alloc, "", result.as_str(), due.as_str())
+}
+
 // Each write of the job's text is refused in turn, and at last none.
 fn refuse_each(
     rt: &(impl Threads + Wait + Sync),
@@ -121,9 +135,14 @@ fn refuse_each(
     let whole = result_over(rt, alloc, job, files)?;
     let (text, _) = whole.split_once("and reports\n").ok_or("a result")?;
     for left in 0..=text.len() {
-        let result = result_within(rt, alloc, job, files, (refusal, left))?;
-        let due = due_within(alloc, text, whole.as_str(), left)?;
-        same(alloc, "", result.as_str(), due.as_str())?;
+        refuse_one(
+            rt,
+            alloc,
+            job,
+            files,
+            (text, whole.as_str()),
+            (refusal, left),
+        )?;
     }
     Ok(())
 }
