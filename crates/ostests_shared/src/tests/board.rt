@@ -7,6 +7,7 @@ use osbase::{CORES, CoreId, CoreMode, List, ModeId, Status};
 use osboard::{Board, BoardCall, BoardList, BoardReply, BoardSeat, BoardView};
 use osshared::Entry;
 use std::alloc::{AllocError, Global};
+use std::process::Abort;
 use std::test::Fail;
 use std::thread;
 use std::thread::Threads;
@@ -169,6 +170,23 @@ fn decided(work: &Work) -> Option<BoardReply> {
     }
 }
 
+// Each of the four workers was shown what it did, all know of the same shutdown, and one of them started the core.
+fn agree(rt: &impl Abort, works: &[Work]) {
+    assert!(rt; works.len() == 4);
+    let Some(first) = works.first() else {
+        panic!(rt; "a log for each core")
+    };
+    let mut started = 0usize;
+    for work in works {
+        assert!(rt; work.shown && work.log.len() == 5);
+        assert!(rt; decided(work) == decided(first));
+        if has_reply(work, BoardReply::Started(Status::EOk)) {
+            started = started.wrapping_add(1);
+        }
+    }
+    assert!(rt; started == 1);
+}
+
 #[test]
 fn four_threads_share_a_board(rt: HostRuntime) -> Result<(), Fail> {
     let mut cores = List::new(rt.alloc());
@@ -177,19 +195,7 @@ fn four_threads_share_a_board(rt: HostRuntime) -> Result<(), Fail> {
     cores.push(CoreId { number: 5 })?;
     cores.push(CoreId { number: 15 })?;
     let works = run_all(&rt, rt.alloc(), cores, CoreId { number: 5 })?;
-    assert!(rt; works.len() == 4);
-    let Some(first) = works.first() else {
-        panic!(rt; "a log for each core")
-    };
-    let mut started = 0usize;
-    for work in &works {
-        assert!(rt; work.shown && work.log.len() == 5);
-        assert!(rt; decided(work) == decided(first));
-        if has_reply(work, BoardReply::Started(Status::EOk)) {
-            started = started.wrapping_add(1);
-        }
-    }
-    assert!(rt; started == 1);
+    agree(&rt, works.as_slice());
     Ok(())
 }
 

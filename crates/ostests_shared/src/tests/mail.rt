@@ -1,8 +1,17 @@
 //! Mailboxes of a listed run, and of cores on threads of their own.
 
 use osbase::{CoreId, Envelope, Letter, Message, Status};
-use osmail::{ListMail, LockedMail, Mail, RingEnd, RingMail};
+use osmail::{ListMail, LockedMail, Mail, MailStep, RingEnd, RingMail};
+use std::alloc::Global;
+use std::process::Abort;
+use std::sync::Wait;
 use std::test::Fail;
+
+const FIRST: CoreId = CoreId { number: 0 };
+
+const SECOND: CoreId = CoreId { number: 7 };
+
+const LAST: CoreId = CoreId { number: 15 };
 
 fn envelope(number: u64, message: Message) -> Envelope {
     let letter = Letter { number, message };
@@ -17,76 +26,137 @@ fn reply(number: u64) -> Envelope {
     envelope(number, Message::Reply(Status::EOk))
 }
 
+// The mailbox from the first core to the last has room for two envelopes, and hands a third one back.
+fn is_filled(rt: &impl Abort, mail: &mut ListMail<4>) {
+    assert!(rt; mail.has_room(FIRST, LAST));
+    assert!(rt; !mail.has_mail(LAST));
+    assert_eq!(rt; mail.send(FIRST, LAST, value(0)), Ok(()));
+    assert!(rt; mail.has_mail(LAST));
+    assert_eq!(rt; mail.send(LAST, FIRST, value(7)), Ok(()));
+    assert_eq!(rt; mail.send(FIRST, LAST, value(1)), Ok(()));
+    assert!(rt; !mail.has_room(FIRST, LAST));
+    assert_eq!(rt; mail.send(FIRST, LAST, value(2)), Err(value(2)));
+}
+
+// What stands in the mailboxes leaves them in its order.
+fn is_emptied(rt: &impl Abort, mail: &mut ListMail<4>) {
+    assert_eq!(rt; mail.take(LAST, FIRST), Some(value(0)));
+    assert_eq!(rt; mail.take(LAST, FIRST), Some(value(1)));
+    assert_eq!(rt; mail.take(LAST, FIRST), None);
+    assert!(rt; !mail.has_mail(LAST));
+    assert!(rt; mail.has_mail(FIRST));
+    assert_eq!(rt; mail.take(FIRST, LAST), Some(value(7)));
+    assert_eq!(rt; mail.take(FIRST, FIRST), None);
+}
+
 #[test]
 fn envelopes_leave_in_the_order_in_which_they_came(rt: HostRuntime) -> Result<(), Fail> {
     let mut mail: ListMail<4> = ListMail::new(rt.alloc(), 2)?;
-    let (first, second) = (CoreId { number: 0 }, CoreId { number: 15 });
-    assert!(rt; mail.has_room(first, second));
-    assert!(rt; !mail.has_mail(second));
-    assert_eq!(rt; mail.send(first, second, value(0)), Ok(()));
-    assert!(rt; mail.has_mail(second));
-    assert_eq!(rt; mail.send(second, first, value(7)), Ok(()));
-    assert_eq!(rt; mail.send(first, second, value(1)), Ok(()));
-    assert!(rt; !mail.has_room(first, second));
-    assert_eq!(rt; mail.send(first, second, value(2)), Err(value(2)));
-    assert_eq!(rt; mail.take(second, first), Some(value(0)));
-    assert_eq!(rt; mail.take(second, first), Some(value(1)));
-    assert_eq!(rt; mail.take(second, first), None);
-    assert!(rt; !mail.has_mail(second));
-    assert!(rt; mail.has_mail(first));
-    assert_eq!(rt; mail.take(first, second), Some(value(7)));
-    assert_eq!(rt; mail.take(first, first), None);
+    is_filled(&rt, &mut mail);
+    is_emptied(&rt, &mut mail);
     Ok(())
+}
+
+// An end with room for one more call sends this envelope, and is answered so.
+fn sends<R: Abort, M: Mail>(
+    rt: &R,
+    end: &mut M,
+    to: CoreId,
+    envelope: Envelope,
+    answer: Result<(), Envelope>,
+) -> Result<(), Fail> {
+    end.room()?;
+    assert_eq!(rt; end.send(to, envelope), answer);
+    Ok(())
+}
+
+// An end with room for one more call takes this envelope, or none.
+fn takes<R: Abort, M: Mail>(
+    rt: &R,
+    end: &mut M,
+    from: CoreId,
+    envelope: Option<Envelope>,
+) -> Result<(), Fail> {
+    end.room()?;
+    assert_eq!(rt; end.take(from), envelope);
+    Ok(())
+}
+
+// Two envelopes fill what leads from one end to the other, a third one comes back, and the oldest one leaves.
+fn fills<R: Abort, M: Mail>(
+    rt: &R,
+    sender: &mut M,
+    receiver: &mut M,
+    (from, to): (CoreId, CoreId),
+) -> Result<(), Fail> {
+    for number in 0..2u64 {
+        sends(rt, sender, to, reply(number), Ok(()))?;
+    }
+    sends(rt, sender, to, reply(2), Err(reply(2)))?;
+    takes(rt, sender, to, None)?;
+    takes(rt, receiver, from, Some(reply(0)))
+}
+
+// A filled mailbox takes the letter whose turn it is once one has left, and no other.
+fn take_in_turn<R: Abort, M: Mail>(rt: &R, sender: &mut M, receiver: &mut M) -> Result<(), Fail> {
+    fills(rt, sender, receiver, (FIRST, SECOND))?;
+    sends(rt, sender, SECOND, reply(3), Err(reply(3)))?;
+    sends(rt, sender, SECOND, reply(2), Ok(()))
+}
+
+// What the ends of the first core and of the second one sent and took.
+fn steps_of(
+    rt: &(impl Abort + Wait),
+    alloc: Global,
+    mail: &LockedMail<4>,
+) -> Result<(Vec<MailStep>, Vec<MailStep>), Fail> {
+    let mut sender = mail.end(rt, alloc, FIRST);
+    let mut receiver = mail.end(rt, alloc, SECOND);
+    take_in_turn(rt, &mut sender, &mut receiver)?;
+    Ok((sender.into_steps(), receiver.into_steps()))
+}
+
+// The mailbox from the first core to the second has what was sent and not taken.
+fn is_settled(rt: &impl Abort, mail: &mut LockedMail<4>, sent: &[MailStep], taken: &[MailStep]) {
+    let Some(left) = mail.left(FIRST, SECOND) else {
+        panic!(rt; "a mailbox")
+    };
+    assert!(rt; left.settles(FIRST, sent, SECOND, taken));
+    assert!(rt; !left.settles(FIRST, sent, SECOND, &[]));
 }
 
 #[test]
 fn what_is_taken_and_left_is_what_was_sent(rt: HostRuntime) -> Result<(), Fail> {
-    let (first, second) = (CoreId { number: 0 }, CoreId { number: 7 });
-    let mut mail: LockedMail<4> = LockedMail::new(rt.alloc(), &[first, second], 2)?;
-    let mut sender = mail.end(&rt, rt.alloc(), first);
-    let mut receiver = mail.end(&rt, rt.alloc(), second);
-    for number in 0..2u64 {
-        sender.room()?;
-        assert_eq!(rt; sender.send(second, reply(number)), Ok(()));
-    }
-    sender.room()?;
-    assert_eq!(rt; sender.send(second, reply(2)), Err(reply(2)));
-    assert_eq!(rt; sender.take(second), None);
-    receiver.room()?;
-    assert_eq!(rt; receiver.take(first), Some(reply(0)));
-    assert_eq!(rt; sender.send(second, reply(3)), Err(reply(3)));
-    assert_eq!(rt; sender.send(second, reply(2)), Ok(()));
-    let (sent, taken) = (sender.into_steps(), receiver.into_steps());
-    let Some(left) = mail.left(first, second) else {
-        panic!(rt; "a mailbox")
-    };
-    let (sent, taken) = (sent.as_slice(), taken.as_slice());
-    assert!(rt; left.settles(first, sent, second, taken));
-    assert!(rt; !left.settles(first, sent, second, &[]));
+    let mut mail: LockedMail<4> = LockedMail::new(rt.alloc(), &[FIRST, SECOND], 2)?;
+    let (sent, taken) = steps_of(&rt, rt.alloc(), &mail)?;
+    is_settled(&rt, &mut mail, sent.as_slice(), taken.as_slice());
+    Ok(())
+}
+
+// Rings pass envelopes both ways, each in order.
+fn pass_both_ways(
+    rt: &impl Abort,
+    sender: &mut RingEnd,
+    receiver: &mut RingEnd,
+) -> Result<(), Fail> {
+    fills(rt, sender, receiver, (FIRST, LAST))?;
+    assert_eq!(rt; sender.send(LAST, reply(2)), Ok(()));
+    assert_eq!(rt; receiver.send(FIRST, value(0)), Ok(()));
+    assert_eq!(rt; receiver.take(FIRST), Some(reply(1)));
+    assert_eq!(rt; sender.take(LAST), Some(value(0)));
+    assert_eq!(rt; receiver.take(FIRST), Some(reply(2)));
+    assert_eq!(rt; receiver.take(FIRST), None);
     Ok(())
 }
 
 #[test]
 fn envelopes_leave_a_ring_in_the_order_in_which_they_came(rt: HostRuntime) -> Result<(), Fail> {
-    let (first, second) = (CoreId { number: 0 }, CoreId { number: 15 });
-    let made: (RingMail<4>, Vec<RingEnd>) = RingMail::new(rt.alloc(), &[first, second], 2)?;
+    let made: (RingMail<4>, Vec<RingEnd>) = RingMail::new(rt.alloc(), &[FIRST, LAST], 2)?;
     let (_mail, mut ends) = made;
     let (Some(mut receiver), Some(mut sender)) = (ends.pop(), ends.pop()) else {
         panic!(rt; "two ends")
     };
-    for number in 0..2u64 {
-        assert_eq!(rt; sender.send(second, reply(number)), Ok(()));
-    }
-    assert_eq!(rt; sender.send(second, reply(2)), Err(reply(2)));
-    assert_eq!(rt; sender.take(second), None);
-    assert_eq!(rt; receiver.take(first), Some(reply(0)));
-    assert_eq!(rt; sender.send(second, reply(2)), Ok(()));
-    assert_eq!(rt; receiver.send(first, value(0)), Ok(()));
-    assert_eq!(rt; receiver.take(first), Some(reply(1)));
-    assert_eq!(rt; sender.take(second), Some(value(0)));
-    assert_eq!(rt; receiver.take(first), Some(reply(2)));
-    assert_eq!(rt; receiver.take(first), None);
-    Ok(())
+    pass_both_ways(&rt, &mut sender, &mut receiver)
 }
 
 #[test]

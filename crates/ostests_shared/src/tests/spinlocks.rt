@@ -7,6 +7,7 @@ use osbase::{CoreId, List, SPINLOCKS, SpinlockId};
 use osshared::Entry;
 use osspin::{SpinAction, SpinBank, SpinCall, SpinList, SpinReply, SpinSeat};
 use std::alloc::{AllocError, Global};
+use std::process::Abort;
 use std::test::Fail;
 use std::thread;
 use std::thread::Threads;
@@ -182,21 +183,71 @@ fn has_expected(core: CoreId, log: &[SpinEntry]) -> bool {
         .all(|(place, entry)| *entry == expected(core, place))
 }
 
+// There is a log for each of these cores, with all that it is to have.
+fn have_expected(rt: &impl Abort, numbers: &[u8], logs: &[Vec<SpinEntry>]) {
+    assert!(rt; logs.len() == 4);
+    for (log, number) in logs.iter().zip(numbers) {
+        assert!(rt; log.len() == 100 * 3 * SPINLOCKS);
+        assert!(rt; has_expected(CoreId { number: *number }, log.as_slice()));
+    }
+}
+
 #[test]
 fn four_threads_share_sixteen_spinlocks(rt: HostRuntime) -> Result<(), Fail> {
-    let numbers = [0u8, 1, 5, 7];
     let mut cores = List::new(rt.alloc());
     cores.push(CoreId { number: 0 })?;
     cores.push(CoreId { number: 1 })?;
     cores.push(CoreId { number: 5 })?;
     cores.push(CoreId { number: 7 })?;
     let logs = run_all(&rt, rt.alloc(), cores)?;
-    assert!(rt; logs.len() == 4);
-    for (log, number) in logs.iter().zip(numbers) {
-        assert!(rt; log.len() == 100 * 3 * SPINLOCKS);
-        assert!(rt; has_expected(CoreId { number }, log.as_slice()));
-    }
+    have_expected(&rt, &[0, 1, 5, 7], logs.as_slice());
     Ok(())
+}
+
+// The first core takes the spinlock. Until it frees it, neither core takes it, and the second one does not free it.
+fn holds_until_freed(
+    rt: &impl Abort,
+    bank: &SpinBank,
+    first: &mut SpinSeat,
+    second: &mut SpinSeat,
+    lock: SpinlockId,
+)
+    requires first { first.old.place ≡ bank.now }
+    requires second { second.old.place ≡ bank.now }
+    requires lock { lock.index < SPINLOCKS }
+    ensures first { first.new.place ≡ first.old.place }
+    ensures second { second.new.place ≡ second.old.place }
+{
+    assert!(rt; bank.look(first, lock).is_none());
+    assert!(rt; bank.try_take(first, lock));
+    assert!(rt; !bank.try_take(second, lock));
+    assert!(rt; !bank.try_take(first, lock));
+    assert!(rt; !bank.free(second, lock));
+    assert!(rt; bank.look(second, lock) == Some(CoreId { number: 0 }));
+    assert!(rt; bank.free(first, lock));
+}
+
+// The second core takes the free spinlock, and the first one gets it once the second one has freed it.
+fn goes_to_second_and_back(
+    rt: &impl Abort,
+    bank: &SpinBank,
+    first: &mut SpinSeat,
+    second: &mut SpinSeat,
+    lock: SpinlockId,
+)
+    requires first { first.old.place ≡ bank.now }
+    requires second { second.old.place ≡ bank.now }
+    requires lock { lock.index < SPINLOCKS }
+{
+    let take = call_of(lock, SpinAction::Take);
+    let look = call_of(lock, SpinAction::Look);
+    let free = call_of(lock, SpinAction::Free);
+    assert!(rt; bank.try_take(second, lock));
+    assert!(rt; bank.look(first, lock) == Some(CoreId { number: 5 }));
+    assert!(rt; bank.call(first, take) == SpinReply::Answered(false));
+    assert!(rt; bank.call(first, look) == SpinReply::Seen(Some(CoreId { number: 5 })));
+    assert!(rt; bank.call(second, free) == SpinReply::Answered(true));
+    assert!(rt; bank.call(first, take) == SpinReply::Answered(true));
 }
 
 #[test]
@@ -205,27 +256,12 @@ fn one_core_holds_a_spinlock(rt: HostRuntime) -> Result<(), Fail> {
     cores.push(CoreId { number: 0 })?;
     cores.push(CoreId { number: 5 })?;
     let (bank, mut seats) = SpinBank::new(rt.alloc(), cores)?;
-    let (Some(mut b), Some(mut a)) = (seats.pop(), seats.pop()) else {
+    let (Some(mut second), Some(mut first)) = (seats.pop(), seats.pop()) else {
         panic!(rt; "two seats")
     };
     let lock = SpinlockId { index: 15 };
-    assert!(rt; bank.look(&mut a, lock).is_none() && bank.try_take(&mut a, lock));
-    assert!(rt;
-        !bank.try_take(&mut b, lock) && !bank.try_take(&mut a, lock) && !bank.free(&mut b, lock)
-    );
-    assert!(rt; bank.look(&mut b, lock) == Some(CoreId { number: 0 }) && bank.free(&mut a, lock));
-    assert!(rt;
-        bank.try_take(&mut b, lock) && bank.look(&mut a, lock) == Some(CoreId { number: 5 })
-    );
-    let (take, free) = (
-        call_of(lock, SpinAction::Take),
-        call_of(lock, SpinAction::Free),
-    );
-    let look = call_of(lock, SpinAction::Look);
-    assert!(rt; bank.call(&mut a, take) == SpinReply::Answered(false));
-    assert!(rt; bank.call(&mut a, look) == SpinReply::Seen(Some(CoreId { number: 5 })));
-    assert!(rt; bank.call(&mut b, free) == SpinReply::Answered(true));
-    assert!(rt; bank.call(&mut a, take) == SpinReply::Answered(true));
+    holds_until_freed(&rt, &bank, &mut first, &mut second, lock);
+    goes_to_second_and_back(&rt, &bank, &mut first, &mut second, lock);
     Ok(())
 }
 

@@ -58,8 +58,32 @@ fn ascend(rt: &impl Abort, report: &Report) {
     }
 }
 
+// So it is of this report, with the letters of all senders. Answers how many there are.
+fn is_clocked(
+    rt: &impl Abort,
+    alloc: Global,
+    receiver: &Report,
+    senders: &[Report],
+) -> Result<usize, Fail> {
+    ascend(rt, receiver);
+    let mut count = 0;
+    for sender in senders {
+        count = usize::saturating_add(count, come_later(rt, alloc, sender, receiver)?);
+    }
+    Ok(count)
+}
+
+// So it is of all these reports. Answers how many letters were received.
+fn are_clocked(rt: &impl Abort, alloc: Global, reports: &[Report]) -> Result<usize, Fail> {
+    let mut count = 0;
+    for receiver in reports {
+        count = usize::saturating_add(count, is_clocked(rt, alloc, receiver, reports)?);
+    }
+    Ok(count)
+}
+
 // So it is of all reports of a run. Answers how many letters were received.
-fn are_clocked(
+fn received(
     rt: &(impl Abort + Threads + Wait + Sync),
     alloc: Global,
     mail: MailKind,
@@ -67,23 +91,28 @@ fn are_clocked(
     turns: u64,
 ) -> Result<usize, Fail> {
     let reports = reports_of(rt, alloc, mail, given(table)?, turns)?;
-    let mut count = 0;
-    for receiver in &reports {
-        ascend(rt, receiver);
-        for sender in &reports {
-            count = usize::saturating_add(count, come_later(rt, alloc, sender, receiver)?);
-        }
+    are_clocked(rt, alloc, reports.as_slice())
+}
+
+// So it is with each kind of mail, and so many letters are received.
+fn all_are_clocked(
+    rt: &(impl Abort + Threads + Wait + Sync),
+    alloc: Global,
+    table: &str,
+    letters: usize,
+    turns: u64,
+) -> Result<(), Fail> {
+    for mail in KINDS.iter() {
+        let count = received(rt, alloc, *mail, table, turns)?;
+        assert_eq!(rt; count, letters);
     }
-    Ok(count)
+    Ok(())
 }
 
 #[test]
 fn clocks_ascend_and_letters_come_after_they_were_sent(rt: HostRuntime) -> Result<(), Fail> {
-    for (table, _, letters, turns) in EXAMPLES.as_slice() {
-        for mail in KINDS.iter() {
-            let count = are_clocked(&rt, rt.alloc(), *mail, table, *turns)?;
-            assert_eq!(rt; count, *letters);
-        }
+    for (example, _, letters, turns) in EXAMPLES.as_slice() {
+        all_are_clocked(&rt, rt.alloc(), example.table(), *letters, *turns)?;
     }
     Ok(())
 }

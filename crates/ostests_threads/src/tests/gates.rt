@@ -251,13 +251,22 @@ fn all_cores_run_at_once(rt: HostRuntime) -> Result<(), Fail> {
     Ok(())
 }
 
+// The sixteen cores end under this gate.
+fn sixteen_end(
+    rt: &(impl Threads + Wait + Sync),
+    alloc: Global,
+    mail: MailKind,
+    gate: &Watcher,
+) -> Result<(), Fail> {
+    let text = text_under(rt, alloc, mail, (SIXTEEN_CORES, "{}"), gate, MANY)?;
+    has(alloc, text.as_str(), "worker ", SIXTEEN_END)
+}
+
 #[test]
 fn sixteen_cores_run_at_once(rt: HostRuntime) -> Result<(), Fail> {
-    let alloc = rt.alloc();
     for mail in KINDS.iter() {
         let gate = Watcher::over(CORES, None, None, true);
-        let text = text_under(&rt, alloc, *mail, (SIXTEEN_CORES, "{}"), &gate, MANY)?;
-        has(alloc, text.as_str(), "worker ", SIXTEEN_END)?;
+        sixteen_end(&rt, rt.alloc(), *mail, &gate)?;
         have_met(&rt, &gate);
     }
     Ok(())
@@ -272,36 +281,85 @@ fn a_core_that_nobody_starts_does_not_hold_up_the_others(rt: HostRuntime) -> Res
     Ok(())
 }
 
+// The separate core prints its block among the four cores.
+fn prints_among_four(
+    rt: &(impl Abort + Threads + Wait + Sync),
+    alloc: Global,
+    mail: MailKind,
+    gate: &Watcher,
+) -> Result<(), Fail> {
+    let text = three_end(rt, alloc, mail, gate)?;
+    assert!(rt; text.contains(SEPARATE));
+    Ok(())
+}
+
+// The separate core prints its block by this configuration, which is its own.
+fn prints_by(
+    rt: &(impl Abort + Threads + Wait + Sync),
+    alloc: Global,
+    mail: MailKind,
+    gate: &Watcher,
+    config: &str,
+) -> Result<(), Fail> {
+    let text = text_under(rt, alloc, mail, (config, STIMULI_OF_CORE_2), gate, MANY)?;
+    has(alloc, text.as_str(), "worker ", "worker 2 ended\n")?;
+    assert!(rt; text.starts_with(SEPARATE));
+    Ok(())
+}
+
+// The separate core prints its block by the configuration that is cut out of that of the four cores.
+fn prints_alone(
+    rt: &(impl Abort + Threads + Wait + Sync),
+    alloc: Global,
+    mail: MailKind,
+    gate: &Watcher,
+) -> Result<(), Fail> {
+    let printed = result_of(rt, alloc, &cut_of(2), &[Some(FOUR_CORES)])?;
+    let (config, _) = printed.split_once('\n').ok_or("a configuration")?;
+    prints_by(rt, alloc, mail, gate, config)
+}
+
 #[test]
 fn a_separate_core_prints_what_its_configuration_alone_prints(rt: HostRuntime) -> Result<(), Fail> {
-    let alloc = rt.alloc();
     for mail in KINDS.iter() {
         let gate = Watcher::new(None, false);
-        let text = three_end(&rt, alloc, *mail, &gate)?;
-        assert!(rt; text.contains(SEPARATE));
-        let printed = result_of(&rt, alloc, &cut_of(2), &[Some(FOUR_CORES)])?;
-        let (alone, _) = printed.split_once('\n').ok_or("a configuration")?;
-        let text = text_under(&rt, alloc, *mail, (alone, STIMULI_OF_CORE_2), &gate, MANY)?;
-        has(alloc, text.as_str(), "worker ", "worker 2 ended\n")?;
-        assert!(rt; text.starts_with(SEPARATE));
+        prints_among_four(&rt, rt.alloc(), *mail, &gate)?;
+        prints_alone(&rt, rt.alloc(), *mail, &gate)?;
     }
     Ok(())
 }
 
+// A run's text begins so, and no worker ended.
+fn none_ends(rt: &impl Abort, alloc: Global, text: &str, start: &str) -> Result<(), Fail> {
+    assert!(rt; text.starts_with(start), "{text}");
+    has(alloc, text, "worker ", NONE_ENDS)
+}
+
+// Core 0 waits for the others, which come to their first turns only once it has stopped: no core ends.
+fn waits_in_vain(
+    rt: &(impl Abort + Threads + Wait + Sync),
+    alloc: Global,
+    mail: MailKind,
+) -> Result<(), Fail> {
+    let gate = Delay::new();
+    let text = four_under(rt, alloc, mail, &gate, SLEEPLESS)?;
+    assert_eq!(rt; gate.missed.load(Ordering::SeqCst), 0);
+    let start = "core 0\nstart 1 E_OK\nstart 2 E_OK\ntook ";
+    none_ends(rt, alloc, text.as_str(), start)
+}
+
 #[test]
 fn a_core_that_waits_for_ever_does_not_end(rt: HostRuntime) -> Result<(), Fail> {
-    let alloc = rt.alloc();
     for mail in KINDS.iter() {
-        let gate = Delay::new();
-        let text = four_under(&rt, alloc, *mail, &gate, SLEEPLESS)?;
-        assert_eq!(rt; gate.missed.load(Ordering::SeqCst), 0);
-        has(alloc, text.as_str(), "worker ", NONE_ENDS)?;
-        assert!(rt;
-            text.starts_with("core 0\nstart 1 E_OK\nstart 2 E_OK\ntook "),
-            "{text}"
-        );
+        waits_in_vain(&rt, rt.alloc(), *mail)?;
     }
     Ok(())
+}
+
+// No worker ended, and none took anything.
+fn none_takes(alloc: Global, text: &str) -> Result<(), Fail> {
+    has(alloc, text, "worker ", NONE_ENDS)?;
+    has(alloc, text, "took ", "took 0\ntook 0\ntook 0\ntook 0\n")
 }
 
 #[test]
@@ -309,14 +367,16 @@ fn with_no_turn_allowed_nothing_is_done(rt: HostRuntime) -> Result<(), Fail> {
     let alloc = rt.alloc();
     for mail in KINDS.iter() {
         let text = four_under(&rt, alloc, *mail, &Watcher::new(None, false), 0)?;
-        has(alloc, text.as_str(), "worker ", NONE_ENDS)?;
-        has(
-            alloc,
-            text.as_str(),
-            "took ",
-            "took 0\ntook 0\ntook 0\ntook 0\n",
-        )?;
+        none_takes(alloc, text.as_str())?;
     }
+    Ok(())
+}
+
+// In a run's text no worker went on, since a thread could not be started, and this core's report is empty.
+fn are_stopped(rt: &impl Abort, alloc: Global, text: &str, core: u8) -> Result<(), Fail> {
+    none_ends(rt, alloc, text, "a thread could not be started\ncore 0\n")?;
+    let none = format!(in alloc; "core {core}\ntook 0\nworker {core} stopped\n")?;
+    assert!(rt; text.contains(none.as_str()), "{text}");
     Ok(())
 }
 
@@ -329,14 +389,7 @@ fn stops_all(
 ) -> Result<(), Fail> {
     let gate = Watcher::new(Some(CoreId { number: core }), false);
     let text = four_under(rt, alloc, mail, &gate, MANY)?;
-    assert!(rt;
-        text.starts_with("a thread could not be started\ncore 0\n"),
-        "{text}"
-    );
-    has(alloc, text.as_str(), "worker ", NONE_ENDS)?;
-    let none = format!(in alloc; "core {core}\ntook 0\nworker {core} stopped\n")?;
-    assert!(rt; text.contains(none.as_str()), "{text}");
-    Ok(())
+    are_stopped(rt, alloc, text.as_str(), core)
 }
 
 #[test]

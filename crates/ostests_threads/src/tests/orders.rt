@@ -5,12 +5,10 @@ ghost use Rattle.osplan.specs.Stimuli.{AreKnown};
 ghost use Rattle.osrun.specs.Sound.{IsOwn};
 
 use super::gates::{FOUR_CORES, STIMULI, Watcher};
-use super::spinlocks::OWED;
-use super::threads::{BOUND_AND_SEPARATE, FEW, KINDS, MANY};
+use super::threads::{Example, FEW, KINDS, MANY};
 use osbase::{CoreId, Report, Schedule, Turn};
 use osconf::{Config, Stimuli, read_config, read_schedule, read_stimuli};
 use osjob::Yielding;
-use osplay::examples::{ALL_DOWN, MUTUAL};
 use osplay::given;
 use osthreads::{Gate, MailKind, ThreadReason, run_threads};
 use ostrace::schedule_text;
@@ -53,6 +51,22 @@ fn is_listed(listed: &Report, report: &Report) -> bool {
         && listed.ended == report.ended
 }
 
+// The reports of a listed run are these.
+fn are_listed(rt: &impl Abort, listed: &[Report], reports: &[Report]) {
+    assert_eq!(rt; listed.len(), reports.len());
+    for (one, report) in listed.iter().zip(reports) {
+        assert!(rt; is_listed(one, report));
+    }
+}
+
+// The text of these turns is read as these turns.
+fn is_read(rt: &impl Abort, alloc: Global, config: &Config, turns: &[Turn]) -> Result<(), Fail> {
+    let text = schedule_text(alloc, turns)?;
+    let read = read_schedule(alloc, config, text.as_str())?;
+    assert!(rt; read.as_slice() == turns);
+    Ok(())
+}
+
 // The listed run of these turns has these reports, and its text is read as these turns.
 fn plays(
     rt: &impl Abort,
@@ -65,14 +79,8 @@ fn plays(
     requires { AreKnown config.now stimuli.now }
 {
     let listed = run_world(alloc, config, stimuli, turns)?;
-    assert_eq!(rt; listed.len(), reports.len());
-    for (one, report) in listed.iter().zip(reports) {
-        assert!(rt; is_listed(one, report));
-    }
-    let text = schedule_text(alloc, turns)?;
-    let read = read_schedule(alloc, config, text.as_str())?;
-    assert!(rt; read.as_slice() == turns);
-    Ok(())
+    are_listed(rt, listed.as_slice(), reports);
+    is_read(rt, alloc, config, turns)
 }
 
 // These reports have an order.
@@ -90,6 +98,22 @@ fn are_ordered(
     plays(rt, alloc, config, stimuli, turns.as_slice(), reports)
 }
 
+// A run by threads of what was read has an order.
+fn run_has_order(
+    rt: &(impl Abort + Threads + Wait + Sync),
+    alloc: Global,
+    mail: MailKind,
+    config: &Config,
+    stimuli: &Stimuli,
+    turns: u64,
+) -> Result<(), Fail>
+    requires { AreKnown config.now stimuli.now }
+{
+    let gate = Yielding::new();
+    let reports = run_threads(rt, alloc, config, stimuli, mail, &gate, turns)?;
+    are_ordered(rt, alloc, config, stimuli, reports.as_slice())
+}
+
 // A run by threads has an order.
 fn has_order(
     rt: &(impl Abort + Threads + Wait + Sync),
@@ -100,18 +124,30 @@ fn has_order(
 ) -> Result<(), Fail> {
     let config = read_config(alloc, config)?;
     let stimuli = read_stimuli(alloc, &config, stimuli)?;
-    let gate = Yielding::new();
-    let reports = run_threads(rt, alloc, &config, &stimuli, mail, &gate, turns)?;
-    are_ordered(rt, alloc, &config, &stimuli, reports.as_slice())
+    run_has_order(rt, alloc, mail, &config, &stimuli, turns)
 }
+
+/// Examples whose runs have an order.
+const ORDERED: [Example; 4] = [
+    Example::Mutual,
+    Example::BoundAndSeparate,
+    Example::AllDown,
+    Example::Owed,
+];
 
 #[test]
 fn runs_by_threads_have_an_order(rt: HostRuntime) -> Result<(), Fail> {
-    let tables = [MUTUAL, BOUND_AND_SEPARATE, ALL_DOWN, OWED];
     for mail in KINDS.iter() {
-        for table in tables.as_slice() {
-            has_order(&rt, rt.alloc(), *mail, given(table)?, MANY)?;
+        for example in ORDERED.as_slice() {
+            has_order(&rt, rt.alloc(), *mail, given(example.table())?, MANY)?;
         }
+    }
+    Ok(())
+}
+
+#[test]
+fn calls_and_spinlocks_of_threads_have_an_order(rt: HostRuntime) -> Result<(), Fail> {
+    for mail in KINDS.iter() {
         for run in CALLS.as_slice() {
             has_order(&rt, rt.alloc(), *mail, *run, MANY)?;
         }
@@ -120,7 +156,29 @@ fn runs_by_threads_have_an_order(rt: HostRuntime) -> Result<(), Fail> {
     Ok(())
 }
 
-// A run whose gate refuses a core's thread has an order.
+// A run of what was read whose gate refuses a core's thread has an order.
+fn refused_run_has_order(
+    rt: &(impl Abort + Threads + Wait + Sync),
+    alloc: Global,
+    mail: MailKind,
+    config: &Config,
+    stimuli: &Stimuli,
+    gate: &Watcher,
+) -> Result<(), Fail>
+    requires { AreKnown config.now stimuli.now }
+{
+    match run_threads(rt, alloc, config, stimuli, mail, gate, FEW) {
+        Ok(_) => Err(Fail::from("a thread was refused")),
+        Err(fault) => match fault.reason {
+            ThreadReason::NoThread => {
+                are_ordered(rt, alloc, config, stimuli, fault.reports.as_slice())
+            }
+            _ => Err(Fail::from(fault)),
+        },
+    }
+}
+
+// A run of the four cores whose gate refuses a core's thread has an order.
 fn has_order_without(
     rt: &(impl Abort + Threads + Wait + Sync),
     alloc: Global,
@@ -129,15 +187,7 @@ fn has_order_without(
 ) -> Result<(), Fail> {
     let config = read_config(alloc, FOUR_CORES)?;
     let stimuli = read_stimuli(alloc, &config, STIMULI)?;
-    match run_threads(rt, alloc, &config, &stimuli, mail, gate, FEW) {
-        Ok(_) => Err(Fail::from("a thread was refused")),
-        Err(fault) => match fault.reason {
-            ThreadReason::NoThread => {
-                are_ordered(rt, alloc, &config, &stimuli, fault.reports.as_slice())
-            }
-            _ => Err(Fail::from(fault)),
-        },
-    }
+    refused_run_has_order(rt, alloc, mail, &config, &stimuli, gate)
 }
 
 #[test]
@@ -161,7 +211,7 @@ fn has_none(rt: &impl Abort, alloc: Global, config: &Config, stimuli: &Stimuli)
 
 #[test]
 fn reports_that_lack_a_core_have_no_order(rt: HostRuntime) -> Result<(), Fail> {
-    let (config, stimuli) = given(MUTUAL)?;
+    let (config, stimuli) = given(Example::Mutual.table())?;
     let config = read_config(rt.alloc(), config)?;
     let stimuli = read_stimuli(rt.alloc(), &config, stimuli)?;
     has_none(&rt, rt.alloc(), &config, &stimuli);

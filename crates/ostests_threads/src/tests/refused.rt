@@ -204,13 +204,23 @@ fn has_taken(steps: &[MailStep]) -> bool {
     }
 }
 
+// Core 1 sends the envelope to core 0.
+fn post(
+    rt: &(impl Abort + Wait),
+    alloc: Global,
+    mail: &LockedMail<MAILBOX>,
+) -> Result<(), AllocError> {
+    let mut other = mail.end(rt, alloc, CORE_1);
+    other.room()?;
+    assert_eq!(rt; other.send(CORE_0, ENVELOPE), Ok(()));
+    Ok(())
+}
+
 #[test]
 fn a_reply_that_nobody_awaits_stops_a_worker(rt: HostRuntime) -> Result<(), Fail> {
     let alloc = rt.alloc();
     let mail: LockedMail<MAILBOX> = LockedMail::new(alloc, &[CORE_0, CORE_1], 1)?;
-    let mut other = mail.end(&rt, alloc, CORE_1);
-    other.room()?;
-    assert_eq!(rt; other.send(CORE_0, ENVELOPE), Ok(()));
+    post(&rt, alloc, &mail)?;
     let worked = work(&rt, alloc, mail.end(&rt, alloc, CORE_0));
     judge(&rt, &worked.report, worked.stop);
     assert!(rt; has_taken(worked.mail.into_steps().as_slice()));

@@ -2,7 +2,7 @@
 
 ghost use Rattle.osplan.specs.Stimuli.{AreKnown};
 
-use osbase::Report;
+use osbase::{CoreId, Report};
 use osconf::{Config, Stimuli, read_config, read_stimuli};
 use osjob::Yielding;
 use oslog::items_text;
@@ -52,6 +52,24 @@ fn fault_text(alloc: Global, config: &Config, fault: &ThreadFault) -> Result<Str
     Ok(format!(in alloc; "{}\n{text}", fault.reason)?)
 }
 
+// The reports of such a run, as a text. Where it broke off, its first line says why.
+fn text_of<R: Threads + Wait + Sync, G: Gate + Sync>(
+    rt: &R,
+    alloc: Global,
+    mail: MailKind,
+    config: &Config,
+    stimuli: &Stimuli,
+    gate: &G,
+    turns: u64,
+) -> Result<String, Fail>
+    requires { AreKnown config.now stimuli.now }
+{
+    match reports_under(rt, alloc, mail, config, stimuli, gate, turns) {
+        Ok(reports) => reports_text(alloc, config, reports.as_slice()),
+        Err(fault) => fault_text(alloc, config, &fault),
+    }
+}
+
 /// The reports of a run by threads with this kind of mail, under a gate, as a text. Where the run broke off, its first line says why.
 pub(super) fn text_under<R: Threads + Wait + Sync, G: Gate + Sync>(
     rt: &R,
@@ -63,10 +81,20 @@ pub(super) fn text_under<R: Threads + Wait + Sync, G: Gate + Sync>(
 ) -> Result<String, Fail> {
     let config = read_config(alloc, config)?;
     let stimuli = read_stimuli(alloc, &config, stimuli)?;
-    match reports_under(rt, alloc, mail, &config, &stimuli, gate, turns) {
-        Ok(reports) => reports_text(alloc, &config, reports.as_slice()),
-        Err(fault) => fault_text(alloc, &config, &fault),
-    }
+    text_of(rt, alloc, mail, &config, &stimuli, gate, turns)
+}
+
+// A core's log replays to this block, by a configuration. Both are given as texts.
+fn replays_to(
+    rt: &(impl Threads + Wait + Sync),
+    alloc: Global,
+    core: CoreId,
+    (config, log): (&str, &str),
+    block: &str,
+) -> Result<(), Fail> {
+    let job = replay_of(core.number);
+    compare(rt, alloc, &job, &[Some(config), Some(log)], (block, "", 0))?;
+    Ok(())
 }
 
 // The report's log replays to its block, by the configuration of this text.
@@ -79,23 +107,36 @@ fn replay_one(
     let log = items_text(alloc, config, report.items.as_slice());
     let log = log.ok().ok_or("a log")?;
     let block = blocks_of(alloc, config, slice::from_ref(report))?;
-    let job = replay_of(report.core.number);
-    let texts = [Some(text), Some(log.as_str())];
-    compare(rt, alloc, &job, &texts, (block.as_str(), "", 0))?;
-    Ok(())
+    replays_to(rt, alloc, report.core, (text, log.as_str()), block.as_str())
 }
 
-// Each report's log replays to its block.
+// Each report's log replays to its block, by the configuration of this text.
 fn replay_all(
     rt: &(impl Threads + Wait + Sync),
     alloc: Global,
-    (text, config): (&str, &Config),
+    text: &str,
     reports: &[Report],
 ) -> Result<(), Fail> {
+    let config = read_config(alloc, text)?;
     for report in reports {
-        replay_one(rt, alloc, (text, config), report)?;
+        replay_one(rt, alloc, (text, &config), report)?;
     }
     Ok(())
+}
+
+// The reports of a run by threads with this kind of mail, which comes to its end.
+fn reports_at_end(
+    rt: &(impl Threads + Wait + Sync),
+    alloc: Global,
+    mail: MailKind,
+    config: &Config,
+    stimuli: &Stimuli,
+    turns: u64,
+) -> Result<Vec<Report>, Fail>
+    requires { AreKnown config.now stimuli.now }
+{
+    let gate = Yielding::new();
+    Ok(reports_under(rt, alloc, mail, config, stimuli, &gate, turns)?)
 }
 
 /// The reports of a run by threads with this kind of mail.
@@ -108,8 +149,7 @@ pub(super) fn reports_of(
 ) -> Result<Vec<Report>, Fail> {
     let config = read_config(alloc, config)?;
     let stimuli = read_stimuli(alloc, &config, stimuli)?;
-    let gate = Yielding::new();
-    Ok(reports_under(rt, alloc, mail, &config, &stimuli, &gate, turns)?)
+    reports_at_end(rt, alloc, mail, &config, &stimuli, turns)
 }
 
 /// Each report's log of a run by threads with this kind of mail replays to its block. Answers how many reports there are.
@@ -121,8 +161,7 @@ pub(super) fn replays(
     turns: u64,
 ) -> Result<usize, Fail> {
     let reports = reports_of(rt, alloc, mail, texts, turns)?;
-    let (text, _) = texts;
-    let config = read_config(alloc, text)?;
-    replay_all(rt, alloc, (text, &config), reports.as_slice())?;
+    let (config, _) = texts;
+    replay_all(rt, alloc, config, reports.as_slice())?;
     Ok(reports.len())
 }

@@ -21,7 +21,7 @@ pub const KINDS: [MailKind; 2] = [MailKind::Ring, MailKind::Locked];
 /// Some turns, for a run that does not end.
 pub(super) const FEW: u64 = 1_000;
 
-pub(super) const BOUND_AND_SEPARATE: &str = r#"
+const BOUND_AND_SEPARATE: &str = r#"
 // Two cores, each of whose first task activates the other's second one, and a separate core.
 config {"cores":[{"id":0,"start":[1,2],"tasks":[{"name":"A","prio":2,"auto":["M"],"script":"ActivateTask D;TerminateTask"},{"name":"C","prio":1,"script":"TerminateTask"}]},{"id":1,"tasks":[{"name":"B","prio":2,"auto":["M"],"script":"ActivateTask C;TerminateTask"},{"name":"D","prio":1,"script":"TerminateTask"}]},{"id":2,"tasks":[{"name":"V","prio":1,"auto":["M"],"script":"add v0 3;TerminateTask"}]}]}
 check
@@ -222,6 +222,15 @@ fn threaded(
     result_of(rt, alloc, &threads_of(mail, turns, None), &texts)
 }
 
+// Two cores that called each other have their answers, and the text of the run, which ended, ends so.
+fn has_both_answers(rt: &impl Abort, text: &str, end: &str) -> Result<(), Fail> {
+    assert!(rt; text.contains("stat A ActivateTask E_OK\n"));
+    assert!(rt; text.contains("stat B ActivateTask E_OK\n"));
+    let ended = text.strip_suffix("and reports\nand exits with 0");
+    assert!(rt; ended.ok_or("a run that ended")?.ends_with(end));
+    Ok(())
+}
+
 // Two cores that call each other end, and the run's text ends so.
 fn both_answer(
     rt: &(impl Abort + Threads + Wait + Sync),
@@ -230,11 +239,7 @@ fn both_answer(
     (table, end): (&str, &str),
 ) -> Result<(), Fail> {
     let result = threaded(rt, alloc, mail, table, MANY)?;
-    assert!(rt; result.contains("stat A ActivateTask E_OK\n"));
-    assert!(rt; result.contains("stat B ActivateTask E_OK\n"));
-    let text = result.strip_suffix("and reports\nand exits with 0");
-    assert!(rt; text.ok_or("a run that ended")?.ends_with(end));
-    Ok(())
+    has_both_answers(rt, result.as_str(), end)
 }
 
 #[test]
@@ -248,6 +253,17 @@ fn cores_that_call_each_other_end_and_a_separate_one_prints_its_block(
     Ok(())
 }
 
+// Each of the sixteen cores got its answer, and the run ended.
+fn has_sixteen_answers(rt: &impl Abort, alloc: Global, text: &str) -> Result<(), Fail> {
+    for core in 0..16u8 {
+        let answered = format!(in alloc; "stat A{core} ActivateTask E_OK\n")?;
+        assert!(rt; text.contains(answered.as_str()), "{answered}");
+    }
+    assert!(rt; !text.contains("E_OS_"));
+    assert!(rt; text.ends_with("ended\nand reports\nand exits with 0"));
+    Ok(())
+}
+
 // Each of the sixteen cores gets its answer, and the run ends.
 fn ring_answers(
     rt: &(impl Abort + Threads + Wait + Sync),
@@ -255,13 +271,7 @@ fn ring_answers(
     mail: MailKind,
 ) -> Result<(), Fail> {
     let result = threaded(rt, alloc, mail, RING, MANY)?;
-    for core in 0..16u8 {
-        let answered = format!(in alloc; "stat A{core} ActivateTask E_OK\n")?;
-        assert!(rt; result.contains(answered.as_str()), "{answered}");
-    }
-    assert!(rt; !result.contains("E_OS_"));
-    assert!(rt; result.ends_with("ended\nand reports\nand exits with 0"));
-    Ok(())
+    has_sixteen_answers(rt, alloc, result.as_str())
 }
 
 #[test]
@@ -272,28 +282,83 @@ fn sixteen_cores_in_a_ring_answer_each_other(rt: HostRuntime) -> Result<(), Fail
     Ok(())
 }
 
-/// Tables whose first files are run, with how many cores and letters each run has, and its turns.
-pub(super) const EXAMPLES: [(&str, usize, usize, u64); 9] = [
-    (MUTUAL, 2, 4, MANY),
-    (BOUND_AND_SEPARATE, 3, 4, MANY),
-    (ALL_DOWN, 2, 0, MANY),
-    (ASKERS, 2, 0, MANY),
-    (OWED, 2, 0, MANY),
-    (POLLING, 2, 0, MANY),
-    (SHARED, 3, 0, MANY),
-    (RING, 16, 32, MANY),
-    (REFUSED, 2, 0, FEW),
+/// A table whose first files are run.
+#[derive(Clone, Copy)]
+pub(super) enum Example {
+    Mutual,
+    BoundAndSeparate,
+    AllDown,
+    Askers,
+    Owed,
+    Polling,
+    Shared,
+    Ring,
+    Refused,
+}
+
+impl Example {
+    pub(super) fn table(self) -> &'static str {
+        match self {
+            Example::Mutual => MUTUAL,
+            Example::BoundAndSeparate => BOUND_AND_SEPARATE,
+            Example::AllDown => ALL_DOWN,
+            Example::Askers => ASKERS,
+            Example::Owed => OWED,
+            Example::Polling => POLLING,
+            Example::Shared => SHARED,
+            Example::Ring => RING,
+            Example::Refused => REFUSED,
+        }
+    }
+}
+
+/// Examples, with how many cores and letters each run has, and its turns.
+pub(super) const EXAMPLES: [(Example, usize, usize, u64); 9] = [
+    (Example::Mutual, 2, 4, MANY),
+    (Example::BoundAndSeparate, 3, 4, MANY),
+    (Example::AllDown, 2, 0, MANY),
+    (Example::Askers, 2, 0, MANY),
+    (Example::Owed, 2, 0, MANY),
+    (Example::Polling, 2, 0, MANY),
+    (Example::Shared, 3, 0, MANY),
+    (Example::Ring, 16, 32, MANY),
+    (Example::Refused, 2, 0, FEW),
 ];
+
+// With each kind of mail so many cores' logs replay to their blocks.
+fn each_replays(
+    rt: &(impl Abort + Threads + Wait + Sync),
+    alloc: Global,
+    texts: (&str, &str),
+    cores: usize,
+    turns: u64,
+) -> Result<(), Fail> {
+    for mail in KINDS.iter() {
+        let replayed = replays(rt, alloc, *mail, texts, turns)?;
+        assert_eq!(rt; replayed, cores);
+    }
+    Ok(())
+}
 
 #[test]
 fn each_log_of_a_run_by_threads_replays_to_its_block(rt: HostRuntime) -> Result<(), Fail> {
-    for (table, cores, _, turns) in EXAMPLES.as_slice() {
-        let (config, stimuli) = given(table)?;
-        for mail in KINDS.iter() {
-            let replayed = replays(&rt, rt.alloc(), *mail, (config, stimuli), *turns)?;
-            assert_eq!(rt; replayed, *cores);
-        }
+    for (example, cores, _, turns) in EXAMPLES.as_slice() {
+        each_replays(&rt, rt.alloc(), given(example.table())?, *cores, *turns)?;
     }
+    Ok(())
+}
+
+// A run by threads of a table's first files ends, with this kind of mail, and has one of these results.
+fn ends_as(
+    rt: &(impl Abort + Threads + Wait + Sync),
+    alloc: Global,
+    mail: MailKind,
+    table: &str,
+    (one, other): (&str, &str),
+) -> Result<(), Fail> {
+    let result = threaded(rt, alloc, mail, table, MANY)?;
+    assert!(rt; result.ends_with("ended\nand reports\nand exits with 0"));
+    assert!(rt; result.as_str() == one || result.as_str() == other);
     Ok(())
 }
 
@@ -310,9 +375,7 @@ fn is_either(
     let one = result_of(rt, alloc, &run_of(None), &[Some(config), Some(stimuli)])?;
     let other = result_of(rt, alloc, &run_of(schedule), files)?;
     for mail in KINDS.iter() {
-        let result = threaded(rt, alloc, *mail, table, MANY)?;
-        assert!(rt; result.ends_with("ended\nand reports\nand exits with 0"));
-        assert!(rt; result.as_str() == one.as_str() || result.as_str() == other.as_str());
+        ends_as(rt, alloc, *mail, table, (one.as_str(), other.as_str()))?;
     }
     Ok(())
 }
