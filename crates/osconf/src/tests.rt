@@ -42,10 +42,6 @@ enum Reader {
     SecondSchedule,
 }
 
-// A table of texts and their faults: what the texts are read as, what they stand in, in place of its `@`, and the table's
-// lines, which `play` reads.
-type Table = (Reader, &'static str, &'static str);
-
 // The text with a value in place of its `@`.
 fn filled(alloc: Global, text: &str, value: &str) -> Result<String, Fail> {
     let (before, after) = text.split_once('@').ok_or("a place to fill")?;
@@ -68,10 +64,23 @@ fn listed(alloc: Global, word: &str, between: &str, count: u32) -> Result<String
     let mut all = String::new(alloc);
     for index in 0..count {
         let between = if index == 0 { "" } else { between };
-        let word = format!(in alloc; "{between}{before}{index}{after}")?;
-        all.push_str(word.as_str())?;
+        push_word(alloc, &mut all, between, (before, after), index)?;
     }
     Ok(all)
+}
+
+// Appends a word, of which `parts` stand before and behind its index.
+fn push_word(
+    alloc: Global,
+    all: &mut String,
+    between: &str,
+    parts: (&str, &str),
+    index: u32,
+) -> Result<(), Fail> {
+    let (before, after) = parts;
+    let word = format!(in alloc; "{between}{before}{index}{after}")?;
+    all.push_str(word.as_str())?;
+    Ok(())
 }
 
 // So many times the same word.
@@ -79,11 +88,16 @@ fn repeated(alloc: Global, word: &str, between: &str, count: u32) -> Result<Stri
     let Some(others) = count.checked_sub(1) else {
         return Ok(String::new(alloc));
     };
-    let mut first = String::from_str(alloc, word)?;
-    first.push_str(between)?;
-    let mut all = first.as_str().repeat(alloc, others as usize)?;
+    let mut all = repeated_both(alloc, word, between, others)?;
     all.push_str(word)?;
     Ok(all)
+}
+
+// So many times the word and what is behind it.
+fn repeated_both(alloc: Global, word: &str, behind: &str, count: u32) -> Result<String, Fail> {
+    let mut both = String::from_str(alloc, word)?;
+    both.push_str(behind)?;
+    Ok(both.as_str().repeat(alloc, count as usize)?)
 }
 
 // The configuration in which stimuli and turns find their cores and ISRs.
@@ -108,8 +122,13 @@ fn fault_of(alloc: Global, reader: Reader, text: &str) -> Result<Option<ConfFaul
 
 fn cut_fault(alloc: Global, text: &str, core: CoreId) -> Result<Option<ConfFault>, Fail> {
     let config = read_config(alloc, text)?;
-    let refused = cut(alloc, &config, core).err();
-    let is_told = is_separate(&config, core) == refused.is_none();
+    fault_of_core(alloc, &config, core)
+}
+
+// Why the core is not cut out of the configuration, if it is not.
+fn fault_of_core(alloc: Global, config: &Config, core: CoreId) -> Result<Option<ConfFault>, Fail> {
+    let refused = cut(alloc, config, core).err();
+    let is_told = is_separate(config, core) == refused.is_none();
     Ok(is_told.then_some(refused).ok_or("is_separate says so too")?)
 }
 
@@ -121,6 +140,17 @@ fn stimuli_fault(alloc: Global, reader: Reader, text: &str) -> Result<Option<Con
 fn schedule_fault(alloc: Global, reader: Reader, text: &str) -> Result<Option<ConfFault>, Fail> {
     let config = named_in(alloc, reader)?;
     Ok(read_schedule(alloc, &config, text).err())
+}
+
+// The fault of the text with a value in place of its `@`.
+fn fault_with(
+    alloc: Global,
+    reader: Reader,
+    text: &str,
+    value: &str,
+) -> Result<Option<ConfFault>, Fail> {
+    let whole = filled(alloc, text, value)?;
+    fault_of(alloc, reader, whole.as_str())
 }
 
 // What is read, as it is printed for debugging; or the configuration's text.
@@ -147,30 +177,57 @@ fn written_text(alloc: Global, text: &str) -> Result<String, Fail> {
 
 fn cut_text(alloc: Global, text: &str, core: CoreId) -> Result<String, Fail> {
     let config = read_config(alloc, text)?;
-    text_of(alloc, &cut(alloc, &config, core)?)
+    text_of_core(alloc, &config, core)
+}
+
+// The text of the core's configuration, cut out of the whole.
+fn text_of_core(alloc: Global, config: &Config, core: CoreId) -> Result<String, Fail> {
+    let alone = cut(alloc, config, core)?;
+    text_of(alloc, &alone)
 }
 
 fn shown_stimuli(alloc: Global, reader: Reader, text: &str) -> Result<String, Fail> {
     let config = named_in(alloc, reader)?;
-    let stimuli = read_stimuli(alloc, &config, text)?;
+    shown_stimuli_for(alloc, &config, text)
+}
+
+fn shown_stimuli_for(alloc: Global, config: &Config, text: &str) -> Result<String, Fail> {
+    let stimuli = read_stimuli(alloc, config, text)?;
     Ok(format!(in alloc; "{:?}", stimuli.as_slice())?)
 }
 
 fn shown_schedule(alloc: Global, reader: Reader, text: &str) -> Result<String, Fail> {
     let config = named_in(alloc, reader)?;
-    let turns = read_schedule(alloc, &config, text)?;
+    shown_schedule_for(alloc, &config, text)
+}
+
+fn shown_schedule_for(alloc: Global, config: &Config, text: &str) -> Result<String, Fail> {
+    let turns = read_schedule(alloc, config, text)?;
     Ok(format!(in alloc; "{:?}", turns.as_slice())?)
 }
 
 // The configuration's text, which is read and written again as it stands.
 fn text_of(alloc: Global, config: &Config) -> Result<String, Fail> {
     let text = config_text(alloc, config)?;
-    let again = config_text(alloc, &read_config(alloc, text.as_str())?)?;
-    let is_same = again.as_str() == text.as_str();
-    Ok(is_same.then_some(text).ok_or("the same text again")?)
+    stays(alloc, text.as_str())?;
+    Ok(text)
 }
 
-// Plays a table, and counts its cases. Its lines are, in this order for each group of texts:
+// The text is read and written again as it stands.
+fn stays(alloc: Global, text: &str) -> Result<(), Fail> {
+    let again = rewritten(alloc, text)?;
+    let is_same = again.as_str() == text;
+    Ok(is_same.then_some(()).ok_or("the same text again")?)
+}
+
+// The text of the configuration that the text is read as.
+fn rewritten(alloc: Global, text: &str) -> Result<String, Fail> {
+    let config = read_config(alloc, text)?;
+    Ok(config_text(alloc, &config)?)
+}
+
+// Plays a table of texts and their faults, which has so many cases. The texts stand in the frame, in place of its `@`. The lines are,
+// in this order for each group of texts:
 // `text T|T|..`: texts with an `@`; those of neighbouring lines are one group. Without any the frame is the text.
 // `each [B] W`: behind this line a value is a count, and stands for so many words W with B between them.
 // `is R`: each text of the group, which has no `@` then, is read as R, or as it stands where there is no R.
@@ -181,13 +238,28 @@ fn play(
     alloc: Global,
     reader: Reader,
     frame: &str,
-    table: &str,
-) -> Result<usize, Fail> {
+    lines: &str,
+    cases: usize,
+) -> Result<(), Fail> {
     let mut texts = vec![in alloc; String::from_str(alloc, frame)?]?;
+    let played = play_lines(rt, alloc, reader, frame, lines, &mut texts)?;
+    assert_eq!(rt; played, cases);
+    Ok(())
+}
+
+// Plays a table's lines, and counts their cases. `texts` has the group's, and before the first group the frame.
+fn play_lines(
+    rt: &impl Abort,
+    alloc: Global,
+    reader: Reader,
+    frame: &str,
+    lines: &str,
+    texts: &mut Vec<String>,
+) -> Result<usize, Fail> {
     let mut each = None;
     let mut judged = true;
     let mut cases = 0usize;
-    for line in table.lines() {
+    for line in lines.lines() {
         let (head, rest) = line.split_once(' ').unwrap_or((line, ""));
         match head {
             "" | "//" => {}
@@ -197,9 +269,7 @@ fn play(
                     each = None;
                     judged = false;
                 }
-                for text in rest.split('|') {
-                    texts.push(filled(alloc, frame, text)?)?;
-                }
+                add_texts(alloc, texts, frame, rest)?;
             }
             "each" => each = Some(word_of(rest)?),
             "is" => {
@@ -209,15 +279,20 @@ fn play(
             }
             fault => {
                 judged = true;
-                for value in rest.split('|') {
-                    let value = worded(alloc, each, value)?;
-                    judge(rt, alloc, reader, texts.as_slice(), value.as_str(), fault)?;
-                    cases = cases.saturating_add(texts.len());
-                }
+                let more = judge_all(rt, alloc, reader, texts.as_slice(), each, rest, fault)?;
+                cases = cases.saturating_add(more);
             }
         }
     }
     Ok(cases)
+}
+
+// Adds the frame with each of the words in place of its `@`.
+fn add_texts(alloc: Global, texts: &mut Vec<String>, frame: &str, words: &str) -> Result<(), Fail> {
+    for word in words.split('|') {
+        texts.push(filled(alloc, frame, word)?)?;
+    }
+    Ok(())
 }
 
 // Of `[B] W` the word W and what is between two of it.
@@ -252,6 +327,25 @@ fn compare(
     Ok(())
 }
 
+// Each of the texts with each of the values has the fault. Counts these cases.
+fn judge_all(
+    rt: &impl Abort,
+    alloc: Global,
+    reader: Reader,
+    texts: &[String],
+    each: Option<(&str, &str)>,
+    values: &str,
+    fault: &str,
+) -> Result<usize, Fail> {
+    let mut cases = 0usize;
+    for value in values.split('|') {
+        let value = worded(alloc, each, value)?;
+        judge(rt, alloc, reader, texts, value.as_str(), fault)?;
+        cases = cases.saturating_add(texts.len());
+    }
+    Ok(cases)
+}
+
 // Each of the texts with the value has the fault.
 fn judge(
     rt: &impl Abort,
@@ -262,106 +356,9 @@ fn judge(
     fault: &str,
 ) -> Result<(), Fail> {
     for text in texts {
-        let whole = filled(alloc, text.as_str(), value)?;
-        let refused = fault_of(alloc, reader, whole.as_str())?;
+        let refused = fault_with(alloc, reader, text.as_str(), value)?;
         let name = refused.map_or("fine", |refused| refused.name());
         assert!(rt; name == fault, "{text} {fault}");
     }
     Ok(())
-}
-
-// Plays the tables. They have so many cases.
-fn play_all(rt: &impl Abort, alloc: Global, tables: &[Table], cases: usize) -> Result<(), Fail> {
-    let mut played = 0usize;
-    for (reader, frame, table) in tables {
-        let more = play(rt, alloc, *reader, frame, table)?;
-        played = played.saturating_add(more);
-    }
-    assert_eq!(rt; played, cases);
-    Ok(())
-}
-
-#[test]
-fn texts_that_are_no_configurations(rt: HostRuntime) -> Result<(), Fail> {
-    play_all(&rt, rt.alloc(), hostile::ALL, 398)
-}
-
-#[test]
-fn texts_at_limits(rt: HostRuntime) -> Result<(), Fail> {
-    play_all(&rt, rt.alloc(), limits::ALL, 194)
-}
-
-#[test]
-fn texts_with_modes(rt: HostRuntime) -> Result<(), Fail> {
-    play_all(&rt, rt.alloc(), modes::ALL, 143)
-}
-
-#[test]
-fn texts_with_spinlocks(rt: HostRuntime) -> Result<(), Fail> {
-    play_all(&rt, rt.alloc(), spinlocks::ALL, 287)
-}
-
-#[test]
-fn texts_with_names(rt: HostRuntime) -> Result<(), Fail> {
-    play_all(&rt, rt.alloc(), names::ALL, 128)
-}
-
-#[test]
-fn texts_with_arguments(rt: HostRuntime) -> Result<(), Fail> {
-    play_all(&rt, rt.alloc(), operations::ALL, 109)
-}
-
-#[test]
-fn texts_with_names_and_numbers(rt: HostRuntime) -> Result<(), Fail> {
-    play_all(&rt, rt.alloc(), numbers::ALL, 703)
-}
-
-#[test]
-fn texts_with_events(rt: HostRuntime) -> Result<(), Fail> {
-    play_all(&rt, rt.alloc(), events::ALL, 180)
-}
-
-#[test]
-fn texts_with_resources(rt: HostRuntime) -> Result<(), Fail> {
-    play_all(&rt, rt.alloc(), resources::ALL, 105)
-}
-
-#[test]
-fn texts_with_counters(rt: HostRuntime) -> Result<(), Fail> {
-    play_all(&rt, rt.alloc(), counters::ALL, 157)
-}
-
-#[test]
-fn texts_with_isrs(rt: HostRuntime) -> Result<(), Fail> {
-    play_all(&rt, rt.alloc(), isrs::ALL, 245)
-}
-
-#[test]
-fn texts_with_alarms(rt: HostRuntime) -> Result<(), Fail> {
-    play_all(&rt, rt.alloc(), alarms::ALL, 274)
-}
-
-#[test]
-fn texts_with_tables(rt: HostRuntime) -> Result<(), Fail> {
-    play_all(&rt, rt.alloc(), tables::ALL, 65)
-}
-
-#[test]
-fn texts_that_are_no_stimuli_or_schedules(rt: HostRuntime) -> Result<(), Fail> {
-    play_all(&rt, rt.alloc(), given::ALL, 194)
-}
-
-#[test]
-fn texts_that_are_read(rt: HostRuntime) -> Result<(), Fail> {
-    play_all(&rt, rt.alloc(), read::ALL, 41)
-}
-
-#[test]
-fn texts_that_are_written(rt: HostRuntime) -> Result<(), Fail> {
-    play_all(&rt, rt.alloc(), written::ALL, 19)
-}
-
-#[test]
-fn separate_and_bound_cores(rt: HostRuntime) -> Result<(), Fail> {
-    play_all(&rt, rt.alloc(), separate::ALL, 48)
 }

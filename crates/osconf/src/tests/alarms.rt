@@ -1,15 +1,9 @@
 //! Alarms, their actions, and the operations that name them.
 
-use super::{Reader, Table};
+use super::{Reader, play};
+use std::test::Fail;
 
-/// How the tables of this file are read.
-pub(super) const ALL: &[Table] = &[
-    (Reader::Configuration, "@", TEXTS),
-    (Reader::Configuration, ACTION, ACTIONS),
-    (Reader::Configuration, TWO_CORES, OPERATIONS),
-];
-
-pub(super) const TEXTS: &str = r#"
+const TEXTS: &str = r#"
 // What is within a number's limits, at both ends, and what is not.
 text {"cores":[{"id":0,"tasks":[{"name":"A","prio":1,"script":""}],"counters":[{"name":"K","max":9,"min":3}],"alarms":[{"name":"W","counter":"K","action":"ActivateTask A","auto":{"modes":["M"],"start":@,"cycle":0}}]}]}
 fine 1|2|3|9
@@ -105,7 +99,7 @@ Limit 33|300
 pub(super) const ACTION: &str =
     r#"{"cores":[{"id":0,"tasks":[{"name":"A","prio":1,"script":""},{"name":"E","prio":2,"extended":true,"script":""}],"resources":[{"name":"R","ceiling":1}],"counters":[{"name":"K","max":9}],"alarms":[{"name":"W","counter":"K","action":"@"}]},{"id":1,"tasks":[{"name":"B","prio":1,"script":""}],"counters":[{"name":"Q","max":1}]}]}"#;
 
-pub(super) const ACTIONS: &str = r#"
+const ACTIONS: &str = r#"
 // Actions.
 fine ActivateTask A|ActivateTask E|ActivateTask B|SetEvent E 1|SetEvent E 4294967295|SetEvent A 1|SetEvent B 7
 UnknownName ActivateTask Nobody|ActivateTask R|ActivateTask K|ActivateTask Q|ActivateTask W|ActivateTask M
@@ -125,7 +119,7 @@ BadScript jump 9
 pub(super) const TWO_CORES: &str =
     r#"{"cores":[{"id":0,"tasks":[{"name":"A","prio":1,"script":"@"},{"name":"E","prio":2,"extended":true,"script":""}],"resources":[{"name":"R","ceiling":1}],"counters":[{"name":"K","max":9},{"name":"L","max":1000,"min":10}],"alarms":[{"name":"W","counter":"K","action":"ActivateTask A"},{"name":"X","counter":"L","action":"SetEvent E 5","auto":{"modes":["M"],"start":1000,"cycle":10}}]},{"id":1,"tasks":[{"name":"B","prio":1,"script":""}],"counters":[{"name":"Q","max":1}],"alarms":[{"name":"Z","counter":"Q","action":"ActivateTask B","auto":null}]}]}"#;
 
-pub(super) const OPERATIONS: &str = r#"
+const OPERATIONS: &str = r#"
 // Operations on alarms.
 fine SetRelAlarm W 1 0|SetRelAlarm W 0 0|SetRelAlarm X 4294967295 4294967295|SetRelAlarm Z 9 9|SetRelAlarm ? 1 1
 fine SetAbsAlarm W 0 0|SetAbsAlarm X 4294967295 4294967295|SetAbsAlarm Z 1 0|SetAbsAlarm ? 0 4294967295|CancelAlarm W
@@ -144,3 +138,17 @@ BadScript SetAbsAlarm W 1|SetAbsAlarm W 1 ?|SetAbsAlarm W 4294967296 0|setabsala
 BadScript CancelAlarm W X|CancelAlarm 1|GetAlarm W|GetAlarm W 1|GetAlarm W v8|GetAlarm v0 W|GetAlarm Nobody
 BadScript GetAlarm W v0 v1
 "#;
+
+#[test]
+fn texts_with_alarms(rt: HostRuntime) -> Result<(), Fail> {
+    play(&rt, rt.alloc(), Reader::Configuration, "@", TEXTS, 143)?;
+    play(&rt, rt.alloc(), Reader::Configuration, ACTION, ACTIONS, 65)?;
+    play(
+        &rt,
+        rt.alloc(),
+        Reader::Configuration,
+        TWO_CORES,
+        OPERATIONS,
+        66,
+    )
+}

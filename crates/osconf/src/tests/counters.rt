@@ -1,14 +1,9 @@
 //! Counters, and the operations that name them.
 
-use super::{Reader, Table};
+use super::{Reader, play};
+use std::test::Fail;
 
-/// How the tables of this file are read.
-pub(super) const ALL: &[Table] = &[
-    (Reader::Configuration, "@", TEXTS),
-    (Reader::Configuration, TWO_CORES, OPERATIONS),
-];
-
-pub(super) const TEXTS: &str = r#"
+const TEXTS: &str = r#"
 // What is within a number's limits, at both ends, and what is not.
 text {"cores":[{"id":0,"counters":[{"name":"K","max":@}]}]}
 text {"cores":[{"id":0,"counters":[{"name":"K","max":@,"min":1}]}]}
@@ -57,7 +52,7 @@ Limit 9|300
 pub(super) const TWO_CORES: &str =
     r#"{"cores":[{"id":0,"tasks":[{"name":"A","prio":1,"script":"@"}],"resources":[{"name":"R","ceiling":1}],"counters":[{"name":"K","max":9},{"name":"L","max":1000000000,"min":10,"software":true}]},{"id":1,"tasks":[{"name":"B","prio":1,"script":""}],"counters":[{"name":"Q","max":1}]}]}"#;
 
-pub(super) const OPERATIONS: &str = r#"
+const OPERATIONS: &str = r#"
 // Operations on counters.
 fine IncrementCounter K|IncrementCounter L|IncrementCounter Q|IncrementCounter ?|GetCounterValue K v0
 fine GetCounterValue L v7|GetCounterValue ? v0|IncrementCounter Q;GetCounterValue K v1;ActivateTask B
@@ -73,3 +68,16 @@ WrongCore GetCounterValue Q v0|IncrementCounter Q;GetCounterValue Q v0|GetCounte
 WrongCore jump 9;GetCounterValue Q v0|WaitEvent 0;GetCounterValue Q v0
 UnknownName GetCounterValue Q v0;IncrementCounter Nobody|IncrementCounter A;GetCounterValue Q v0
 "#;
+
+#[test]
+fn texts_with_counters(rt: HostRuntime) -> Result<(), Fail> {
+    play(&rt, rt.alloc(), Reader::Configuration, "@", TEXTS, 111)?;
+    play(
+        &rt,
+        rt.alloc(),
+        Reader::Configuration,
+        TWO_CORES,
+        OPERATIONS,
+        46,
+    )
+}

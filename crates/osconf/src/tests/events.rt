@@ -1,18 +1,13 @@
 //! Events, the operations that name tasks, and extended tasks.
 
-use super::{Reader, Table};
-
-/// How the tables of this file are read.
-pub(super) const ALL: &[Table] = &[
-    (Reader::Configuration, "@", TEXTS),
-    (Reader::Configuration, TWO_CORES, OPERATIONS),
-];
+use super::{Reader, play};
+use std::test::Fail;
 
 // A core with two tasks, and a core with one; the last task of each is extended.
 pub(super) const TWO_CORES: &str =
     r#"{"cores":[{"id":0,"tasks":[{"name":"A","prio":1,"script":"@"},{"name":"B","prio":1,"extended":true,"script":""}],"resources":[{"name":"R","ceiling":1}]},{"id":1,"tasks":[{"name":"C","prio":1,"extended":true,"script":""}]}]}"#;
 
-pub(super) const OPERATIONS: &str = r#"
+const OPERATIONS: &str = r#"
 // Operations on events.
 fine ChainTask A|ChainTask C|ChainTask ?|SetEvent A 1|SetEvent B 2;SetEvent C 3|SetEvent ? 1|ClearEvent 1
 fine GetEvent A v0|GetEvent B v7|GetEvent ? v0|WaitEvent 1
@@ -35,7 +30,7 @@ BadMask jump 9;ClearEvent 0
 BadScript WaitEvent 0 1
 "#;
 
-pub(super) const TEXTS: &str = r#"
+const TEXTS: &str = r#"
 // The form of a mask.
 text {"cores":[{"id":0,"tasks":[{"name":"A","prio":1,"script":"SetEvent A @"}]}]}
 text {"cores":[{"id":0,"tasks":[{"name":"A","prio":1,"script":"work;ClearEvent @;work"}]}]}
@@ -67,3 +62,16 @@ text {"cores":[{"id":0,"tasks":[{"name":"A","prio":1,"activations":2,"script":"W
 Limit true
 BadMask false
 "#;
+
+#[test]
+fn texts_with_events(rt: HostRuntime) -> Result<(), Fail> {
+    play(&rt, rt.alloc(), Reader::Configuration, "@", TEXTS, 107)?;
+    play(
+        &rt,
+        rt.alloc(),
+        Reader::Configuration,
+        TWO_CORES,
+        OPERATIONS,
+        73,
+    )
+}

@@ -1,19 +1,12 @@
 //! Stimuli and schedules.
 
-use super::{Reader, Table};
-
-/// How the tables of this file are read.
-pub(super) const ALL: &[Table] = &[
-    (Reader::Stimuli, "@", NO_STIMULI),
-    (Reader::Schedule, "@", NO_SCHEDULES),
-    (Reader::SecondStimuli, "@", SECOND_STIMULI),
-    (Reader::SecondSchedule, "@", SECOND_SCHEDULES),
-];
+use super::{Reader, play};
+use std::test::Fail;
 
 // Three cores of version 2.
 pub(super) const SECOND: &str = r#"{"version":2,"cores":[{"id":0},{"id":9},{"id":15}]}"#;
 
-pub(super) const NO_STIMULI: &str = r#"
+const NO_STIMULI: &str = r#"
 // Words that are no stimuli.
 text {"1":"op","0":"@"}
 BadStimulus  |op |op op |tick |tick op | op|op  op|Op|OP|opop| tick|op  tick|tick  op|ticktick|optick|tickop|Tick|tic
@@ -69,7 +62,7 @@ each [ ] op
 BadStimulus 100001
 "#;
 
-pub(super) const NO_SCHEDULES: &str = r#"
+const NO_SCHEDULES: &str = r#"
 // Words that are no turns.
 text "@"
 BadSchedule  |0o |o|l|s0|0|0 o|0O|0L|0S1|0x|0op|0o1|0l0|0ol|0o,1o|0o\t1o|0s|0so|0s1o|0s1s1|0s 1|0s-1|0s+1|-0o|+0o|0.0o
@@ -110,14 +103,36 @@ each [ ] 1l
 BadSchedule 1000000
 "#;
 
-pub(super) const SECOND_STIMULI: &str = r#"
+const SECOND_STIMULI: &str = r#"
 text {"0":"op","@":""}
 fine 9|15
 BadStimulus 1|8|10|16|09|015|9 |15.0|150
 "#;
 
-pub(super) const SECOND_SCHEDULES: &str = r#"
+const SECOND_SCHEDULES: &str = r#"
 text "15o @"
 fine 9o|15l|9s15|15s9|0s15|15s0
 BadSchedule 1o|8o|16o|9s9|15s15|15s1|9s16|09o|9s09|015o|150o|9s150|15|15s|9 s15
 "#;
+
+#[test]
+fn texts_that_are_no_stimuli_or_schedules(rt: HostRuntime) -> Result<(), Fail> {
+    play(&rt, rt.alloc(), Reader::Stimuli, "@", NO_STIMULI, 90)?;
+    play(&rt, rt.alloc(), Reader::Schedule, "@", NO_SCHEDULES, 72)?;
+    play(
+        &rt,
+        rt.alloc(),
+        Reader::SecondStimuli,
+        "@",
+        SECOND_STIMULI,
+        11,
+    )?;
+    play(
+        &rt,
+        rt.alloc(),
+        Reader::SecondSchedule,
+        "@",
+        SECOND_SCHEDULES,
+        21,
+    )
+}

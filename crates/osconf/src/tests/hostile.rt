@@ -1,18 +1,12 @@
 //! Texts that are no configurations: not JSON, or of another shape.
 
-use super::{Reader, TWO_CORES, Table, fault_of, repeated};
-use crate::{ConfFault, read_config};
+use super::{Reader, TWO_CORES, fault_of, play, repeated};
+use crate::ConfFault;
+use std::alloc::Global;
+use std::process::Abort;
 use std::test::Fail;
 
-/// How the tables of this file are read.
-pub(super) const ALL: &[Table] = &[
-    (Reader::Configuration, "@", TEXTS),
-    (Reader::Configuration, "\u{feff}@", AROUND),
-    (Reader::Configuration, "@\0", AROUND),
-    (Reader::Configuration, "{\"cores\":\"\n@\"}", WITHIN),
-];
-
-pub(super) const TEXTS: &str = r#"
+const TEXTS: &str = r#"
 // What is not JSON.
 text @
 NotJson | |x|nul|"cores|{"cores":[{"id":0}]}x|{"cores":[{"id":0}]}{}|{"cores":[{"id":0}],}|{"cores":[{"id":0},]}
@@ -87,10 +81,10 @@ fine true|false
 "#;
 
 // What has a character before it or behind it that is not JSON.
-pub(super) const AROUND: &str = r#"NotJson {"cores":[{"id":0}]}"#;
+const AROUND: &str = r#"NotJson {"cores":[{"id":0}]}"#;
 
 // What stands in a text behind a line's end.
-pub(super) const WITHIN: &str = "NotJson";
+const WITHIN: &str = "NotJson";
 
 const WHOLE: &[(Reader, &str)] = &[
     (Reader::Configuration, TWO_CORES),
@@ -100,18 +94,57 @@ const WHOLE: &[(Reader, &str)] = &[
 
 #[test]
 fn each_proper_beginning_is_not_json(rt: HostRuntime) -> Result<(), Fail> {
-    let alloc = rt.alloc();
     for (reader, whole) in WHOLE {
-        let mut beginning = String::new(alloc);
-        for c in whole.chars() {
-            let text = beginning.as_str();
-            let fault = fault_of(alloc, *reader, text)?;
-            assert_eq!(rt; fault, Some(ConfFault::NotJson), "{text}");
-            beginning.push(c)?;
-        }
-        assert!(rt; beginning.as_str() == *whole);
-        assert_eq!(rt; fault_of(alloc, *reader, whole)?, None, "{whole}");
+        judge_beginnings(&rt, rt.alloc(), *reader, whole)?;
+        judge_text(&rt, rt.alloc(), *reader, whole, None)?;
     }
+    Ok(())
+}
+
+// Each proper beginning of the text is not JSON, and the last one and a character are the text.
+fn judge_beginnings(
+    rt: &impl Abort,
+    alloc: Global,
+    reader: Reader,
+    whole: &str,
+) -> Result<(), Fail> {
+    let mut beginning = String::new(alloc);
+    judge_each(rt, alloc, reader, whole, &mut beginning)?;
+    assert!(rt; beginning.as_str() == whole);
+    Ok(())
+}
+
+// Appends the text to the beginning, which is not JSON before each character.
+fn judge_each(
+    rt: &impl Abort,
+    alloc: Global,
+    reader: Reader,
+    whole: &str,
+    beginning: &mut String,
+) -> Result<(), Fail> {
+    for c in whole.chars() {
+        judge_text(
+            rt,
+            alloc,
+            reader,
+            beginning.as_str(),
+            Some(ConfFault::NotJson),
+        )?;
+        beginning.push(c)?;
+    }
+    Ok(())
+}
+
+// The text has the fault, or none.
+fn judge_text(
+    rt: &impl Abort,
+    alloc: Global,
+    reader: Reader,
+    text: &str,
+    fault: Option<ConfFault>,
+) -> Result<(), Fail> {
+    let refused = fault_of(alloc, reader, text)?;
+    assert_eq!(rt; refused, fault, "{text}");
     Ok(())
 }
 
@@ -124,10 +157,43 @@ fn a_text_that_nests_too_deep(rt: HostRuntime) -> Result<(), Fail> {
         (200, ConfFault::NotJson),
     ];
     for (depth, fault) in examples {
-        let mut text = repeated(rt.alloc(), "[", "", depth)?;
-        text.push_str(repeated(rt.alloc(), "]", "", depth)?.as_str())?;
-        let refused = read_config(rt.alloc(), text.as_str()).err();
+        let refused = fault_of_lists(rt.alloc(), depth)?;
         assert_eq!(rt; refused, Some(fault), "{depth}");
     }
     Ok(())
+}
+
+// The fault of so many lists within one another.
+fn fault_of_lists(alloc: Global, depth: u32) -> Result<Option<ConfFault>, Fail> {
+    let text = nested(alloc, depth)?;
+    fault_of(alloc, Reader::Configuration, text.as_str())
+}
+
+fn nested(alloc: Global, depth: u32) -> Result<String, Fail> {
+    let mut text = repeated(alloc, "[", "", depth)?;
+    let ends = repeated(alloc, "]", "", depth)?;
+    text.push_str(ends.as_str())?;
+    Ok(text)
+}
+
+#[test]
+fn texts_that_are_no_configurations(rt: HostRuntime) -> Result<(), Fail> {
+    play(&rt, rt.alloc(), Reader::Configuration, "@", TEXTS, 395)?;
+    play(
+        &rt,
+        rt.alloc(),
+        Reader::Configuration,
+        "\u{feff}@",
+        AROUND,
+        1,
+    )?;
+    play(&rt, rt.alloc(), Reader::Configuration, "@\0", AROUND, 1)?;
+    play(
+        &rt,
+        rt.alloc(),
+        Reader::Configuration,
+        "{\"cores\":\"\n@\"}",
+        WITHIN,
+        1,
+    )
 }

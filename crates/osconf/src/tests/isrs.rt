@@ -1,19 +1,13 @@
 //! ISRs, their scripts and interrupts, budgets, and how a core answers a time fault.
 
-use super::{Reader, Table};
-
-/// How the tables of this file are read.
-pub(super) const ALL: &[Table] = &[
-    (Reader::Configuration, "@", TEXTS),
-    (Reader::Configuration, TWO_CORES, OPERATIONS),
-    (Reader::Interrupts, "@", INTERRUPTS),
-];
+use super::{Reader, play};
+use std::test::Fail;
 
 // A core with two tasks, two ISRs and a resource, and a core with one of each; the script is that of the first ISR.
 pub(super) const TWO_CORES: &str =
     r#"{"cores":[{"id":0,"protection":"PRO_IGNORE","tasks":[{"name":"A","prio":1,"script":""},{"name":"W","prio":1,"extended":true,"script":""}],"isrs":[{"name":"I1","level":16,"budget":9,"script":"@"},{"name":"I2","level":1,"script":""}],"resources":[{"name":"R","ceiling":1}]},{"id":1,"tasks":[{"name":"B","prio":1,"script":""}],"isrs":[{"name":"J","level":1,"script":""}],"resources":[{"name":"Q","ceiling":1}]}]}"#;
 
-pub(super) const OPERATIONS: &str = r#"
+const OPERATIONS: &str = r#"
 // The script of an ISR names objects as a task's does, but takes and gives back no resource.
 fine |work|ActivateTask A|ActivateTask B|ActivateTask ?|TerminateTask|Schedule|WaitEvent 1|SetEvent W 1|jump 0|jump 1
 fine jump 2;work|SuspendAllInterrupts;ResumeAllInterrupts
@@ -26,7 +20,7 @@ BadMask SetEvent W 0|GetResource R;SetEvent W 0
 UnknownName ActivateTask I1|ActivateTask J|SetEvent I2 1|ReleaseResource J
 "#;
 
-pub(super) const TEXTS: &str = r#"
+const TEXTS: &str = r#"
 // The level of an ISR, and budgets, at their limits.
 text {"cores":[{"id":0,"isrs":[{"name":"I","level":@,"script":""}]}]}
 text {"cores":[{"id":0,"isrs":[{"name":"H","level":16,"script":""},{"name":"I","level":@,"script":""}]}]}
@@ -102,7 +96,7 @@ DuplicateName {"cores":[{"id":0,"isrs":[{"name":"M","level":1,"script":"GetResou
 Shape {"cores":[{"id":0,"protection":"PRO_NONE","isrs":[{"name":"M","level":17,"script":""}]}]}
 "#;
 
-pub(super) const INTERRUPTS: &str = r#"
+const INTERRUPTS: &str = r#"
 // An interrupt is that of one of the core's own ISRs.
 text {"1":"op","0":"@"}
 fine irq=I1|irq=I2|op irq=I1 tick irq=I2|irq=I1 irq=I1|irq=I2 op
@@ -122,3 +116,17 @@ each [ ] irq=J
 BadStimulus 1|100000
 Limit 100001
 "#;
+
+#[test]
+fn texts_with_isrs(rt: HostRuntime) -> Result<(), Fail> {
+    play(&rt, rt.alloc(), Reader::Configuration, "@", TEXTS, 158)?;
+    play(
+        &rt,
+        rt.alloc(),
+        Reader::Configuration,
+        TWO_CORES,
+        OPERATIONS,
+        41,
+    )?;
+    play(&rt, rt.alloc(), Reader::Interrupts, "@", INTERRUPTS, 46)
+}

@@ -1,11 +1,9 @@
 //! Each limit of a configuration, at, below and above; each fault, and the smaller of two.
 
-use super::{Reader, Table};
+use super::{Reader, play};
+use std::test::Fail;
 
-/// How the tables of this file are read.
-pub(super) const ALL: &[Table] = &[(Reader::Configuration, "@", TEXTS)];
-
-pub(super) const TEXTS: &str = r#"
+const TEXTS: &str = r#"
 // A member's lowest and highest numbers, then what is just outside.
 text {"version":@,"cores":[{"id":0}]}
 fine 1|2
@@ -157,3 +155,8 @@ text {"cores":[{"id":0,"tasks":[{"name":"A","prio":1,"script":"@;"}]}]}
 each [;] ActivateTask B
 Limit 256
 "#;
+
+#[test]
+fn texts_at_limits(rt: HostRuntime) -> Result<(), Fail> {
+    play(&rt, rt.alloc(), Reader::Configuration, "@", TEXTS, 194)
+}

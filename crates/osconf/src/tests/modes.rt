@@ -1,11 +1,9 @@
 //! Application modes: their names, the mode of a core, and what names a mode.
 
-use super::{Reader, Table};
+use super::{Reader, play};
+use std::test::Fail;
 
-/// How the tables of this file are read.
-pub(super) const ALL: &[Table] = &[(Reader::Configuration, "@", TEXTS)];
-
-pub(super) const TEXTS: &str = r#"
+const TEXTS: &str = r#"
 // The modes of a configuration: 1 to 8 names in form, of which none stands twice and none for something else.
 text {"modes":@,"cores":[{"id":0}]}
 fine ["M"]|["B"]|["A","B","C","D","E","F","G","H"]|["donotcare","Conflict","NONE","DONOTCARE_"]
@@ -65,3 +63,8 @@ Limit {"modes":[],"cores":[{"id":0},{"id":0}]}|{"modes":[],"cores":[{"id":0,"mod
 DuplicateName {"modes":["none"],"cores":[{"id":0,"mode":"X"}]}|{"modes":["A","A"],"master":1,"cores":[{"id":0}]}
 UnknownName {"modes":["A"],"cores":[{"id":0,"mode":"X","tasks":[{"name":"T","prio":1,"script":"walk"}]}]}
 "#;
+
+#[test]
+fn texts_with_modes(rt: HostRuntime) -> Result<(), Fail> {
+    play(&rt, rt.alloc(), Reader::Configuration, "@", TEXTS, 143)
+}

@@ -1,11 +1,9 @@
 //! Names and operations: their form, and what stands twice.
 
-use super::{Reader, Table};
+use super::{Reader, play};
+use std::test::Fail;
 
-/// How the tables of this file are read.
-pub(super) const ALL: &[Table] = &[(Reader::Configuration, "@", TEXTS)];
-
-pub(super) const TEXTS: &str = r#"
+const TEXTS: &str = r#"
 // The form of a name.
 text {"cores":[{"id":0,"tasks":[{"name":"@","prio":1,"script":""}]}]}
 text {"cores":[{"id":0,"tasks":[{"name":"A","prio":1,"auto":["M","@"],"script":""}]}]}
@@ -69,3 +67,8 @@ text {"cores":[{"id":0,"tasks":[{"name":"A","prio":1,"script":"ActivateTask @"}]
 each [] n
 BadScript 129
 "#;
+
+#[test]
+fn texts_with_names(rt: HostRuntime) -> Result<(), Fail> {
+    play(&rt, rt.alloc(), Reader::Configuration, "@", TEXTS, 128)
+}

@@ -1,19 +1,13 @@
 //! Operations with a name and a number or a mask: each is judged whatever the other one is, and the smallest fault is told.
 
-use super::{Reader, Table};
-
-/// How the tables of this file are read.
-pub(super) const ALL: &[Table] = &[
-    (Reader::Configuration, SCRIPT, NUMBERS),
-    (Reader::Configuration, DISORDER, BESIDE_A_TABLE),
-    (Reader::Configuration, INACTION, BESIDE_AN_ACTION),
-];
+use super::{Reader, play};
+use std::test::Fail;
 
 // Two cores, each with a task, a counter, an alarm and a schedule table; the script is that of the first core's task.
-pub(super) const SCRIPT: &str =
+const SCRIPT: &str =
     r#"{"cores":[{"id":0,"tasks":[{"name":"A","prio":1,"script":"@"}],"counters":[{"name":"K","max":9}],"alarms":[{"name":"L","counter":"K","action":"ActivateTask A"}],"tables":[{"name":"P","counter":"K","duration":1,"points":[{"offset":0,"actions":["ActivateTask A"]}]}]},{"id":1,"tasks":[{"name":"B","prio":1,"script":""}],"counters":[{"name":"Q","max":9}],"alarms":[{"name":"F","counter":"Q","action":"ActivateTask A"}],"tables":[{"name":"Z","counter":"Q","duration":1,"points":[{"offset":0,"actions":["ActivateTask A"]}]}]}]}"#;
 
-pub(super) const NUMBERS: &str = r#"
+const NUMBERS: &str = r#"
 // Faults of several operations: the smallest is told, in whichever order they stand.
 UnknownName StartScheduleTableRel Z 4294967296;StartScheduleTableRel Nobody 4294967296
 UnknownName SetEvent A 0;work;SetRelAlarm Nobody 4294967296 4294967296
@@ -64,10 +58,10 @@ BadScript |1 |00|01|04294967296|+1|-1|-4294967296|1.0|0x1|1 1|v0|?|A|١
 "#;
 
 // The same, with a table whose points do not come in order.
-pub(super) const DISORDER: &str =
+const DISORDER: &str =
     r#"{"cores":[{"id":0,"tasks":[{"name":"A","prio":1,"script":"@"}],"counters":[{"name":"K","max":9}],"tables":[{"name":"P","counter":"K","duration":1,"points":[{"offset":1,"actions":["ActivateTask A"]},{"offset":0,"actions":["ActivateTask A"]}]}]},{"id":1,"counters":[{"name":"Q","max":9}],"tables":[{"name":"Z","counter":"Q","duration":1,"points":[{"offset":0,"actions":["ActivateTask A"]}]}]}]}"#;
 
-pub(super) const BESIDE_A_TABLE: &str = r#"
+const BESIDE_A_TABLE: &str = r#"
 // A fault of a table beside them.
 UnknownName StartScheduleTableRel Nobody 4294967296
 WrongCore StartScheduleTableRel Z 0|StartScheduleTableRel Z 4294967296|StartScheduleTableAbs Z 4294967296
@@ -76,11 +70,32 @@ BadTable |StartScheduleTableRel P 4294967296|StartScheduleTableRel Z
 "#;
 
 // The same, with an alarm whose action is not in form.
-pub(super) const INACTION: &str =
+const INACTION: &str =
     r#"{"cores":[{"id":0,"tasks":[{"name":"A","prio":1,"script":"@"}],"counters":[{"name":"K","max":9}],"alarms":[{"name":"L","counter":"K","action":"SetEvent A"}],"tables":[{"name":"P","counter":"K","duration":1,"points":[{"offset":0,"actions":["ActivateTask A"]}]}]},{"id":1,"counters":[{"name":"Q","max":9}],"tables":[{"name":"Z","counter":"Q","duration":1,"points":[{"offset":0,"actions":["ActivateTask A"]}]}]}]}"#;
 
-pub(super) const BESIDE_AN_ACTION: &str = r#"
+const BESIDE_AN_ACTION: &str = r#"
 // An action that is not in form beside them.
 WrongCore StartScheduleTableRel Z 4294967296|StartScheduleTableAbs Z 4294967296
 BadScript |StartScheduleTableRel Z x
 "#;
+
+#[test]
+fn texts_with_names_and_numbers(rt: HostRuntime) -> Result<(), Fail> {
+    play(&rt, rt.alloc(), Reader::Configuration, SCRIPT, NUMBERS, 691)?;
+    play(
+        &rt,
+        rt.alloc(),
+        Reader::Configuration,
+        DISORDER,
+        BESIDE_A_TABLE,
+        8,
+    )?;
+    play(
+        &rt,
+        rt.alloc(),
+        Reader::Configuration,
+        INACTION,
+        BESIDE_AN_ACTION,
+        4,
+    )
+}

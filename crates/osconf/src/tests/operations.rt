@@ -1,11 +1,9 @@
 //! The arguments of operations: variables, numbers, and positions in a script.
 
-use super::{Reader, Table};
+use super::{Reader, play};
+use std::test::Fail;
 
-/// How the tables of this file are read.
-pub(super) const ALL: &[Table] = &[(Reader::Configuration, "@", TEXTS)];
-
-pub(super) const TEXTS: &str = r#"
+const TEXTS: &str = r#"
 // Operations on variables.
 text {"cores":[{"id":0,"tasks":[{"name":"A","prio":1,"script":"@"}]}]}
 fine set v0 0|set v7 9223372036854775807|set v0 -9223372036854775808|add v3 -1|addv v0 v7|addv v1 v1|status v7
@@ -46,3 +44,8 @@ text {"cores":[{"id":0,"tasks":[{"name":"A","prio":1,"script":"@;work;jump 257"}
 each [;] work
 Limit 255
 "#;
+
+#[test]
+fn texts_with_arguments(rt: HostRuntime) -> Result<(), Fail> {
+    play(&rt, rt.alloc(), Reader::Configuration, "@", TEXTS, 109)
+}

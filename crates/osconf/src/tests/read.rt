@@ -1,18 +1,9 @@
 //! What is read, as it is printed for debugging.
 
-use super::{Reader, Table};
+use super::{Reader, play};
+use std::test::Fail;
 
-/// How the tables of this file are read.
-pub(super) const ALL: &[Table] = &[
-    (Reader::Configuration, "@", PLANS),
-    (Reader::Stimuli, "@", STIMULI),
-    (Reader::Interrupts, "@", INTERRUPTS),
-    (Reader::Schedule, "@", SCHEDULES),
-    (Reader::SecondStimuli, "@", SECOND_STIMULI),
-    (Reader::SecondSchedule, "@", SECOND_SCHEDULES),
-];
-
-pub(super) const PLANS: &str = r#"
+const PLANS: &str = r#"
 // What has no member has its value by default; the core of a number is found wherever it stands.
 text {"cores":[{"id":0,"start":[1],"tasks":[{"name":"A","prio":1,"auto":["M"],"script":"ActivateTask B;TerminateTask"}]},{"id":1,"tasks":[{"name":"B","prio":1,"script":"TerminateTask"}]}]}
 is Plan { version: 1, cap: 16, master: CoreId { number: 0 }, modes: List { items: [Name { text: "M" }] }, spinlocks: List { items: [] }, cores: List { items: [Core { id: CoreId { number: 0 }, mode: Named(ModeId { index: 0 }), start: List { items: [CoreId { number: 1 }] }, protection: Shutdown, tasks: List { items: [Task { name: Name { text: "A" }, priority: 1, auto: List { items: [ModeId { index: 0 }] }, activations: 1, extended: false, preemptable: true, budget: 0, script: List { items: [ActivateTask(Some(TaskRef { core: CoreId { number: 1 }, index: 0 })), TerminateTask] } }] }, isrs: List { items: [] }, resources: List { items: [] }, counters: List { items: [] }, alarms: List { items: [] }, tables: List { items: [] } }, Core { id: CoreId { number: 1 }, mode: Named(ModeId { index: 0 }), start: List { items: [] }, protection: Shutdown, tasks: List { items: [Task { name: Name { text: "B" }, priority: 1, auto: List { items: [] }, activations: 1, extended: false, preemptable: true, budget: 0, script: List { items: [TerminateTask] } }] }, isrs: List { items: [] }, resources: List { items: [] }, counters: List { items: [] }, alarms: List { items: [] }, tables: List { items: [] } }] } }
@@ -74,7 +65,7 @@ text {"cap":2,"cores":[{"id":0,"tasks":[{"name":"M","name":"A","prio":32,"prio":
 is Plan { version: 1, cap: 2, master: CoreId { number: 0 }, modes: List { items: [Name { text: "M" }] }, spinlocks: List { items: [] }, cores: List { items: [Core { id: CoreId { number: 0 }, mode: Named(ModeId { index: 0 }), start: List { items: [] }, protection: Shutdown, tasks: List { items: [Task { name: Name { text: "A" }, priority: 1, auto: List { items: [] }, activations: 1, extended: false, preemptable: true, budget: 0, script: List { items: [] } }] }, isrs: List { items: [] }, resources: List { items: [] }, counters: List { items: [] }, alarms: List { items: [] }, tables: List { items: [] } }] } }
 "#;
 
-pub(super) const STIMULI: &str = r#"
+const STIMULI: &str = r#"
 text {}| { } 
 is []
 
@@ -119,12 +110,12 @@ is [CoreStimuli { core: CoreId { number: 0 }, words: List { items: [Op] } }]
 "#;
 
 // An interrupt is that of the core's ISR of this name.
-pub(super) const INTERRUPTS: &str = r#"
+const INTERRUPTS: &str = r#"
 text {"0":"irq=I2 op irq=I1 irq=I2","1":"tick irq=J"}
 is [CoreStimuli { core: CoreId { number: 0 }, words: List { items: [Irq(IsrRef { core: CoreId { number: 0 }, index: 1 }), Op, Irq(IsrRef { core: CoreId { number: 0 }, index: 0 }), Irq(IsrRef { core: CoreId { number: 0 }, index: 1 })] } }, CoreStimuli { core: CoreId { number: 1 }, words: List { items: [Tick, Irq(IsrRef { core: CoreId { number: 1 }, index: 0 })] } }]
 "#;
 
-pub(super) const SCHEDULES: &str = r#"
+const SCHEDULES: &str = r#"
 text ""
 is []
 
@@ -142,12 +133,36 @@ is [(CoreId { number: 0 }, Own), (CoreId { number: 1 }, Look), (CoreId { number:
 "#;
 
 // Cores of one digit and of two.
-pub(super) const SECOND_STIMULI: &str = r#"
+const SECOND_STIMULI: &str = r#"
 text {"15":"tick op","9":"op","0":""}
 is [CoreStimuli { core: CoreId { number: 0 }, words: List { items: [] } }, CoreStimuli { core: CoreId { number: 15 }, words: List { items: [Tick, Op] } }, CoreStimuli { core: CoreId { number: 9 }, words: List { items: [Op] } }]
 "#;
 
-pub(super) const SECOND_SCHEDULES: &str = r#"
+const SECOND_SCHEDULES: &str = r#"
 text "15o 9l 9s15 15s9 0s15 15s0 15l"
 is [(CoreId { number: 15 }, Own), (CoreId { number: 9 }, Look), (CoreId { number: 9 }, Serve(CoreId { number: 15 })), (CoreId { number: 15 }, Serve(CoreId { number: 9 })), (CoreId { number: 0 }, Serve(CoreId { number: 15 })), (CoreId { number: 15 }, Serve(CoreId { number: 0 })), (CoreId { number: 15 }, Look)]
 "#;
+
+#[test]
+fn texts_that_are_read(rt: HostRuntime) -> Result<(), Fail> {
+    play(&rt, rt.alloc(), Reader::Configuration, "@", PLANS, 18)?;
+    play(&rt, rt.alloc(), Reader::Stimuli, "@", STIMULI, 15)?;
+    play(&rt, rt.alloc(), Reader::Interrupts, "@", INTERRUPTS, 1)?;
+    play(&rt, rt.alloc(), Reader::Schedule, "@", SCHEDULES, 5)?;
+    play(
+        &rt,
+        rt.alloc(),
+        Reader::SecondStimuli,
+        "@",
+        SECOND_STIMULI,
+        1,
+    )?;
+    play(
+        &rt,
+        rt.alloc(),
+        Reader::SecondSchedule,
+        "@",
+        SECOND_SCHEDULES,
+        1,
+    )
+}

@@ -1,20 +1,16 @@
 //! Resources, and the operations that name them.
 
-use super::{Reader, Table, configured};
+use super::{Reader, configured, play};
+use crate::Plan;
 use osbase::{CoreId, ResourceRef};
+use std::process::Abort;
 use std::test::Fail;
 
-/// How the tables of this file are read.
-pub(super) const ALL: &[Table] = &[
-    (Reader::Configuration, "@", TEXTS),
-    (Reader::Configuration, TWO_CORES, OPERATIONS),
-];
-
 // A core with two tasks and two resources, and a core with one of each.
-pub(super) const TWO_CORES: &str =
+const TWO_CORES: &str =
     r#"{"cores":[{"id":0,"tasks":[{"name":"A","prio":1,"script":"@"},{"name":"B","prio":1,"script":""}],"resources":[{"name":"R","ceiling":1},{"name":"S","ceiling":2}]},{"id":1,"tasks":[{"name":"C","prio":1,"script":""}],"resources":[{"name":"Q","ceiling":3}]}]}"#;
 
-pub(super) const OPERATIONS: &str = r#"
+const OPERATIONS: &str = r#"
 // Operations on resources.
 fine GetResource R|GetResource S;GetResource R;ReleaseResource R;ReleaseResource S|ReleaseResource R|GetResource ?
 fine ReleaseResource ?|GetResource R;ActivateTask C
@@ -28,7 +24,7 @@ WrongCore GetResource;ReleaseResource Q|jump 9;GetResource Q
 UnknownName GetResource Q;GetResource Nobody|ActivateTask R;GetResource Q|GetResource Q;walk;ActivateTask Nobody
 "#;
 
-pub(super) const TEXTS: &str = r#"
+const TEXTS: &str = r#"
 // Each has its own limits.
 text {"cores":[{"id":0,"resources":[{"name":"R","ceiling":31},{"name":"S","ceiling":@}]}]}
 fine 0|31
@@ -77,11 +73,29 @@ fn a_resource_has_its_name(rt: HostRuntime) -> Result<(), Fail> {
     let text =
         r#"{"cores":[{"id":0,"resources":[{"name":"R","ceiling":1},{"name":"S","ceiling":2}]}]}"#;
     let config = configured(rt.alloc(), "@", text)?;
+    judge_name(&rt, config.plan());
+    Ok(())
+}
+
+// The second resource of core 0 is S.
+fn judge_name(rt: &impl Abort, plan: &Plan) {
     let second = ResourceRef {
         core: CoreId { number: 0 },
         index: 1,
     };
-    let name = config.plan().resource_name(second);
+    let name = plan.resource_name(second);
     assert!(rt; name == "S", "{name}");
-    Ok(())
+}
+
+#[test]
+fn texts_with_resources(rt: HostRuntime) -> Result<(), Fail> {
+    play(&rt, rt.alloc(), Reader::Configuration, "@", TEXTS, 70)?;
+    play(
+        &rt,
+        rt.alloc(),
+        Reader::Configuration,
+        TWO_CORES,
+        OPERATIONS,
+        35,
+    )
 }

@@ -1,25 +1,9 @@
 //! Which cores are separate, and so may be cut.
 
-use super::{Reader, Table, alarms, counters, events, isrs, spinlocks, tables};
+use super::{Reader, alarms, counters, events, isrs, play, spinlocks, tables};
+use std::test::Fail;
 
-/// How the tables of this file are read.
-pub(super) const ALL: &[Table] = &[
-    (Reader::Alone(0), "@", FIRST),
-    (Reader::Alone(0), events::TWO_CORES, EVENTS),
-    (Reader::Alone(0), counters::TWO_CORES, COUNTERS),
-    (Reader::Alone(0), alarms::TWO_CORES, ALARMS),
-    (Reader::Alone(0), alarms::ACTION, ACTIONS),
-    (Reader::Alone(0), isrs::TWO_CORES, ISRS),
-    (Reader::Alone(0), spinlocks::TWO_TASKS, SPINLOCKS),
-    (Reader::Alone(0), tables::TABLE, TABLES),
-    (Reader::Alone(1), "@", SECOND),
-    (Reader::Alone(2), "@", THIRD),
-    (Reader::Alone(3), "@", FOURTH),
-    (Reader::Alone(5), "@", SIXTH),
-    (Reader::Alone(9), "@", FOURTH),
-];
-
-pub(super) const FIRST: &str = r#"
+const FIRST: &str = r#"
 // Core 1 is started by core 0, and core 2 by core 1. No script names a task of core 2.
 text @
 NotSeparate {"cap":2,"cores":[{"id":0,"start":[1,9],"tasks":[{"name":"A","prio":2,"script":"ActivateTask B;ActivateTask ?"}]},{"id":1,"start":[2],"tasks":[{"name":"B","prio":1,"script":""}]},{"id":2,"tasks":[{"name":"V","prio":1,"auto":["M"],"script":"work;ActivateTask V;ActivateTask ?;TerminateTask"}]},{"id":3}]}
@@ -64,61 +48,118 @@ NotSeparate work;ShutdownAllCores 0
 "#;
 
 // A script that names another core's task binds both cores.
-pub(super) const EVENTS: &str = r#"
+const EVENTS: &str = r#"
 fine ChainTask A;SetEvent B 1;GetEvent B v0
 NotSeparate ChainTask C|SetEvent C 1
 "#;
 
 // A script that names another core's counter binds both cores.
-pub(super) const COUNTERS: &str = r#"
+const COUNTERS: &str = r#"
 fine IncrementCounter K;GetCounterValue L v0;IncrementCounter ?
 NotSeparate IncrementCounter Q
 "#;
 
 // A script that names another core's alarm binds both cores.
-pub(super) const ALARMS: &str = r#"
+const ALARMS: &str = r#"
 fine CancelAlarm W
 NotSeparate CancelAlarm Z
 "#;
 
 // A core whose alarm acts on another core's task is bound to it, and so is the other core.
-pub(super) const ACTIONS: &str = r#"
+const ACTIONS: &str = r#"
 fine ActivateTask A|SetEvent E 1
 NotSeparate ActivateTask B|SetEvent B 1
 "#;
 
 // An ISR's script that names another core's task binds both cores.
-pub(super) const ISRS: &str = r#"
+const ISRS: &str = r#"
 fine ActivateTask A;SetEvent W 1;GetEvent ? v0
 NotSeparate ActivateTask B
 "#;
 
 // A script that names a spinlock binds its own core.
-pub(super) const SPINLOCKS: &str = r#"
+const SPINLOCKS: &str = r#"
 fine GetSpinlock ?;TryToGetSpinlock ? v0;ReleaseSpinlock ?
 NotSeparate GetSpinlock S|TryToGetSpinlock S v0|ReleaseSpinlock ?;ReleaseSpinlock S
 "#;
 
 // A table that acts on another core's task binds both cores.
-pub(super) const TABLES: &str = r#"
+const TABLES: &str = r#"
 fine {"name":"P","counter":"K","duration":9,"points":[{"offset":0,"actions":["ActivateTask A"]},{"offset":3,"actions":["ActivateTask A"]}]}
 NotSeparate {"name":"P","counter":"K","duration":9,"points":[{"offset":0,"actions":["ActivateTask A"]},{"offset":3,"actions":["ActivateTask B"]}]}
 "#;
 
-pub(super) const SECOND: &str = r#"
+const SECOND: &str = r#"
 NotSeparate {"cap":2,"cores":[{"id":0,"start":[1,9],"tasks":[{"name":"A","prio":2,"script":"ActivateTask B;ActivateTask ?"}]},{"id":1,"start":[2],"tasks":[{"name":"B","prio":1,"script":""}]},{"id":2,"tasks":[{"name":"V","prio":1,"auto":["M"],"script":"work;ActivateTask V;ActivateTask ?;TerminateTask"}]},{"id":3}]}
 NotSeparate {"cores":[{"id":0,"tasks":[{"name":"A","prio":1,"script":""}]},{"id":1,"tasks":[{"name":"B","prio":1,"script":"ActivateTask A"}]}]}
 "#;
 
-pub(super) const THIRD: &str = r#"
+const THIRD: &str = r#"
 fine {"cap":2,"cores":[{"id":0,"start":[1,9],"tasks":[{"name":"A","prio":2,"script":"ActivateTask B;ActivateTask ?"}]},{"id":1,"start":[2],"tasks":[{"name":"B","prio":1,"script":""}]},{"id":2,"tasks":[{"name":"V","prio":1,"auto":["M"],"script":"work;ActivateTask V;ActivateTask ?;TerminateTask"}]},{"id":3}]}
 "#;
 
 // A core that nobody starts, and one that there is not.
-pub(super) const FOURTH: &str = r#"
+const FOURTH: &str = r#"
 NotSeparate {"cap":2,"cores":[{"id":0,"start":[1,9],"tasks":[{"name":"A","prio":2,"script":"ActivateTask B;ActivateTask ?"}]},{"id":1,"start":[2],"tasks":[{"name":"B","prio":1,"script":""}]},{"id":2,"tasks":[{"name":"V","prio":1,"auto":["M"],"script":"work;ActivateTask V;ActivateTask ?;TerminateTask"}]},{"id":3}]}
 "#;
 
-pub(super) const SIXTH: &str = r#"
+const SIXTH: &str = r#"
 fine {"master":5,"cores":[{"id":5}]}
 "#;
+
+#[test]
+fn separate_and_bound_cores(rt: HostRuntime) -> Result<(), Fail> {
+    play(&rt, rt.alloc(), Reader::Alone(0), "@", FIRST, 23)?;
+    play(&rt, rt.alloc(), Reader::Alone(1), "@", SECOND, 2)?;
+    play(&rt, rt.alloc(), Reader::Alone(2), "@", THIRD, 1)?;
+    play(&rt, rt.alloc(), Reader::Alone(3), "@", FOURTH, 1)?;
+    play(&rt, rt.alloc(), Reader::Alone(5), "@", SIXTH, 1)?;
+    play(&rt, rt.alloc(), Reader::Alone(9), "@", FOURTH, 1)
+}
+
+// The other files' texts of two cores are filled in.
+#[test]
+fn cores_that_name_objects_of_another(rt: HostRuntime) -> Result<(), Fail> {
+    play(
+        &rt,
+        rt.alloc(),
+        Reader::Alone(0),
+        events::TWO_CORES,
+        EVENTS,
+        3,
+    )?;
+    play(
+        &rt,
+        rt.alloc(),
+        Reader::Alone(0),
+        counters::TWO_CORES,
+        COUNTERS,
+        2,
+    )?;
+    play(
+        &rt,
+        rt.alloc(),
+        Reader::Alone(0),
+        alarms::TWO_CORES,
+        ALARMS,
+        2,
+    )?;
+    play(
+        &rt,
+        rt.alloc(),
+        Reader::Alone(0),
+        alarms::ACTION,
+        ACTIONS,
+        4,
+    )?;
+    play(&rt, rt.alloc(), Reader::Alone(0), isrs::TWO_CORES, ISRS, 2)?;
+    play(
+        &rt,
+        rt.alloc(),
+        Reader::Alone(0),
+        spinlocks::TWO_TASKS,
+        SPINLOCKS,
+        4,
+    )?;
+    play(&rt, rt.alloc(), Reader::Alone(0), tables::TABLE, TABLES, 2)
+}

@@ -1,18 +1,13 @@
 //! Spinlocks: their names and successors, and the operations that name them.
 
-use super::{Reader, Table, configured};
-use crate::order_ok;
+use super::{Reader, configured, play};
+use crate::{Config, order_ok};
 use osbase::SpinlockId;
+use std::alloc::Global;
+use std::process::Abort;
 use std::test::Fail;
 
-/// How the tables of this file are read.
-pub(super) const ALL: &[Table] = &[
-    (Reader::Configuration, "@", TEXTS),
-    (Reader::Configuration, TWO_CORES, OPERATIONS),
-    (Reader::Configuration, "@", ACTIONS),
-];
-
-pub(super) const TEXTS: &str = r#"
+const TEXTS: &str = r#"
 // The spinlocks of a configuration, none by default: of each a name, and the name of its successor, which it may lack.
 text {"spinlocks":@,"cores":[{"id":0}]}
 fine []|[{"name":"S"}]|[{"name":"S","next":null}]|[{"name":"S","next":"R"},{"name":"R"}]|[{"next":null,"name":"S"},{"name":"R","next":"S"}]
@@ -96,14 +91,14 @@ SpinOrder 0|10
 "#;
 
 // Two cores that have an object of each kind, beside two spinlocks.
-pub(super) const TWO_CORES: &str =
+const TWO_CORES: &str =
     r#"{"spinlocks":[{"name":"S","next":"R"},{"name":"R"}],"cores":[{"id":0,"tasks":[{"name":"A","prio":1,"extended":true,"script":"@"}],"resources":[{"name":"Q","ceiling":1}],"isrs":[{"name":"I","level":1,"script":"GetSpinlock R;TryToGetSpinlock ? v0;ReleaseSpinlock R"}]},{"id":1,"tasks":[{"name":"B","prio":1,"script":""}],"counters":[{"name":"K","max":9}],"alarms":[{"name":"W","counter":"K","action":"ActivateTask B"}],"tables":[{"name":"P","counter":"K","duration":9,"points":[{"offset":0,"actions":["ActivateTask B"]}]}]}]}"#;
 
 // Core 1, which is never started, names a spinlock.
 pub(super) const TWO_TASKS: &str =
     r#"{"spinlocks":[{"name":"S"}],"cores":[{"id":0,"tasks":[{"name":"A","prio":1,"script":"@"}]},{"id":1,"tasks":[{"name":"B","prio":1,"script":"GetSpinlock S"}]}]}"#;
 
-pub(super) const OPERATIONS: &str = r#"
+const OPERATIONS: &str = r#"
 text @
 fine GetSpinlock S|GetSpinlock R|GetSpinlock ?|TryToGetSpinlock S v0|TryToGetSpinlock R v7|TryToGetSpinlock ? v3
 fine ReleaseSpinlock S|ReleaseSpinlock R|ReleaseSpinlock ?|GetSpinlock S;TryToGetSpinlock R v1;ReleaseSpinlock R;ReleaseSpinlock S
@@ -137,7 +132,7 @@ BadMask GetSpinlock ?;SetEvent A 0;TryToGetSpinlock S v8
 "#;
 
 // No alarm and no schedule table acts on a spinlock.
-pub(super) const ACTIONS: &str = r#"
+const ACTIONS: &str = r#"
 text {"spinlocks":[{"name":"S"}],"cores":[{"id":0,"tasks":[{"name":"A","prio":1,"script":""}],"counters":[{"name":"K","max":9}],"alarms":[{"name":"W","counter":"K","action":"@"}]}]}
 text {"spinlocks":[{"name":"S"}],"cores":[{"id":0,"tasks":[{"name":"A","prio":1,"script":""}],"counters":[{"name":"K","max":9}],"tables":[{"name":"P","counter":"K","duration":9,"points":[{"offset":0,"actions":["@"]}]}]}]}
 fine ActivateTask A
@@ -151,21 +146,47 @@ fn spinlocks_in_their_order(rt: HostRuntime) -> Result<(), Fail> {
     let text =
         r#"{"spinlocks":[{"name":"S","next":"Q"},{"name":"R"},{"name":"Q","next":"R"},{"name":"T","next":"R"}],"cores":[{"id":0}]}"#;
     let config = configured(rt.alloc(), "@", text)?;
-    let mut after = String::new(rt.alloc());
-    for newest in 0u8..6 {
-        for new in 0u8..6 {
-            let comes = order_ok(
-                &config,
-                SpinlockId { index: newest },
-                SpinlockId { index: new },
-            );
-            after.push(if comes { '1' } else { '0' })?;
-        }
-        after.push(' ')?;
-    }
+    judge_order(&rt, rt.alloc(), &config)
+}
+
+fn judge_order(rt: &impl Abort, alloc: Global, config: &Config) -> Result<(), Fail> {
+    let mut after = String::new(alloc);
+    push_order(config, &mut after)?;
     assert!(rt;
         after.as_str() == "011000 000000 010000 010000 000000 000000 ",
         "{after}"
     );
     Ok(())
+}
+
+// For each newest spinlock which ones may be asked for.
+fn push_order(config: &Config, after: &mut String) -> Result<(), Fail> {
+    for index in 0u8..6 {
+        push_after(config, SpinlockId { index }, after)?;
+        after.push(' ')?;
+    }
+    Ok(())
+}
+
+// For each spinlock 1 if it may be asked for after the newest, and 0 if it may not.
+fn push_after(config: &Config, newest: SpinlockId, after: &mut String) -> Result<(), Fail> {
+    for index in 0u8..6 {
+        let comes = order_ok(config, newest, SpinlockId { index });
+        after.push(if comes { '1' } else { '0' })?;
+    }
+    Ok(())
+}
+
+#[test]
+fn texts_with_spinlocks(rt: HostRuntime) -> Result<(), Fail> {
+    play(&rt, rt.alloc(), Reader::Configuration, "@", TEXTS, 140)?;
+    play(
+        &rt,
+        rt.alloc(),
+        Reader::Configuration,
+        TWO_CORES,
+        OPERATIONS,
+        131,
+    )?;
+    play(&rt, rt.alloc(), Reader::Configuration, "@", ACTIONS, 16)
 }

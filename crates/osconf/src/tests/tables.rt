@@ -1,22 +1,15 @@
 //! Schedule tables and the operations that name them.
 
-use super::{Reader, Table, filled, listed};
-use crate::{ConfFault, read_config};
+use super::{Reader, fault_with, filled, listed, play};
+use crate::ConfFault;
+use std::alloc::Global;
 use std::test::Fail;
 
-/// How the tables of this file are read.
-pub(super) const ALL: &[Table] = &[
-    (Reader::Configuration, "@", TEXTS),
-    (Reader::Configuration, TABLE, TABLES),
-    (Reader::Configuration, TIMES, TABLE_TIMES),
-    (Reader::Configuration, SCRIPT, OPERATIONS),
-];
-
 // The offsets of a table's points, and its duration.
-pub(super) const TIMES: &str =
+const TIMES: &str =
     r#"{"cores":[{"id":0,"tasks":[{"name":"A","prio":1,"script":""}],"counters":[{"name":"K","max":9,"min":3}],"tables":[{"name":"P","counter":"K",@}]}]}"#;
 
-pub(super) const TABLE_TIMES: &str = r#"
+const TABLE_TIMES: &str = r#"
 // The times of a table.
 fine "duration":9,"points":[{"offset":0,"actions":["ActivateTask A"]}]
 fine "duration":3,"points":[{"offset":3,"actions":["ActivateTask A"]}]
@@ -48,7 +41,7 @@ Limit "duration":9,"points":[{"offset":3,"actions":["ActivateTask A"]}],"auto":{
 pub(super) const TABLE: &str =
     r#"{"cores":[{"id":0,"tasks":[{"name":"A","prio":1,"script":""}],"counters":[{"name":"K","max":9,"min":3}],"tables":[@]},{"id":1,"tasks":[{"name":"B","prio":1,"script":""}],"counters":[{"name":"Q","max":9}],"tables":[{"name":"Z","counter":"Q","duration":1,"points":[{"offset":0,"actions":["ActivateTask B"]}],"auto":null}]}]}"#;
 
-pub(super) const TABLES: &str = r#"
+const TABLES: &str = r#"
 // Faults of tables.
 Shape {"name":"P","counter":"K","duration":9}|{"name":"P","counter":"K","duration":9,"points":[{"offset":0}]}
 Shape {"name":"P","counter":"K","duration":9,"points":[],"auto":{"modes":[]}}
@@ -68,10 +61,10 @@ Limit 9
 "#;
 
 // The operation of a script that names a table, here one of its own core.
-pub(super) const SCRIPT: &str =
+const SCRIPT: &str =
     r#"{"cores":[{"id":0,"tasks":[{"name":"A","prio":1,"script":"@"}],"counters":[{"name":"K","max":9}],"tables":[{"name":"P","counter":"K","duration":1,"points":[{"offset":0,"actions":["ActivateTask A"]}]}]},{"id":1,"counters":[{"name":"Q","max":9}],"tables":[{"name":"Z","counter":"Q","duration":1,"points":[{"offset":0,"actions":["ActivateTask A"]}]}]}]}"#;
 
-pub(super) const OPERATIONS: &str = r#"
+const OPERATIONS: &str = r#"
 // Operations on tables.
 fine StartScheduleTableRel P 4294967295|StartScheduleTableAbs ? 0|NextScheduleTable P P
 fine NextScheduleTable ? P;NextScheduleTable P ?|StopScheduleTable P|GetScheduleTableStatus P v0
@@ -82,7 +75,7 @@ BadScript StartScheduleTableRel P|StartScheduleTableAbs P 4294967296|NextSchedul
 BadScript GetScheduleTableStatus P
 "#;
 
-pub(super) const TEXTS: &str = r#"
+const TEXTS: &str = r#"
 text {"cores":[{"id":0,"tasks":[{"name":"A","prio":1,"script":""}],"counters":[{"name":"K","max":300}],"tables":[{"name":"P","counter":"K","duration":300,"points":[@]}]}]}
 each [,] {"offset":@,"actions":["ActivateTask A"]}
 fine 1|16
@@ -94,25 +87,60 @@ UnknownName 8
 Limit 9|300
 "#;
 
-// The alarms of a core, and of each of its tables the point that posts most, post at most 56 envelopes at once: here
-// each table posts four at one point and one at the other.
+// A core whose alarms are to be filled in, and then its tables, and a core with a task.
+const POSTING: &str =
+    r#"{"cores":[{"id":0,"tasks":[{"name":"A","prio":1,"script":""}],"counters":[{"name":"K","max":9}],"alarms":[@],"tables":[@]},{"id":1,"tasks":[{"name":"B","prio":1,"script":""}]}]}"#;
+
+const ALARM: &str = r#"{"name":"W@","counter":"K","action":"ActivateTask B"}"#;
+
+// A table that posts four envelopes at one point and one at the other.
+const FOUR_AND_ONE: &str =
+    r#"{"name":"T@","counter":"K","duration":9,"points":[{"offset":0,"actions":["ActivateTask A","ActivateTask B","SetEvent B 1","SetEvent B 2","SetEvent B 4"]},{"offset":3,"actions":["ActivateTask B"]}]}"#;
+
+// The alarms of a core, and of each of its tables the point that posts most, post at most 56 envelopes at once.
 #[test]
 fn how_many_envelopes_at_once(rt: HostRuntime) -> Result<(), Fail> {
-    let cores =
-        r#"{"cores":[{"id":0,"tasks":[{"name":"A","prio":1,"script":""}],"counters":[{"name":"K","max":9}],"alarms":[@],"tables":[@]},{"id":1,"tasks":[{"name":"B","prio":1,"script":""}]}]}"#;
-    let alarm = r#"{"name":"W@","counter":"K","action":"ActivateTask B"}"#;
-    let table =
-        r#"{"name":"T@","counter":"K","duration":9,"points":[{"offset":0,"actions":["ActivateTask A","ActivateTask B","SetEvent B 1","SetEvent B 2","SetEvent B 4"]},{"offset":3,"actions":["ActivateTask B"]}]}"#;
-    let tables = listed(rt.alloc(), table, ",", 8)?;
     for (count, fault) in [(24, None), (25, Some(ConfFault::Limit))] {
-        let alarms = listed(rt.alloc(), alarm, ",", count)?;
-        let text = filled(rt.alloc(), cores, alarms.as_str())?;
-        let text = filled(rt.alloc(), text.as_str(), tables.as_str())?;
-        assert_eq!(rt;
-            read_config(rt.alloc(), text.as_str()).err(),
-            fault,
-            "{count}"
-        );
+        let refused = fault_of_alarms(rt.alloc(), count)?;
+        assert_eq!(rt; refused, fault, "{count}");
     }
     Ok(())
+}
+
+// The fault of so many alarms beside eight tables.
+fn fault_of_alarms(alloc: Global, count: u32) -> Result<Option<ConfFault>, Fail> {
+    let text = with_alarms(alloc, count)?;
+    fault_with_tables(alloc, text.as_str())
+}
+
+fn with_alarms(alloc: Global, count: u32) -> Result<String, Fail> {
+    let alarms = listed(alloc, ALARM, ",", count)?;
+    filled(alloc, POSTING, alarms.as_str())
+}
+
+fn fault_with_tables(alloc: Global, text: &str) -> Result<Option<ConfFault>, Fail> {
+    let tables = listed(alloc, FOUR_AND_ONE, ",", 8)?;
+    fault_with(alloc, Reader::Configuration, text, tables.as_str())
+}
+
+#[test]
+fn texts_with_tables(rt: HostRuntime) -> Result<(), Fail> {
+    play(&rt, rt.alloc(), Reader::Configuration, "@", TEXTS, 6)?;
+    play(&rt, rt.alloc(), Reader::Configuration, TABLE, TABLES, 14)?;
+    play(
+        &rt,
+        rt.alloc(),
+        Reader::Configuration,
+        TIMES,
+        TABLE_TIMES,
+        25,
+    )?;
+    play(
+        &rt,
+        rt.alloc(),
+        Reader::Configuration,
+        SCRIPT,
+        OPERATIONS,
+        20,
+    )
 }

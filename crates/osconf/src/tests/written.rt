@@ -1,18 +1,9 @@
 //! What is read is written, of one core alone too, and that is read and written again.
 
-use super::{Reader, Table};
+use super::{Reader, play};
+use std::test::Fail;
 
-/// How the tables of this file are read.
-pub(super) const ALL: &[Table] = &[
-    (Reader::Written, "@", WRITTEN),
-    (Reader::Written, "@", SAME),
-    (Reader::Alone(0), "@", LONE),
-    (Reader::Alone(1), "@", SECOND),
-    (Reader::Alone(2), "@", THIRD),
-    (Reader::Alone(15), "@", LAST),
-];
-
-pub(super) const WRITTEN: &str = r#"
+const WRITTEN: &str = r#"
 // What has no member is written with its value by default.
 text {"cores":[{"id":0,"start":[1],"tasks":[{"name":"A","prio":1,"auto":["M"],"script":"ActivateTask B;TerminateTask"}]},{"id":1,"tasks":[{"name":"B","prio":1,"script":"TerminateTask"}]}]}
 is {"cap":16,"cores":[{"alarms":[],"counters":[],"id":0,"isrs":[],"mode":"M","protection":"PRO_SHUTDOWN","resources":[],"start":[1],"tables":[],"tasks":[{"activations":1,"auto":["M"],"budget":0,"extended":false,"name":"A","preemptable":true,"prio":1,"script":"ActivateTask B;TerminateTask"}]},{"alarms":[],"counters":[],"id":1,"isrs":[],"mode":"M","protection":"PRO_SHUTDOWN","resources":[],"start":[],"tables":[],"tasks":[{"activations":1,"auto":[],"budget":0,"extended":false,"name":"B","preemptable":true,"prio":1,"script":"TerminateTask"}]}],"master":0,"modes":["M"],"spinlocks":[],"version":1}
@@ -34,14 +25,14 @@ is {"cap":16,"cores":[{"alarms":[],"counters":[],"id":0,"isrs":[],"mode":"M","pr
 "#;
 
 // Texts that are written as they were read.
-pub(super) const SAME: &str = r#"
+const SAME: &str = r#"
 // Spinlocks stay in their order, and each has the name of its successor.
 text {"cap":16,"cores":[{"alarms":[],"counters":[],"id":0,"isrs":[{"budget":0,"level":1,"name":"I","script":"TryToGetSpinlock L v7"}],"mode":"M","protection":"PRO_SHUTDOWN","resources":[],"start":[],"tables":[],"tasks":[{"activations":1,"auto":["M"],"budget":0,"extended":false,"name":"A","preemptable":true,"prio":1,"script":"GetSpinlock S;GetSpinlock ?;TryToGetSpinlock L v0;ReleaseSpinlock ?;ReleaseSpinlock S"}]}],"master":0,"modes":["M"],"spinlocks":[{"name":"S","next":"L"},{"name":"K","next":null},{"name":"L","next":"K"}],"version":1}
 is
 "#;
 
 // Texts of one core, which alone is what it was.
-pub(super) const LONE: &str = r#"
+const LONE: &str = r#"
 // Tasks stay in their order.
 text {"cap":16,"cores":[{"alarms":[],"counters":[],"id":0,"isrs":[],"mode":"M","protection":"PRO_SHUTDOWN","resources":[],"start":[],"tables":[],"tasks":[{"activations":60,"auto":[],"budget":0,"extended":false,"name":"B","preemptable":false,"prio":31,"script":"ActivateTask A;TerminateTask"},{"activations":3,"auto":["M"],"budget":0,"extended":false,"name":"A","preemptable":true,"prio":0,"script":"ActivateTask C"},{"activations":1,"auto":["M"],"budget":0,"extended":false,"name":"C","preemptable":true,"prio":0,"script":""}]}],"master":0,"modes":["M"],"spinlocks":[],"version":1}
 is
@@ -74,7 +65,7 @@ text {"cap":16,"cores":[{"alarms":[{"action":"ActivateTask A","auto":{"cycle":0,
 is
 "#;
 
-pub(super) const SECOND: &str = r#"
+const SECOND: &str = r#"
 // A core alone has all modes.
 text {"modes":["B","N"],"cores":[{"id":0,"mode":"DONOTCARE","start":[1]},{"id":1,"mode":"N","tasks":[{"name":"A","prio":1,"auto":["N"],"script":""}]},{"id":2}]}
 is {"cap":16,"cores":[{"alarms":[],"counters":[],"id":1,"isrs":[],"mode":"N","protection":"PRO_SHUTDOWN","resources":[],"start":[],"tables":[],"tasks":[{"activations":1,"auto":["N"],"budget":0,"extended":false,"name":"A","preemptable":true,"prio":1,"script":""}]}],"master":1,"modes":["B","N"],"spinlocks":[],"version":1}
@@ -84,14 +75,24 @@ text {"spinlocks":[{"name":"S"},{"name":"L","next":"S"}],"cores":[{"id":0,"start
 is {"cap":16,"cores":[{"alarms":[],"counters":[],"id":1,"isrs":[],"mode":"M","protection":"PRO_SHUTDOWN","resources":[],"start":[],"tables":[],"tasks":[{"activations":1,"auto":[],"budget":0,"extended":false,"name":"B","preemptable":true,"prio":1,"script":"ReleaseSpinlock ?"}]}],"master":1,"modes":["M"],"spinlocks":[],"version":1}
 "#;
 
-pub(super) const THIRD: &str = r#"
+const THIRD: &str = r#"
 // A separate core beside others.
 text {"cap":2,"cores":[{"id":0,"start":[1,9],"tasks":[{"name":"A","prio":2,"script":"ActivateTask B;ActivateTask ?"}]},{"id":1,"start":[2],"tasks":[{"name":"B","prio":1,"script":""}]},{"id":2,"tasks":[{"name":"V","prio":1,"auto":["M"],"script":"work;ActivateTask V;ActivateTask ?;TerminateTask"}]},{"id":3}]}
 is {"cap":2,"cores":[{"alarms":[],"counters":[],"id":2,"isrs":[],"mode":"M","protection":"PRO_SHUTDOWN","resources":[],"start":[],"tables":[],"tasks":[{"activations":1,"auto":["M"],"budget":0,"extended":false,"name":"V","preemptable":true,"prio":1,"script":"work;ActivateTask V;ActivateTask ?;TerminateTask"}]}],"master":2,"modes":["M"],"spinlocks":[],"version":1}
 "#;
 
-pub(super) const LAST: &str = r#"
+const LAST: &str = r#"
 // A core alone is of the same version.
 text {"version":2,"cores":[{"id":0,"start":[15]},{"id":15}]}
 is {"cap":16,"cores":[{"alarms":[],"counters":[],"id":15,"isrs":[],"mode":"M","protection":"PRO_SHUTDOWN","resources":[],"start":[],"tables":[],"tasks":[]}],"master":15,"modes":["M"],"spinlocks":[],"version":2}
 "#;
+
+#[test]
+fn texts_that_are_written(rt: HostRuntime) -> Result<(), Fail> {
+    play(&rt, rt.alloc(), Reader::Written, "@", WRITTEN, 5)?;
+    play(&rt, rt.alloc(), Reader::Written, "@", SAME, 1)?;
+    play(&rt, rt.alloc(), Reader::Alone(0), "@", LONE, 9)?;
+    play(&rt, rt.alloc(), Reader::Alone(1), "@", SECOND, 2)?;
+    play(&rt, rt.alloc(), Reader::Alone(2), "@", THIRD, 1)?;
+    play(&rt, rt.alloc(), Reader::Alone(15), "@", LAST, 1)
+}
