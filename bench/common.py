@@ -135,12 +135,12 @@ def positive(word):
     return int(word)
 
 
-def bench_run():
-    """The script bench/run, whose configurations and stimuli other scripts have too."""
-    loader = importlib.machinery.SourceFileLoader("run", os.path.join(ROOT, "bench", "run"))
-    run = importlib.util.module_from_spec(importlib.util.spec_from_loader("run", loader))
-    loader.exec_module(run)
-    return run
+def script(name):
+    """A script of bench, whose configurations and stimuli other scripts have too."""
+    loader = importlib.machinery.SourceFileLoader(name, os.path.join(ROOT, "bench", name))
+    module = importlib.util.module_from_spec(importlib.util.spec_from_loader(name, loader))
+    loader.exec_module(module)
+    return module
 
 
 def instructions_of(program, folder, words, status=0):
