@@ -5,7 +5,7 @@ use crate::references::{AlarmRef, CoreId, IsrRef, Runner, TableRef, TaskRef, Var
 use crate::statuses::{ServiceId, Status};
 
 /// One line of a trace.
-#[derive(Clone, Copy, Debug, PartialEq, Eq)]
+#[derive(Clone, Copy, PartialEq, Eq)]
 pub enum Mark {
     /// `start K S`: StartCore before StartOS.
     StartCoreReturned {

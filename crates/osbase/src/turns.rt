@@ -7,6 +7,7 @@ use crate::items::{Item, Stimulus};
 use crate::lists::List;
 use crate::marks::Mark;
 use crate::references::CoreId;
+use std::fmt;
 
 /// The stimuli of one core, in order.
 #[derive(Debug, Drop)]
@@ -55,7 +56,7 @@ pub type Schedule = List<Turn>;
 
 /// The report of one core of a run: the items that it took, the lines that it printed, and whether
 /// it reached its end.
-#[derive(Debug, Drop)]
+#[derive(Drop)]
 pub struct Report {
     pub core: CoreId,
     pub items: List<Item>,
@@ -64,4 +65,16 @@ pub struct Report {
     pub clocks: List<u64>,
     pub marks: List<Mark>,
     pub ended: bool,
+}
+
+impl fmt::Debug for Report {
+    // How much the core took and printed. The trace shows the lines themselves.
+    fn fmt<W: fmt::Write>(&self, f: &mut fmt::Formatter<W>) -> fmt::Result {
+        f.debug_struct("Report")
+            .field("core", &self.core.number)
+            .field("items", &self.items.len())
+            .field("marks", &self.marks.len())
+            .field("ended", &self.ended)
+            .finish()
+    }
 }

@@ -4,11 +4,11 @@ ghost use Rattle.std.specs.Prelude.{◌≡◌};
 ghost use Rattle.osplan.specs.{Fault.fault_number, Fault.fault_name, declared.faults.ConfFault.TheVariants.NoMemory};
 
 use std::alloc::{AllocError, AllocFailed};
-use thiserror::Error;
+use std::error::Error;
+use std::fmt;
 
 /// Why a text was not read, or a core's configuration not cut from the whole.
-#[derive(Clone, Copy, Debug, PartialEq, Eq, Error)]
-#[error("fault {} {}", self.number(), self.name())]
+#[derive(Clone, Copy, Debug, PartialEq, Eq)]
 pub enum ConfFault {
     /// The text is not JSON.
     NotJson,
@@ -85,6 +85,14 @@ impl ConfFault {
         }
     }
 }
+
+impl fmt::Display for ConfFault {
+    fn fmt<W: fmt::Write>(&self, f: &mut fmt::Formatter<W>) -> fmt::Result {
+        write!(f, "fault {} {}", self.number(), self.name())
+    }
+}
+
+impl Error for ConfFault {}
 
 impl From<AllocError> for ConfFault {
     ghost from_gives = { λ _ fault. fault ≡ NoMemory };

@@ -18,4 +18,4 @@ pub use differences::Difference;
 pub use files::files_of;
 pub use jobs::{check_of, cut_of, group_of, groups_of, replay_of, run_of, threads_of};
 pub use prints::{blocks_of, compare, result_from, result_of, result_over, result_text, same};
-pub use tables::{given, play_all, play_tables};
+pub use tables::{given, play_table};

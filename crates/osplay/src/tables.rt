@@ -6,36 +6,20 @@ use crate::scenes::{Block, Scene};
 use std::alloc::Global;
 use std::mem;
 use std::sync::Wait;
-use std::test::Fail;
 use std::thread::Threads;
 
-/// Plays the tables, once their parts are written out. They have so many jobs.
-pub fn play_tables(
+/// Plays the table, once its parts are written out. It has so many jobs.
+pub fn play_table(
     rt: &(impl Threads + Wait + Sync),
     alloc: Global,
-    tables: &[&str],
+    table: &str,
     jobs: usize,
 ) -> Result<(), Difference> {
-    let mut played = 0usize;
-    for table in tables {
-        let text = written_out(alloc, table)?;
-        let more = play(rt, alloc, text.as_str())?;
-        played = played.saturating_add(more);
-    }
+    let text = written_out(alloc, table)?;
+    let played = play(rt, alloc, text.as_str())?;
     if played != jobs {
         return Err(Difference::Jobs(played));
     }
-    Ok(())
-}
-
-/// Plays the tables for a test, which fails with what is not as it is to be.
-pub fn play_all(
-    rt: &(impl Threads + Wait + Sync),
-    alloc: Global,
-    tables: &[&str],
-    jobs: usize,
-) -> Result<(), Fail> {
-    play_tables(rt, alloc, tables, jobs)?;
     Ok(())
 }
 

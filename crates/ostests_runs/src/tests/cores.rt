@@ -1,6 +1,6 @@
 //! Runs with cores that version 2 of the configuration alone has.
 
-use osplay::play_all;
+use osplay::play_table;
 use osplay::sixteen::RING;
 use std::test::Fail;
 
@@ -75,5 +75,7 @@ ended
 
 #[test]
 fn cores_of_version_2_come_to_their_texts(rt: HostRuntime) -> Result<(), Fail> {
-    play_all(&rt, rt.alloc(), &[RUNS, RING], 13)
+    play_table(&rt, rt.alloc(), RUNS, 12)?;
+    play_table(&rt, rt.alloc(), RING, 1)?;
+    Ok(())
 }

@@ -1,6 +1,6 @@
 //! Events, waiting and chaining, on one core and across the border.
 
-use osplay::play_all;
+use osplay::play_table;
 use std::test::Fail;
 
 const RUNS: &str = r#"
@@ -166,5 +166,6 @@ ended
 
 #[test]
 fn events_and_chains_come_to_their_texts(rt: HostRuntime) -> Result<(), Fail> {
-    play_all(&rt, rt.alloc(), &[RUNS], 7)
+    play_table(&rt, rt.alloc(), RUNS, 7)?;
+    Ok(())
 }

@@ -1,6 +1,6 @@
 //! The least groups of cores, and the configuration of a group by itself.
 
-use osplay::{given, group_of, play_all, result_of, run_of};
+use osplay::{given, group_of, play_table, result_of, run_of};
 use std::alloc::Global;
 use std::sync::Wait;
 use std::test::Fail;
@@ -118,7 +118,8 @@ const STIMULI_OF_2: &str = r#"{"2":"op op"}"#;
 
 #[test]
 fn groups_come_to_their_texts(rt: HostRuntime) -> Result<(), Fail> {
-    play_all(&rt, rt.alloc(), &[GROUPS], 19)
+    play_table(&rt, rt.alloc(), GROUPS, 19)?;
+    Ok(())
 }
 
 // What the cores print by the configuration of a core's least group by itself.

@@ -2,7 +2,7 @@
 
 use osconf::ConfFault;
 use osjob::{Fault, tell};
-use osplay::play_all;
+use osplay::play_table;
 use ostrace::{MemorySink, WriteFailed};
 use osworld::RunFault;
 use std::alloc::AllocError;
@@ -102,7 +102,8 @@ fault 15 ItemRefused 1
 
 #[test]
 fn hostile_texts_come_to_their_faults(rt: HostRuntime) -> Result<(), Fail> {
-    play_all(&rt, rt.alloc(), &[TEXTS], 19)
+    play_table(&rt, rt.alloc(), TEXTS, 19)?;
+    Ok(())
 }
 
 // Each fault, also those to which no text leads, and its line.

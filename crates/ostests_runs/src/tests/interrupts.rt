@@ -1,6 +1,6 @@
 //! Worked examples of interrupts and execution budgets.
 
-use osplay::play_all;
+use osplay::play_table;
 use std::test::Fail;
 
 const RUNS: &str = r#"
@@ -291,5 +291,6 @@ ended
 
 #[test]
 fn interrupts_and_budgets_come_to_their_texts(rt: HostRuntime) -> Result<(), Fail> {
-    play_all(&rt, rt.alloc(), &[RUNS], 16)
+    play_table(&rt, rt.alloc(), RUNS, 16)?;
+    Ok(())
 }

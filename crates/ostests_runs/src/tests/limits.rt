@@ -1,6 +1,6 @@
 //! Jobs at the limits of what is accepted: each is done.
 
-use osplay::play_all;
+use osplay::play_table;
 use std::test::Fail;
 
 const LARGEST: &str = r##"
@@ -93,5 +93,8 @@ ended
 
 #[test]
 fn jobs_at_the_limits_come_to_their_texts(rt: HostRuntime) -> Result<(), Fail> {
-    play_all(&rt, rt.alloc(), &[LARGEST, POSTING, SUSPENDING], 8)
+    play_table(&rt, rt.alloc(), LARGEST, 3)?;
+    play_table(&rt, rt.alloc(), POSTING, 3)?;
+    play_table(&rt, rt.alloc(), SUSPENDING, 2)?;
+    Ok(())
 }

@@ -1,6 +1,6 @@
 //! Worked examples of the lock budgets of resources.
 
-use osplay::play_all;
+use osplay::play_table;
 use std::test::Fail;
 
 const RUNS: &str = r#"
@@ -384,5 +384,6 @@ ended
 
 #[test]
 fn lock_budgets_come_to_their_texts(rt: HostRuntime) -> Result<(), Fail> {
-    play_all(&rt, rt.alloc(), &[RUNS], 29)
+    play_table(&rt, rt.alloc(), RUNS, 29)?;
+    Ok(())
 }

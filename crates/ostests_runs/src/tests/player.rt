@@ -1,6 +1,6 @@
 //! What plays the tables of the other tests: a right one passes, and a wrong one is refused for what is wrong with it.
 
-use osplay::{Difference, play_tables, same};
+use osplay::{Difference, play_table, same};
 use std::alloc::Global;
 use std::sync::Wait;
 use std::test::Fail;
@@ -56,7 +56,7 @@ fn play_block(
     jobs: usize,
 ) -> Result<(), Difference> {
     let table = format!(in alloc; "{CONFIG}\n{block}")?;
-    play_tables(rt, alloc, &[table.as_str()], jobs)
+    play_table(rt, alloc, table.as_str(), jobs)
 }
 
 #[test]

@@ -1,7 +1,7 @@
 //! Worked examples of tasks and resources, on one core and across the border.
 
 use osplay::examples::MUTUAL;
-use osplay::play_all;
+use osplay::play_table;
 use std::test::Fail;
 
 const RUNS: &str = r#"
@@ -280,5 +280,8 @@ fault 1 NotJson
 
 #[test]
 fn runs_come_to_their_texts(rt: HostRuntime) -> Result<(), Fail> {
-    play_all(&rt, rt.alloc(), &[MUTUAL, RUNS, FAULTS], 28)
+    play_table(&rt, rt.alloc(), MUTUAL, 2)?;
+    play_table(&rt, rt.alloc(), RUNS, 13)?;
+    play_table(&rt, rt.alloc(), FAULTS, 13)?;
+    Ok(())
 }

@@ -1,7 +1,7 @@
 //! Runs that are shut down: one core, or all of them.
 
 use osplay::examples::{ALL_DOWN, ASKERS};
-use osplay::play_all;
+use osplay::play_table;
 use std::test::Fail;
 
 const RUNS: &str = r#"
@@ -296,5 +296,8 @@ ended
 
 #[test]
 fn shutdowns_come_to_their_texts(rt: HostRuntime) -> Result<(), Fail> {
-    play_all(&rt, rt.alloc(), &[ALL_DOWN, ASKERS, RUNS], 61)
+    play_table(&rt, rt.alloc(), ALL_DOWN, 24)?;
+    play_table(&rt, rt.alloc(), ASKERS, 4)?;
+    play_table(&rt, rt.alloc(), RUNS, 33)?;
+    Ok(())
 }

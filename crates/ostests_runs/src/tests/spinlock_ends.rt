@@ -1,6 +1,6 @@
 //! Spinlocks that are given back for a job that ended or a core that is down, and the logs of that.
 
-use osplay::play_all;
+use osplay::play_table;
 use std::test::Fail;
 
 const TWO_OWED: &str = r#"
@@ -222,5 +222,8 @@ as run
 
 #[test]
 fn spinlocks_are_given_back_as_the_logs_say(rt: HostRuntime) -> Result<(), Fail> {
-    play_all(&rt, rt.alloc(), &[TWO_OWED, WAITING, DOWN], 20)
+    play_table(&rt, rt.alloc(), TWO_OWED, 11)?;
+    play_table(&rt, rt.alloc(), WAITING, 6)?;
+    play_table(&rt, rt.alloc(), DOWN, 3)?;
+    Ok(())
 }

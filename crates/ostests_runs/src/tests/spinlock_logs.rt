@@ -1,7 +1,7 @@
 //! Who gets a spinlock, and the logs of that.
 
 use osplay::examples::{POLLING, REFUSED};
-use osplay::play_all;
+use osplay::play_table;
 use std::test::Fail;
 
 const SERVING: &str = r#"
@@ -61,5 +61,8 @@ as before up to pre B
 
 #[test]
 fn spinlocks_are_got_as_the_logs_say(rt: HostRuntime) -> Result<(), Fail> {
-    play_all(&rt, rt.alloc(), &[REFUSED, SERVING, POLLING], 31)
+    play_table(&rt, rt.alloc(), REFUSED, 24)?;
+    play_table(&rt, rt.alloc(), SERVING, 4)?;
+    play_table(&rt, rt.alloc(), POLLING, 3)?;
+    Ok(())
 }

@@ -1,6 +1,6 @@
 //! Runs by application modes, and what a script learns of the start of cores.
 
-use osplay::play_all;
+use osplay::play_table;
 use std::test::Fail;
 
 const RUNS: &str = r#"
@@ -349,5 +349,8 @@ core 0 bound
 
 #[test]
 fn modes_and_starts_come_to_their_texts(rt: HostRuntime) -> Result<(), Fail> {
-    play_all(&rt, rt.alloc(), &[RUNS, STANDINGS, SCRIPTS], 93)
+    play_table(&rt, rt.alloc(), RUNS, 23)?;
+    play_table(&rt, rt.alloc(), STANDINGS, 10)?;
+    play_table(&rt, rt.alloc(), SCRIPTS, 60)?;
+    Ok(())
 }

@@ -1,6 +1,6 @@
 //! Worked examples of schedule tables.
 
-use osplay::play_all;
+use osplay::play_table;
 use std::test::Fail;
 
 const RUNS: &str = r#"
@@ -453,5 +453,6 @@ fault 10 BadScript
 
 #[test]
 fn tables_come_to_their_texts(rt: HostRuntime) -> Result<(), Fail> {
-    play_all(&rt, rt.alloc(), &[RUNS], 15)
+    play_table(&rt, rt.alloc(), RUNS, 15)?;
+    Ok(())
 }

@@ -5,7 +5,7 @@ use super::spinlocks::{OWED, SHARED};
 use osbase::MailKind;
 use osplay::examples::{ALL_DOWN, ASKERS, MUTUAL, POLLING, REFUSED};
 use osplay::sixteen::RING;
-use osplay::{Difference, given, play_all, result_of, run_of, threads_of};
+use osplay::{Difference, given, play_table, result_of, run_of, threads_of};
 use std::alloc::Global;
 use std::process::Abort;
 use std::sync::Wait;
@@ -201,12 +201,11 @@ const SEPARATE_END: &str = "core 2\nhook Startup\nact V\npre V\nvar V v0 3\npost
 
 #[test]
 fn runs_by_threads_come_to_their_texts(rt: HostRuntime) -> Result<(), Fail> {
-    play_all(
-        &rt,
-        rt.alloc(),
-        &[BOUND_AND_SEPARATE, RUNS, OWED, SHARED],
-        66,
-    )
+    play_table(&rt, rt.alloc(), BOUND_AND_SEPARATE, 9)?;
+    play_table(&rt, rt.alloc(), RUNS, 18)?;
+    play_table(&rt, rt.alloc(), OWED, 36)?;
+    play_table(&rt, rt.alloc(), SHARED, 3)?;
+    Ok(())
 }
 
 // The result of a run by threads of a table's first files, with this kind of mail.
