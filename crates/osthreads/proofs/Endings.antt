@@ -2,8 +2,9 @@
 use Rattle.std.proofs.Common.{◌≡◌}
 use Rattle.osbase.specs.declared.references.CoreId.{CoreId}
 use Rattle.osmail.specs.Ends.{Streams}
-use Rattle.osthreads.specs.{declared.ending.Ending.Ending, declared.ending.Kept.Kept, declared.run.Run.Run, declared.worker.Worked.Worked, Seats.AreAt, Seats.shared, Threads.IsEnded, Threads.sent_of, Threads.taken_of, Working.IsWorked}
-use Rattle.osthreads.proofs.{Shifting.worked-finished, Working.spins-thin, Working.thin}
+use Rattle.osworker.specs.{declared.run.Run.Run, declared.worker.Worked.Worked, Seats.AreAt, Seats.shared, Working.IsWorked}
+use Rattle.osthreads.specs.{declared.ending.Ending.Ending, declared.ending.Kept.Kept, Threads.IsEnded, Threads.sent_of, Threads.taken_of}
+use Rattle.osworker.proofs.{Shifting.worked-finished, Working.spins-thin, Working.thin}
 
 -- What the worker of a core gave back, whatever its end of the mail left behind that says what it sent and took.
 abbrev pub ending : {M : Type 0} → Worked M → Kept → Ending

@@ -12,12 +12,14 @@ use Rattle.osboard.proofs.Boards.{looks_idle}
 use Rattle.osspin.specs.{declared.calls.SpinCall.SpinCall, declared.calls.SpinReply.SpinReply, Spins.IsRefusedCall, Spins.spinlocks}
 use Rattle.osspin.proofs.Locks.{refused_idle}
 use Rattle.osrun.specs.{Requests.Calls, Requests.calls_of, Requests.no_calls, Fits.history_by, Fits.ids_of, Sound.AreSound}
-use Rattle.osthreads.specs.{declared.ending.Ending.Ending, declared.seats.Seats.Seats, declared.turns.Stop.Stop}
+use Rattle.osworker.specs.{declared.seats.Seats.Seats, declared.turns.Stop.Stop}
+use Rattle.osthreads.specs.declared.ending.Ending.{Ending}
 use Rattle.osthreads.specs.Runs.{AreFinished, AreRuns, IsDelivered, new_board, new_spins}
-use Rattle.osthreads.specs.Seats.{Shared, first_seats, made_from, paired}
+use Rattle.osworker.specs.Seats.{Shared, first_seats, made_from, paired}
 use Rattle.osthreads.specs.Threads.{AreAllFinished, AreAllKept, AreEnded, AreSettled, IsEnded, IsSettled, sent_of, taken_of}
-use Rattle.osthreads.specs.Working.{IsFinished, is_finished_by, is_kept_by, refusal_at, was_stopped_by}
-use Rattle.osthreads.proofs.{Senders.ids-apart, Senders.nobody-listed, Threaded.both, Threaded.runs-sound}
+use Rattle.osworker.specs.Working.{IsFinished, is_finished_by, is_kept_by, refusal_at, was_stopped_by}
+use Rattle.osthreads.proofs.Threaded.{both, runs-sound}
+use Rattle.osworker.proofs.Listed.{ids-apart, nobody-listed}
 
 abbrev BoardSeat : Type 0
 BoardSeat = Held CoreId BoardCall BoardReply

@@ -1,6 +1,3 @@
-pub mod Requests
-pub mod Working
-pub mod Shifting
 pub mod Senders
 pub mod Threaded
 pub mod Gathering

@@ -8,7 +8,8 @@ use Rattle.osplan.specs.{declared.plans.Plan.Plan, View.core_of, Limits.is_withi
 use Rattle.osmail.specs.{declared.ends.MailStep.MailStep, declared.rings.RingEnd.RingEnd, Ends.sent_to, Ends.taken_from}
 use Rattle.osmail.specs.Rings.{AreDelivered, EndId, IsDelivered, IsUnused, core_of_end, end_id, past_of}
 use Rattle.osrun.specs.{Fits.ids_of, Sound.AreSound}
-use Rattle.osthreads.specs.{declared.ending.Ending.Ending, declared.ending.Kept.Kept, declared.ending.Kept.TheVariants.Rings, declared.ending.Kept.TheVariants.Steps, declared.ending.Outfit.Outfit, declared.seats.Seats.Seats, Seats.Shared, Seats.first_seats, declared.runs.ThreadReason.ThreadReason, declared.runs.ThreadReason.TheVariants.NoMemory, declared.runs.ThreadReason.TheVariants.NoThread}
+use Rattle.osworker.specs.{declared.seats.Seats.Seats, Seats.Shared, Seats.first_seats}
+use Rattle.osthreads.specs.{declared.ending.Ending.Ending, declared.ending.Kept.Kept, declared.ending.Kept.TheVariants.Rings, declared.ending.Kept.TheVariants.Steps, declared.ending.Outfit.Outfit, declared.runs.ThreadReason.ThreadReason, declared.runs.ThreadReason.TheVariants.NoMemory, declared.runs.ThreadReason.TheVariants.NoThread}
 use Rattle.osthreads.specs.Threads.{AreAllKept, AreEnded, AreEndsFor, AreEquipped, AreReady, AreSettled, IsReady, IsSameEnd, IsSettled, IsThreadFault, end_kept, end_of, ends_kept, equipped, kept_in, outfit_cores, sent_of, taken_of, which_kept}
 use Rattle.osthreads.proofs.Gathering.{AreGathered, AreOneEach, gathered, reports_of, seats-sound}
 

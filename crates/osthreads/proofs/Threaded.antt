@@ -14,7 +14,8 @@ use Rattle.osrun.specs.{Requests.Calls, Requests.calls_of, Requests.no_calls, So
 use Rattle.osrun.specs.Fits.{AreAnswered, Fits, FitsCore, history_by, ids_of, items_of}
 use Rattle.osrun.proofs.{Alone.fits-alone, Grouped.fits-apart}
 use Rattle.osthreads.specs.Runs.{AreDelivered, AreOneSpins, AreRuns, IsDelivered, IsOneBoard, IsOneCore}
-use Rattle.osthreads.proofs.Senders.{none-received, unlisted-unseen}
+use Rattle.osthreads.proofs.Senders.{none-received}
+use Rattle.osworker.proofs.Listed.{unlisted-unseen}
 
 abbrev cores_in : List Report → List CoreId
 cores_in reports = map (λ (r : Report). r.core) reports

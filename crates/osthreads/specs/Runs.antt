@@ -10,7 +10,7 @@ use Rattle.osboard.specs.Boards.{one_board}
 use Rattle.osspin.specs.Spins.{spinlocks}
 use Rattle.osrun.specs.{Requests.Calls, Requests.calls_of, Requests.no_calls, Sound.IsOwn}
 use Rattle.osrun.specs.Fits.{AreAnswered, FitsCore, history_by, ids_of}
-use Rattle.osthreads.specs.Working.{IsFinished}
+use Rattle.osworker.specs.Working.{IsFinished}
 
 -- The report says what its own items say, and they fit what was listed for its core.
 pub record IsOneCore (plan : Plan) (stimuli : List CoreStimuli) (report : Report) : Type 0 where

@@ -10,10 +10,11 @@ use Rattle.osmail.specs.Rings.{EndId, IsUnused, core_of_end, end_id, ring_sent, 
 use Rattle.osboard.specs.Boards.{IsLook}
 use Rattle.osspin.specs.Spins.{IsRefusedCall}
 use Rattle.osrun.specs.{Requests.Calls, Requests.no_calls, Fits.history_by, Fits.ids_of, Sound.AreSound}
-use Rattle.osthreads.specs.{declared.ending.Ending.Ending, declared.ending.Kept.Kept, declared.ending.Kept.TheVariants.Rings, declared.ending.Kept.TheVariants.Steps, declared.ending.Outfit.Outfit, declared.seats.Seats.Seats, declared.runs.Prepared.Prepared, declared.runs.Returned.Returned, declared.runs.Seated.Seated, declared.runs.ThreadReason.ThreadReason}
+use Rattle.osworker.specs.declared.seats.Seats.{Seats}
+use Rattle.osthreads.specs.{declared.ending.Ending.Ending, declared.ending.Kept.Kept, declared.ending.Kept.TheVariants.Rings, declared.ending.Kept.TheVariants.Steps, declared.ending.Outfit.Outfit, declared.runs.Prepared.Prepared, declared.runs.Returned.Returned, declared.runs.Seated.Seated, declared.runs.ThreadReason.ThreadReason}
 use Rattle.osthreads.specs.Runs.{IsOneCore, IsRun, new_board, new_spins}
-use Rattle.osthreads.specs.Seats.{AreAt, Shared, first_seats, made_from, shared}
-use Rattle.osthreads.specs.Working.{IsFinished, IsMailed, is_finished_by, is_kept_by, refusal_at}
+use Rattle.osworker.specs.Seats.{AreAt, Shared, first_seats, made_from, shared}
+use Rattle.osworker.specs.Working.{IsFinished, IsMailed, is_finished_by, is_kept_by, refusal_at}
 use Rattle.osthreads.specs.declared.runs.ThreadReason.TheVariants.{NotBegun, NoMemory, NoThread, MailBreak}
 
 -- What a core's end of the mail sent and took, by what it left behind.

@@ -4,11 +4,9 @@ ghost use Rattle.std.specs.Prelude.{◌≡◌, ◌++◌, ◌+◌, ◌<◌, ◌�
 ghost use Rattle.osmail.specs.Ends.{sent_to, taken_from};
 ghost use Rattle.osthreads.specs.Threads.{kept_in, sent_of, taken_of};
 
-use crate::run::Run;
-use crate::seats::Seats;
-use crate::turns::Stop;
 use osbase::{CoreId, Report};
 use osmail::{MailStep, RingEnd};
+use osworker::{Run, Seats, Stop};
 use std::snapshot::Snapshot;
 use std::thread::Promise;
 
@@ -70,7 +68,8 @@ pub struct EndOf<'a> {
 }
 
 impl<'a> Promise<Ending> for EndOf<'a> {
-    ghost use Rattle.osthreads.specs.{Seats.shared, Threads.IsEnded, Threads.IsSameEnd};
+    ghost use Rattle.osworker.specs.Seats.{shared};
+    ghost use Rattle.osthreads.specs.{Threads.IsEnded, Threads.IsSameEnd};
 
     ghost kept_by = { λ p e. IsEnded p.run.config.now p.run.stimuli.now p.run.turns (shared p.run.board.now p.run.bank.now) p.id e × IsSameEnd p.end.value e.kept };
 }

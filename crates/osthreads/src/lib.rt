@@ -1,30 +1,14 @@
 //! The cores of a configuration, each on a thread of its own.
 //!
-//! A worker runs one core: it serves the other cores, does its core's own work and looks at the board, turn by turn.
-//! Two workers share the words of the board and of the spinlocks, and a ring or a mailbox for each direction, and nothing
-//! else.
+//! Each core has a worker (`osworker`). Here they get their seats and their ends of the mail, are started and joined, and what
+//! they hand back is brought together.
 #![tactic(auto)]
 
 pub mod ending;
-pub mod gates;
-pub mod run;
 pub mod runs;
-pub mod seats;
-pub mod shifts;
-mod stamps;
 pub mod threads;
-mod turns;
-pub mod wakers;
-mod worker;
-mod workers;
 
 pub use ending::{Ending, Kept};
-pub use gates::Gate;
 pub use osbase::MailKind;
-pub use run::Run;
+pub use osworker::{AWAKE, Gate, ROUND, Run, Seats, Stop, Wakers, Worked, core_worker};
 pub use runs::{ThreadFault, ThreadReason, run_threads};
-pub use seats::Seats;
-pub use shifts::core_worker;
-pub use turns::Stop;
-pub use wakers::{AWAKE, ROUND, Wakers};
-pub use worker::Worked;

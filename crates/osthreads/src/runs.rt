@@ -6,22 +6,19 @@ ghost use Rattle.osbase.specs.{declared.limits.TheConstants.MAILBOX, declared.me
 ghost use Rattle.std.specs.List.{AllByRecursion, list_all, list_any};
 ghost use Rattle.osplan.specs.Stimuli.{AreKnown};
 ghost use Rattle.osrun.specs.Sound.{AreSound};
-ghost use Rattle.osthreads.specs.{declared.ending.Ending.Ending as EndingValue, Runs.AreFinished, declared.runs.ThreadReason.TheVariants.NoMemory, declared.runs.ThreadReason.TheVariants.NoThread, Seats.paired, Working.is_kept_by, Working.was_stopped_by};
+ghost use Rattle.osworker.specs.{Seats.paired, Working.is_kept_by, Working.was_stopped_by};
+ghost use Rattle.osthreads.specs.{declared.ending.Ending.Ending as EndingValue, Runs.AreFinished, declared.runs.ThreadReason.TheVariants.NoMemory, declared.runs.ThreadReason.TheVariants.NoThread};
 ghost use Rattle.osthreads.specs.Threads.{AreAllFinished, AreAllKept, AreEndsFor, AreParts, AreSettled, HasRoomFor, IsPrepared, IsSeated, IsSettled, IsThreadFault, equipped};
 
 use crate::ending::{Ending, Outfit};
-use crate::gates::Gate;
-use crate::run::Run;
-use crate::seats::Seats;
 use crate::threads::{Joined, run_all};
-use crate::turns::Stop;
-use crate::wakers::Wakers;
 use osbase::{CoreId, List, MAILBOX, MailKind, Report, Stimuli};
 use osboard::{Board, BoardSeat};
 use osmail::{LockedMail, RingEnd, RingMail};
 use osplan::Config;
 use osrun::ids_of;
 use osspin::{Clocks, SpinBank, SpinSeat};
+use osworker::{Gate, Run, Seats, Stop, Wakers};
 use std::alloc::{AllocError, Global};
 use std::collections::VecDeque;
 use std::sync::Wait;

@@ -1,16 +1,13 @@
 //! A worker for each configured core, each on a thread of its own.
 
 ghost use Rattle.std.specs.Prelude.{◌≡◌, ◌≤◌, map, [], IfErr, IfOk, None, Some, vec_len, vec_capacity};
-ghost use Rattle.osthreads.specs.Seats.{shared};
+ghost use Rattle.osworker.specs.Seats.{shared};
 ghost use Rattle.osthreads.specs.Threads.{AreEnded, AreReady, IsEnded, IsReady, IsSameEnd, end_kept, end_of, outfit_cores};
 
 use crate::ending::{EndOf, Ending, Kept, Outfit};
-use crate::gates::Gate;
-use crate::run::Run;
-use crate::seats::Seats;
-use crate::shifts::core_worker;
 use osbase::MAILBOX;
 use osmail::{LockedMail, RingEnd};
+use osworker::{Gate, Run, Seats, core_worker};
 use std::alloc::Global;
 use std::snapshot::Snapshot;
 use std::sync::Wait;

@@ -5,7 +5,7 @@ ghost use Rattle.std.specs.Prelude.{◌≡◌, ◌<◌, ◌∷◌, [], IfOk, vec
 ghost use Rattle.osbase.specs.declared.references.CoreId.{CoreId as CoreIdValue};
 ghost use Rattle.osshared.specs.Seats.{fresh};
 ghost use Rattle.osmail.specs.Ends.{sent_to, taken_from};
-ghost use Rattle.osthreads.specs.Seats.{first_seats, shared};
+ghost use Rattle.osworker.specs.Seats.{first_seats, shared};
 
 use osbase::{
     Agreement, CORES, CoreId, CoreMode, CoreSet, Envelope, Item, Letter, List, MAILBOX, Message,

@@ -1,5 +1,6 @@
 use Rattle.std.proofs.Common.{◌≡◌, ◌++◌, List}
-use Rattle.osthreads.specs.{declared.seats.Seats.Seats, Threads.equipped}
+use Rattle.osworker.specs.declared.seats.Seats.{Seats}
+use Rattle.osthreads.specs.Threads.{equipped}
 use Rattle.osthreads.proofs.runs.equip.Given as goal
 
 abbrev pub invariant-loop-seats : goal.invariant-loop-seats

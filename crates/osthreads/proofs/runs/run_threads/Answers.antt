@@ -1,6 +1,6 @@
 use Rattle.std.proofs.Common.{map, refl, ap, ◌∙◌, arith}
 use Rattle.osmail.specs.Rings.{end_id}
-use Rattle.osthreads.specs.Seats.{shared}
+use Rattle.osworker.specs.Seats.{shared}
 use Rattle.osthreads.proofs.{Gathering.seats-finished, Threaded.each-alone}
 use Rattle.osthreads.proofs.Outfits.{all-back, all-gathered, all-ready, fault-sound, whole-sound}
 use Rattle.osthreads.proofs.runs.run_threads.Goals as goal

@@ -2,8 +2,9 @@ use Rattle.std.proofs.Common.{ap, ◌∙◌}
 use Rattle.osplan.specs.declared.plans.Plan.{Plan}
 use Rattle.osplan.proofs.Numbered.{master-low}
 use Rattle.osrun.specs.Fits.{ids_of}
-use Rattle.osthreads.specs.{Seats.shared}
-use Rattle.osthreads.proofs.{Gathering.new-paired, Senders.ids-apart}
+use Rattle.osworker.specs.Seats.{shared}
+use Rattle.osthreads.proofs.Gathering.{new-paired}
+use Rattle.osworker.proofs.Listed.{ids-apart}
 use Rattle.osthreads.proofs.runs.seat.Goals as goal
 
 pub new-requires-clause-cores : goal.new-requires-clause-cores

@@ -1,6 +1,7 @@
 use Rattle.std.proofs.Common.{◌≡◌, ◌++◌, ◌∷◌, [], List, map, ap, ◌∙◌}
 use Rattle.osbase.specs.declared.references.CoreId.{CoreId}
-use Rattle.osthreads.specs.{declared.ending.Ending.Ending, declared.run.Run.Run, declared.ending.Outfit.Outfit, Seats.shared}
+use Rattle.osworker.specs.{declared.run.Run.Run, Seats.shared}
+use Rattle.osthreads.specs.{declared.ending.Ending.Ending, declared.ending.Outfit.Outfit}
 use Rattle.osthreads.specs.Threads.{AreEnded, IsEnded, end_kept, end_of, outfit_cores, which_end}
 use Rattle.osmail.proofs.Through.{map-snoc}
 use Rattle.osthreads.proofs.{Gathering.ended-push, Outfits.all_snoc}

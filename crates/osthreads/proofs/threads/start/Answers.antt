@@ -1,5 +1,6 @@
 use Rattle.std.proofs.Common.{sym, subst}
-use Rattle.osthreads.specs.{Seats.shared, Threads.IsReady}
+use Rattle.osworker.specs.Seats.{shared}
+use Rattle.osthreads.specs.Threads.{IsReady}
 use Rattle.osthreads.proofs.threads.start.Goals as goal
 
 pub job-requires-in-Err : goal.job-requires-in-Err

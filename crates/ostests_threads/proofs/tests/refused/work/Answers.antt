@@ -1,6 +1,6 @@
 use Rattle.std.proofs.Common.{◌≡◌, arith, ap, ◌∙◌}
 use Rattle.osrun.specs.Fits.{ids_of}
-use Rattle.osthreads.specs.declared.seats.Seats.{Seats}
+use Rattle.osworker.specs.declared.seats.Seats.{Seats}
 use Rattle.ostests_threads.proofs.tests.refused.work.Goals as goal
 
 pub core_worker-requires-clause-cores : goal.core_worker-requires-clause-cores

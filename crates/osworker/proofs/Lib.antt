@@ -1,0 +1,4 @@
+pub mod Listed
+pub mod Requests
+pub mod Working
+pub mod Shifting

@@ -1,0 +1,4 @@
+pub mod Seats
+pub mod Calling
+pub mod Working
+pub mod Rounds
