@@ -1,2 +1,3 @@
 pub mod Parsed
 pub mod Usage
+pub mod Subcommands

@@ -101,11 +101,15 @@ requires_subcommand app = record app { top = record app.top { subcommand_require
 abbrev pub tells_version : App → App
 tells_version app = record app { top = record app.top { has_version = true } }
 
+-- With the subcommands that read no file but a configuration.
+abbrev pub with_config_commands : App → App
+with_config_commands app =
+    with_subcommand (with_subcommand (with_subcommand (with_subcommand app check_command.top) cut_command.top) groups_command.top) group_command.top
+
 abbrev pub command_line : MailKinds → App
 command_line kinds =
-    with_subcommand (with_subcommand (with_subcommand (with_subcommand (with_subcommand (with_subcommand (with_subcommand
-    (requires_subcommand (tells_version (new_app (codes "mcos")))) run_command.top) check_command.top) cut_command.top)
-    groups_command.top) group_command.top) replay_command.top) (threads_command kinds).top
+    with_subcommand (with_subcommand (with_config_commands
+    (with_subcommand (requires_subcommand (tells_version (new_app (codes "mcos")))) run_command.top)) replay_command.top) (threads_command kinds).top
 
 -- A text that is there says this number.
 pub record SaysNumber (entry : Option (List ℕ)) (number : ℕ) : Type 0 where

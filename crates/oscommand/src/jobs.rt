@@ -5,7 +5,7 @@ ghost use Rattle.std.specs.Str.{bytes_eq};
 ghost use Rattle.std.specs.Str.Parse.{digits_value, without_leading_plus};
 ghost use Rattle.clap.specs.Words.{IsUnsignedIn, app_of, first_of, found_of, kind_of, new_app, rows_of, rule_of, subcommand_rows_of, with_rule};
 ghost use Rattle.clap.specs.declared.error.kind.ErrorKind.TheVariants.{ArgumentConflict};
-ghost use Rattle.oscommand.specs.CommandLine.{AsksFor, FailsByWords, HasEntries, IsMailName, SaysCore, SaysMail, SaysNumber, SaysPrint, SaysTurns, command_line, config_rule, core_rule, has_items_and_order, is_set, items_rule, mail_name, option_rule, order_rule, replay_command, required_rule, run_command, schedule_rule, stimuli_rule, subcommand_name, threads_command};
+ghost use Rattle.oscommand.specs.CommandLine.{AsksFor, FailsByWords, HasEntries, IsMailName, SaysCore, SaysMail, SaysNumber, SaysPrint, SaysTurns, command_line, config_rule, core_rule, has_items_and_order, is_set, items_rule, mail_name, option_rule, order_rule, replay_command, required_rule, run_command, schedule_rule, stimuli_rule, subcommand_name, threads_command, with_config_commands};
 ghost use Rattle.oscommand.specs.Entries.{AreChecked, HasThreads, SaysJob};
 ghost use Rattle.oscommand.specs.{declared.jobs.TheConstants.MOST_TURNS, Jobs.paths_of};
 
@@ -430,17 +430,25 @@ fn mail_in(word: &str) -> MailKind
 fn command<'a>(alloc: Global, kinds: &'a [&'a str]) -> Result<Command<'a>, AllocError>
     ensures { IfOk result (λ command. app_of command ≡ command_line kinds.entry) }
 {
-    Command::new(alloc, "mcos")
+    let run = Command::new(alloc, "mcos")
         .version(VERSION)
         .about("A multicore AUTOSAR OS kernel, simulated")
         .subcommand_required(true)
-        .subcommand(run_command(alloc)?)?
+        .subcommand(run_command(alloc)?)?;
+    with_config_commands(alloc, run)?
+        .subcommand(replay_command(alloc)?)?
+        .subcommand(threads_command(alloc, kinds)?)
+}
+
+// With the subcommands that read no file but a configuration.
+fn with_config_commands<'a>(alloc: Global, command: Command<'a>) -> Result<Command<'a>, AllocError>
+    ensures { IfOk result (λ new. app_of new ≡ with_config_commands (app_of command.entry)) }
+{
+    command
         .subcommand(config_command(alloc, "check", CHECK_ABOUT, CHECK_HELP)?)?
         .subcommand(core_command(alloc, "cut", CUT_ABOUT, CUT_HELP)?)?
         .subcommand(config_command(alloc, "groups", GROUPS_ABOUT, GROUPS_HELP)?)?
-        .subcommand(core_command(alloc, "group", GROUP_ABOUT, GROUP_HELP)?)?
-        .subcommand(replay_command(alloc)?)?
-        .subcommand(threads_command(alloc, kinds)?)
+        .subcommand(core_command(alloc, "group", GROUP_ABOUT, GROUP_HELP)?)
 }
 
 // A subcommand that reads a configuration.
