@@ -1,10 +1,9 @@
 -- How the rings of all ordered pairs of ends are made, one after another.
 use native.Mathlib.Omega.{arith}
-use Rattle.std.proofs.Common.{◌≡◌, ◌<◌, ◌+◌, ◌==◌, ◌&&◌, ◌⊎◌, inl, inr, ℕ, zero, suc, Option, Some, None, List, [], ◌∷◌, length, map, take, get_or, set, replicate, refl, sym, ap, subst, ◌∙◌, length-set, get_or-set_same, get_or-set_other}
-use Rattle.std.proofs.lemmas.Bool.{cases_eq}
+use Rattle.std.proofs.Common.{◌≡◌, ◌<◌, ◌+◌, ◌==◌, ◌&&◌, ℕ, zero, suc, Option, Some, None, List, [], ◌∷◌, length, map, take, get_or, set, replicate, refl, sym, ap, subst, ◌∙◌, length-set, get_or-set_other}
 use Rattle.std.proofs.lemmas.Bool.Decides.{nat_tests}
 use Rattle.std.proofs.lemmas.Grind.{get_or-set_at}
-use Rattle.std.proofs.lemmas.List.{get_or_default, length-map, length-replicate, map-set, take_more}
+use Rattle.std.proofs.lemmas.List.{get_or_default, length-map, map-set, take_more}
 use Rattle.std.proofs.lemmas.List.Elements.{All-from_get_or, All-from_recursion, All-map, All-replicate, All-set, recursion_from_All}
 use Rattle.std.specs.{List.AllByRecursion, Global.Vec, Option.option_map, Prelude.if◌then◌else◌}
 use Rattle.rtrb.specs.Ring.{IsPair, known_free, received, sent}

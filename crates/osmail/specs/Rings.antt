@@ -1,5 +1,5 @@
 -- The rings between cores: which ring an end of one belongs to, which rings a core's end has, and what went through them.
-use Rattle.std.specs.Prelude.{◌≡◌, ℕ, ◌<◌, Option, None, List, [], ◌∷◌, ◌++◌, length, map, replicate, slice_index_or}
+use Rattle.std.specs.Prelude.{◌≡◌, ℕ, ◌<◌, Option, Some, None, List, [], ◌∷◌, ◌++◌, length, map, replicate, slice_index_or, slice_set}
 use Rattle.std.specs.{List.AllByRecursion, Option.option_map, Option.option_map_or, Global.Global}
 use denote.RawPtr.{Ptr}
 use Rattle.rtrb.specs.{declared.AnyItems.AnyItems, declared.producer.Producer.Producer, declared.consumer.Consumer.Consumer, Shared.Names}
@@ -52,6 +52,17 @@ end_id end = record { core = end.core; to = map (option_map ring_to) end.to.item
 
 abbrev pub core_of_end : RingEnd → CoreId
 core_of_end end = end.core
+
+-- From now on an end sends to this core by this ring, or takes from it, and nothing else changed.
+pub record SendsBy (other : CoreId) (ring : Sender) (old new : RingEnd) : Type 0 where
+  pub core : new.core ≡ old.core
+  pub to : new.to.items ≡ slice_set old.to.items other.number (Some ring)
+  pub from : new.from ≡ old.from
+
+pub record TakesBy (other : CoreId) (ring : Taker) (old new : RingEnd) : Type 0 where
+  pub core : new.core ≡ old.core
+  pub to : new.to ≡ old.to
+  pub from : new.from.items ≡ slice_set old.from.items other.number (Some ring)
 
 -- What it did: by core number, what it sent and what it took.
 pub record EndPast : Type 0 where

@@ -4,7 +4,7 @@ ghost use Rattle.std.specs.Prelude.{◌≡◌, ◌<◌, ◌≤◌, ◌++◌, ◌
 ghost use Rattle.std.specs.{List.AllByRecursion, Option.option_map};
 ghost use Rattle.osbase.specs.declared.references.CoreId.{CoreId as CoreNumber};
 ghost use Rattle.osmail.specs.Ends.{AreUnchanged, HasOneMore};
-ghost use Rattle.osmail.specs.Rings.{AreBothDelivered, AreBothLinked, AreCores, AreDelivered, AreMade, HasRoom, IsBare, IsDelivered, IsLinked, IsRingDelivered, IsUnused, core_at, core_of_end, end_id, free_at, free_of, free_to, known_by, known_from, past_of, ring_from, ring_sent, ring_taken, ring_to, sent_by, taken_by};
+ghost use Rattle.osmail.specs.Rings.{AreBothDelivered, AreBothLinked, AreCores, AreDelivered, AreMade, HasRoom, IsBare, IsDelivered, IsLinked, IsRingDelivered, IsUnused, SendsBy, TakesBy, core_at, core_of_end, end_id, free_at, free_of, free_to, known_by, known_from, past_of, ring_from, ring_sent, ring_taken, ring_to, sent_by, taken_by};
 
 use crate::ends::Mail;
 use osbase::{CORES, CoreId, Envelope};
@@ -317,9 +317,7 @@ impl RingEnd {
     // From now on it sends to this core by this ring.
     fn attach_sender(&mut self, to: CoreId, ring: Producer<Envelope>)
         requires { to.number < length self.old.to.items }
-        ensures core { self.new.core ≡ self.old.core }
-        ensures to { self.new.to.items ≡ slice_set self.old.to.items to.number (Some ring) }
-        ensures from { self.new.from ≡ self.old.from }
+        ensures { SendsBy to ring self.old self.new }
     {
         self.to[usize::from(to.number)] = Some(ring);
     }
@@ -327,9 +325,7 @@ impl RingEnd {
     // From now on it takes from this core by this ring.
     fn attach_taker(&mut self, from: CoreId, ring: Consumer<Envelope>)
         requires { from.number < length self.old.from.items }
-        ensures core { self.new.core ≡ self.old.core }
-        ensures to { self.new.to ≡ self.old.to }
-        ensures from { self.new.from.items ≡ slice_set self.old.from.items from.number (Some ring) }
+        ensures { TakesBy from ring self.old self.new }
     {
         self.from[usize::from(from.number)] = Some(ring);
     }

@@ -1,6 +1,6 @@
 -- How the places of a pool are linked: of each priority that has jobs one queue, by ascending stamps. What is said of a place
 -- names no other place but by priority and stamp, so no queue is followed from its front to say it. [own]
-use Rattle.std.specs.Prelude.{◌≡◌, ℕ, ◌+◌, ◌<◌, ◌≤◌, true, Option, Some, None, is_some, List, length, slice_index, slice_index_or}
+use Rattle.std.specs.Prelude.{◌≡◌, ℕ, ◌+◌, ◌<◌, ◌≤◌, true, Option, Some, None, is_some, List, length, slice_index, slice_index_or, slice_set}
 use Rattle.std.specs.Int.{bit_at}
 use Rattle.osqueue.specs.{declared.ready.Ready.Ready, declared.ready.TheConstants.PRIORITIES, Ordered.ordered}
 
@@ -58,6 +58,12 @@ pub record IsPool (room : ℕ) (places : List (Option Ready)) (blanks : List ℕ
   pub blank : (k : ℕ) → k < free → at places (slice_index blanks k) ≡ None
   pub distinct : (k m : ℕ) → k < free → m < free → slice_index blanks k ≡ slice_index blanks m → k ≡ m
   pub total : length (ordered places) + free ≡ room
+
+-- A job was put into this place, which had none.
+pub record IsPut (old : List (Option Ready)) (ready : Ready) (place : ℕ) (new : List (Option Ready)) : Type 0 where
+  pub within : place < length old
+  pub blank : at old place ≡ None
+  pub pool : new ≡ slice_set old place (Some ready)
 
 -- On the way to the job that is asked for the place has an older one of its priority.
 pub record IsOnTheWay (pool : List (Option Ready)) (ready : Ready) (i : ℕ) : Type 0 where

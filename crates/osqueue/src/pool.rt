@@ -1,7 +1,7 @@
 //! Places for ready jobs.
 
 ghost use Rattle.std.specs.Prelude.{◌≡◌, ◌<◌, Some, None, IsTrue, ◌↔◌, is_some, true, length, replicate, slice_index_or, slice_set};
-ghost use Rattle.osqueue.specs.Ordered.{ordered};
+ghost use Rattle.osqueue.specs.{Links.IsPut, Ordered.ordered};
 
 use crate::ready::Ready;
 use std::marker::Model;
@@ -53,9 +53,7 @@ impl<const J: usize> Pool<J> {
     /// Puts a job into a place that has none.
     pub(crate) fn put(&mut self, ready: Ready) -> usize
         requires { length (ordered self.old) < J }
-        ensures within { result < length self.old }
-        ensures blank { slice_index_or self.old result None ≡ None }
-        ensures pool { self.new ≡ slice_set self.old result (Some ready) }
+        ensures { IsPut self.old ready result self.new }
     {
         self.free -= 1;
         let place = self.blanks[self.free];

@@ -1,6 +1,7 @@
 -- What the workers' threads give back. [own]
 use mathlib.Core.List.{IsPrefix}
-use Rattle.std.specs.Prelude.{◌≡◌, ◌≤◌, ℕ, true, Option, Some, None, IfSome, IsSome, IsTrue, List, [], ◌∷◌, ◌++◌, map, option_map, vec_len, vec_capacity}
+use Rattle.std.specs.Prelude.{◌≡◌, ◌≤◌, ℕ, true, Option, Some, None, IfSome, IsSome, IsTrue, List, [], ◌∷◌, ◌++◌, map, option_map, Vec, vec_len, vec_capacity}
+use Rattle.std.specs.Global.{Global}
 use Rattle.std.specs.List.{AllByRecursion}
 use Rattle.osbase.specs.{declared.references.CoreId.CoreId, declared.turns.CoreStimuli.CoreStimuli, declared.messages.MailKind.MailKind, declared.messages.MailKind.TheVariants.Locked, declared.messages.MailKind.TheVariants.Ring, declared.turns.Report.Report}
 use Rattle.osplan.specs.{declared.plans.Plan.Plan, Limits.is_within_limits, View.core_of, View.view_of}
@@ -114,6 +115,12 @@ pub record IsReady (plan : Plan) (cores : List CoreId) (shared : Shared) (outfit
 
 abbrev pub AreReady : Plan → List CoreId → Shared → List Outfit → Type 0
 AreReady plan cores shared outfits = AllByRecursion (IsReady plan cores shared) outfits
+
+-- Each outfit is so, and for its ending there is room, where none is yet.
+pub record MayStart (plan : Plan) (cores : List CoreId) (shared : Shared) (outfits : Vec Outfit Global) (endings : Vec Ending Global) : Type 0 where
+  pub ready : AreReady plan cores shared outfits.items
+  pub empty : endings.items ≡ []
+  pub room : vec_len outfits ≤ vec_capacity endings
 
 abbrev pub outfit_cores : List Outfit → List CoreId
 outfit_cores outfits = map (λ (o : Outfit). o.seats.board.core) outfits

@@ -1,8 +1,8 @@
 //! A worker for each configured core, each on a thread of its own.
 
-ghost use Rattle.std.specs.Prelude.{◌≡◌, ◌≤◌, map, [], IfErr, IfOk, None, Some, vec_len, vec_capacity};
+ghost use Rattle.std.specs.Prelude.{◌≡◌, ◌≤◌, map, IfErr, IfOk, None, Some, vec_len, vec_capacity};
 ghost use Rattle.osworker.specs.Seats.{shared};
-ghost use Rattle.osthreads.specs.Threads.{AreEnded, AreReady, IsEnded, IsReady, IsSameEnd, end_kept, end_of, outfit_cores};
+ghost use Rattle.osthreads.specs.Threads.{AreEnded, IsEnded, IsReady, IsSameEnd, MayStart, end_kept, end_of, outfit_cores};
 
 use crate::ending::{EndOf, Ending, Kept, Outfit};
 use osbase::MAILBOX;
@@ -164,9 +164,7 @@ fn run_each<'s, E, R: Threads + Wait + Sync, G: Gate + Sync>(
     gate: &'s G,
     endings: &mut Vec<Ending>,
 ) -> bool
-    requires ready { AreReady run.now.config.now run.now.cores.now (shared run.now.board.now run.now.bank.now) outfits.old.items }
-    requires empty { endings.old.items ≡ [] }
-    requires room { vec_len outfits.old ≤ vec_capacity endings.old }
+    requires outfits { MayStart run.now.config.now run.now.cores.now (shared run.now.board.now run.now.bank.now) outfits.old endings.old }
     ensures ended { AreEnded run.now.config.now run.now.stimuli.now run.now.turns (shared run.now.board.now run.now.bank.now) (outfit_cores outfits.old.items) endings.new.items }
     ensures ends { map end_kept endings.new.items ≡ map end_of outfits.old.items }
     ensures len { vec_len endings.new ≤ vec_len outfits.old }
@@ -199,9 +197,7 @@ pub(crate) fn run_all<R: Threads + Wait + Sync, G: Gate + Sync>(
     gate: &G,
     endings: Vec<Ending>,
 ) -> Joined
-    requires ready { AreReady run.now.config.now run.now.cores.now (shared run.now.board.now run.now.bank.now) outfits.items }
-    requires empty { endings.items ≡ [] }
-    requires room { vec_len outfits ≤ vec_capacity endings }
+    requires outfits { MayStart run.now.config.now run.now.cores.now (shared run.now.board.now run.now.bank.now) outfits endings }
     ensures ended { AreEnded run.now.config.now run.now.stimuli.now run.now.turns (shared run.now.board.now run.now.bank.now) (outfit_cores outfits.items) result.endings.items }
     ensures ends { map end_kept result.endings.items ≡ map end_of outfits.items }
     ensures len { vec_len result.endings ≤ vec_len outfits }
@@ -221,9 +217,7 @@ pub(crate) fn run_all<R: Threads + Wait + Sync, G: Gate + Sync>(
         thread::scope_env(),
         rt,
         |scope| -> Joined
-            requires ready { AreReady config.now cores.now (shared board.now bank.now) outfits.items }
-            requires empty { endings.items ≡ [] }
-            requires room { vec_len outfits ≤ vec_capacity endings }
+            requires outfits { MayStart config.now cores.now (shared board.now bank.now) outfits endings }
             ensures ended { AreEnded config.entry.now stimuli.entry.now turns (shared board.entry.now bank.entry.now) (outfit_cores outfits.items) result.endings.items }
             ensures ends { map end_kept result.endings.items ≡ map end_of outfits.items }
             ensures len { vec_len result.endings ≤ vec_len outfits }

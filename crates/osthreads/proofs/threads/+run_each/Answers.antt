@@ -1,4 +1,4 @@
-use Rattle.std.proofs.Common.{◌≡◌, ◌++◌, ◌∷◌, [], List, map, ap, ◌∙◌}
+use Rattle.std.proofs.Common.{◌≡◌, ◌++◌, ◌∷◌, [], List, map, ap, ◌∙◌, arith}
 use Rattle.osbase.specs.declared.references.CoreId.{CoreId}
 use Rattle.osworker.specs.{declared.run.Run.Run, Seats.shared}
 use Rattle.osthreads.specs.{declared.ending.Ending.Ending, declared.ending.Outfit.Outfit}
@@ -24,10 +24,14 @@ ends-more : (os rest : List Outfit) (outfit : Outfit) (es more : List Ending) (e
 ends-more os rest outfit es more e split pushed ends here = rw (split, pushed, map-snoc end_kept es e, map-snoc end_of rest outfit, ends, here)
 
 pub start-started-requires-after_bounds : goal.start-started-requires-after_bounds
-start-started-requires-after_bounds g n c lifetimes outlive = (all_snoc _ c.pop.new.self.items c.in-Some.last (rw c.in-Some.ensures.items at c.requires.ready)).1
+start-started-requires-after_bounds g n c lifetimes outlive = (all_snoc _ c.pop.new.self.items c.in-Some.last (rw c.in-Some.ensures.items at c.requires.outfits.ready)).1
 
-pub run_each-complete-requires-clause-ready : goal.run_each-complete-requires-clause-ready
-run_each-complete-requires-clause-ready g n c lifetimes outlive = (all_snoc _ c.pop.new.self.items c.in-Some.last (rw c.in-Some.ensures.items at c.requires.ready)).0
+pub run_each-complete-requires-clause-outfits : goal.run_each-complete-requires-clause-outfits
+run_each-complete-requires-clause-outfits g n c lifetimes outlive = record {
+  ready = (all_snoc _ c.pop.new.self.items c.in-Some.last (rw c.in-Some.ensures.items at c.requires.outfits.ready)).0;
+  empty = search;
+  room = omega (arith, c.in-Some.ensures.len, c.requires.outfits.room);
+}
 
 pub returns-in-Ok-clause-ended : goal.returns-in-Ok-clause-ended
 returns-in-Ok-clause-ended g n c =
