@@ -2,3 +2,4 @@ pub mod Lists
 pub mod Naming
 pub mod Alone
 pub mod Indexing
+pub mod Settings

@@ -6,7 +6,7 @@ use Rattle.osbase.specs.{declared.objects.ObjectKind.ObjectKind, Names.is_name}
 use Rattle.osplan.specs.Limits.{TaskSizes, IsrSizes, ResourceSizes, CounterSizes, StartSizes, PointSizes, TableSizes, CoreSizes, Sizes}
 use Rattle.osplan.specs.{Protection.protection_named, declared.plans.TheConstants.COMMON, declared.plans.TheConstants.KINDS, declared.protection.Protection.Protection}
 use Rattle.serde_json.specs.{Data.Data, Find.as_bool, Find.as_str}
-use Rattle.osschema.specs.{declared.shapes.AlarmStartText.AlarmStartText, declared.shapes.AlarmText.AlarmText, declared.shapes.ConfigText.ConfigText, declared.shapes.CoreText.CoreText, declared.shapes.CounterText.CounterText, declared.shapes.IsrText.IsrText, declared.shapes.Named.Named, declared.shapes.ResourceText.ResourceText, declared.shapes.SpinlockText.SpinlockText, declared.shapes.TaskText.TaskText, declared.table_shapes.PointText.PointText, declared.table_shapes.TableStartText.TableStartText, declared.table_shapes.TableText.TableText}
+use Rattle.osschema.specs.{declared.shapes.AlarmStartText.AlarmStartText, declared.shapes.AlarmText.AlarmText, declared.shapes.ConfigText.ConfigText, declared.shapes.CoreSettings.CoreSettings, declared.shapes.CoreText.CoreText, declared.shapes.CounterText.CounterText, declared.shapes.IsrText.IsrText, declared.shapes.Named.Named, declared.shapes.ResourceText.ResourceText, declared.shapes.SpinlockText.SpinlockText, declared.shapes.TaskText.TaskText, declared.table_shapes.PointText.PointText, declared.table_shapes.TableStartText.TableStartText, declared.table_shapes.TableText.TableText}
 use Rattle.osjson.specs.Reading.{◌>>=◌}
 use Rattle.osjson.specs.Json.{whole_of, name_of, each_of, or_null, member_of, member_or, only_members}
 
@@ -117,6 +117,16 @@ protection_of d = option_and_then protection_named (as_str d)
 -- The name of a core's mode.
 abbrev pub mode_shape : Data → Option (Option (List ℕ))
 mode_shape d = option_map Some (name_of d)
+
+-- What a core's text says of the core itself: its number; its mode, none by default; the cores that it starts, none by default; how it
+-- answers a time fault, PRO_SHUTDOWN by default.
+unfoldable pub settings_shape : Data → Option CoreSettings
+settings_shape d = do
+  id ← member_of whole_of (codes "id") d
+  mode ← member_or mode_shape None (codes "mode") d
+  start ← member_or (each_of whole_of) [] (codes "start") d
+  protection ← member_or protection_of Protection.Shutdown (codes "protection") d
+  Some (record { id = id; mode = mode; start = start; protection = protection })
 
 -- A core: its number; its mode, none by default; how it answers a time fault, PRO_SHUTDOWN by default; the cores that it starts, its
 -- tasks, its ISRs, its resources, its counters, its alarms and its tables, none by default.

@@ -8,7 +8,7 @@ ghost use Rattle.osplan.specs.Limits.{is_counter_within, is_isr_within, is_resou
 ghost use Rattle.osjson.specs.{Json.each_of, Json.member_or, Reading.Gives};
 ghost use Rattle.serde_json.specs.View.{view};
 ghost use Rattle.osschema.specs.{Declarations.declared_sizes, declared.shapes.Named.Named as NamedValue};
-ghost use Rattle.osschema.specs.Shape.{task_sizes, isr_sizes, resource_sizes, counter_sizes, start_numbers, task_shape, isr_shape, resource_shape, counter_shape, alarm_start_shape, alarm_shape, common_in, core_shape, config_shape, has_named_objects, is_named, mode_shape, numbered, objects_in, protection_of, spinlock_shape, unnumbered};
+ghost use Rattle.osschema.specs.Shape.{task_sizes, isr_sizes, resource_sizes, counter_sizes, start_numbers, task_shape, isr_shape, resource_shape, counter_shape, alarm_start_shape, alarm_shape, common_in, core_shape, config_shape, has_named_objects, is_named, mode_shape, numbered, objects_in, protection_of, settings_shape, spinlock_shape, unnumbered};
 
 use crate::declarations::Declaration;
 use crate::numbers::{is_between, is_budget, most_activations};
@@ -532,6 +532,33 @@ fn default_modes<'v>(alloc: Global) -> Result<List<Text<'v>>, AllocError>
     Ok(modes)
 }
 
+// What a core's text says of the core itself.
+#[derive(Drop)]
+struct CoreSettings<'v> {
+    id: Whole,
+    mode: Option<Text<'v>>,
+    start: List<Whole>,
+    protection: Protection,
+}
+
+#[tactic(auto, unfolding(crate::specs::Shape::settings_shape))]
+fn read_settings<'v>(alloc: Global, value: &'v Value) -> Result<CoreSettings<'v>, Refusal>
+    ensures { Gives (λ x. x) result (settings_shape (view value.now)) }
+{
+    Ok(CoreSettings {
+        id: at(alloc, value, "id", &WholeReader)?,
+        mode: at_or(alloc, value, "mode", &ModeReader, None)?,
+        start: list_at(alloc, value, "start", WholeReader)?,
+        protection: at_or(
+            alloc,
+            value,
+            "protection",
+            &ProtectionReader,
+            Protection::Shutdown,
+        )?,
+    })
+}
+
 // Reads a core.
 #[derive(Clone, Copy)]
 struct CoreReader;
@@ -541,7 +568,7 @@ impl<'v> JsonReader<'v, CoreText<'v>> for CoreReader {
 
     ghost passes = { λ _ core. has_named_objects core };
 
-    #[tactic(auto, unfolding(crate::specs::Shape::core_shape), using(crate::proofs::Lists::mapped))]
+    #[tactic(auto, using(crate::proofs::Lists::mapped, crate::proofs::Settings::core_settings))]
     fn read(&self, alloc: Global, value: &'v Value) -> Result<CoreText<'v>, Refusal> {
         only_members(
             value,
@@ -558,17 +585,12 @@ impl<'v> JsonReader<'v, CoreText<'v>> for CoreReader {
                 "tables",
             ],
         )?;
+        let settings = read_settings(alloc, value)?;
         Ok(CoreText {
-            id: at(alloc, value, "id", &WholeReader)?,
-            mode: at_or(alloc, value, "mode", &ModeReader, None)?,
-            start: list_at(alloc, value, "start", WholeReader)?,
-            protection: at_or(
-                alloc,
-                value,
-                "protection",
-                &ProtectionReader,
-                Protection::Shutdown,
-            )?,
+            id: settings.id,
+            mode: settings.mode,
+            start: settings.start,
+            protection: settings.protection,
             tasks: list_at(alloc, value, "tasks", TaskReader)?,
             isrs: list_at(alloc, value, "isrs", IsrReader)?,
             resources: list_at(alloc, value, "resources", ResourceReader)?,
