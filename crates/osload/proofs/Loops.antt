@@ -1,12 +1,26 @@
 -- What the proofs of plans share: faults, and what is so of each of a list or of what is there.
-use Rattle.std.proofs.Common.{◌≡◌, Bool, true, List, [], Option, Some, None, is_some, unwrap_or, refl, arith}
+use Rattle.std.proofs.Common.{◌≡◌, ◌≢◌, ◌⊎◌, ◌&&◌, ◌∙◌, Bool, true, false, List, [], Option, Some, None, is_some, unwrap_or, refl, sym, ap, inl, inr, arith}
 use Rattle.std.specs.List.{list_all}
-use Rattle.osplan.specs.{declared.faults.ConfFault.ConfFault, Fault.first_fault}
+use Rattle.osplan.specs.{declared.faults.ConfFault.ConfFault, declared.faults.ConfFault.TheVariants.Limit, declared.faults.ConfFault.TheVariants.NoMemory, Fault.failing, Fault.first_fault}
 use Rattle.osschema.proofs.Lists.{list_all-every}
+use Rattle.osvalidate.specs.{Words.ConfigText, Check.are_scripts_short, Check.is_text_numbered, Check.is_text_within, Check.tests_of}
+use Rattle.osvalidate.proofs.Counting.{within_split}
 
 -- Where there is no first fault, there is none.
 pub no_fault : (faults : List ConfFault) → first_fault faults ≡ None → faults ≡ []
 no_fault faults e = grind arith
+
+-- A text that is past a limit has no fault before that: whether it is one of its numbers,
+limited : (t : ConfigText) → is_text_within t ≡ false → first_fault (failing (tests_of t)) ≡ Some Limit
+limited t past = rw past refl
+
+pub past_numbers : (t : ConfigText) → is_text_numbered t ≡ false → first_fault (failing (tests_of t)) ≡ Some Limit
+past_numbers t past = limited t (within_split t ∙ ap (λ b. b && are_scripts_short t) past)
+
+-- or how many operations a script has, if memory did not run out where that was found.
+pub past_scripts : (t : ConfigText) (fault : ConfFault) → is_text_numbered t ≡ true → (fault ≡ NoMemory) ⊎ ((fault ≡ Limit) × (are_scripts_short t ≡ false)) → fault ≢ NoMemory → first_fault (failing (tests_of t)) ≡ Some fault
+past_scripts t fault numbered (inl none) memory = absurd (memory none)
+past_scripts t fault numbered (inr long) memory = limited t (within_split t ∙ ap (λ b. b && are_scripts_short t) numbered ∙ long.1) ∙ ap Some (sym long.0)
 
 pub always : {X : Type 0} (xs : List X) → list_all (λ (x : X). true) xs ≡ true
 always xs = list_all-every (λ _. true) (λ _. refl) xs

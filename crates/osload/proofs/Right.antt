@@ -1,5 +1,6 @@
 -- What is right of a text, but for where its names stand: what is right of the whole is right of each part.
 use Rattle.std.proofs.Common.{◌≡◌, ℕ, ◌&&◌, ◌||◌, not, Bool, true, Some, is_some, List, [], ◌∷◌, refl, sym, ap, ◌∙◌, arith}
+use Rattle.std.proofs.Math.Bool.{and_assoc}
 use Rattle.std.specs.List.{list_all}
 use Rattle.oscript.specs.Calls.{action_of_op}
 use Rattle.oscript.proofs.Acting.{IsActionOf, action-is}
@@ -9,7 +10,7 @@ use Rattle.osschema.specs.Declarations.{id_of, place_of}
 use Rattle.osvalidate.specs.Words.{AlarmText, CoreId, CoreText, Declaration, IsrText, ObjectKind, Op, PointText, RemoteCall, TableText, TaskText}
 use Rattle.osvalidate.specs.{declared.verdicts.Verdict.Verdict, Action.is_action_known, Action.is_action_masked, Operation.is_operation_known}
 use Rattle.osvalidate.specs.Check.{alarm_modes, is_core_mode_known, is_mode_known, is_point_known, is_table_acting, is_table_masked, table_modes}
-use Rattle.osvalidate.specs.Verdict.{action_verdict, alarm_verdict, core_verdict, each, isr_verdict, point_verdict, table_verdict, task_verdict}
+use Rattle.osvalidate.specs.Verdict.{action_verdict, alarm_verdict, both, core_verdict, each, isr_verdict, point_verdict, table_verdict, task_verdict, with_names}
 use Rattle.osload.proofs.Loops.{there}
 
 abbrev pub is_right : Verdict → Bool
@@ -60,6 +61,16 @@ core-right objects core h = record {
   alarms = of-each (alarm_verdict objects (id_of core)) core.alarms (grind arith);
   tables = of-each (table_verdict objects (id_of core)) core.tables (grind arith);
 }
+
+-- A core is judged in two steps: what runs on it, and then what goes off by its counters.
+verdict-joined : (mode : Bool) (tasks isrs alarms tables : Verdict) → with_names mode (both (both tasks isrs) (both alarms tables)) ≡ with_names mode (both (both (both tasks isrs) alarms) tables)
+verdict-joined mode tasks isrs alarms tables = ap (with_names mode) (simp and_assoc)
+
+pub core-joined : (objects : List Declaration) (core : CoreText)
+    → with_names (is_core_mode_known objects core.mode) (both (both (each (task_verdict objects (id_of core)) core.tasks) (each (λ (isr : IsrText). isr_verdict objects (id_of core) isr.script) core.isrs)) (both (each (alarm_verdict objects (id_of core)) core.alarms) (each (table_verdict objects (id_of core)) core.tables)))
+    ≡ core_verdict objects core
+core-joined objects core =
+    verdict-joined (is_core_mode_known objects core.mode) (each (task_verdict objects (id_of core)) core.tasks) (each (λ (isr : IsrText). isr_verdict objects (id_of core) isr.script) core.isrs) (each (alarm_verdict objects (id_of core)) core.alarms) (each (table_verdict objects (id_of core)) core.tables)
 
 -- ---- an action that is right means an operation that is one
 

@@ -38,7 +38,6 @@ fn shape_of(alloc: Global, value: &Value) -> Result<ConfigText<'_>, ConfFault>
 }
 
 // The plan of a text without a fault. Its parts are made where they are judged.
-#[tactic(auto, using(osvalidate::proofs::Counting::within_split, osvalidate::proofs::Counting::too_many, crate::proofs::Loops::no_fault))]
 fn plan_if_faultless(alloc: Global, text: &ConfigText) -> Result<Plan, ConfFault>
     requires named { IsTrue (is_named text.now) }
     ensures ok { IfOk result (λ plan. (failing (tests_of text.now) ≡ []) × (plan ≡ plan_of text.now)) }

@@ -3,14 +3,15 @@
 ghost use Rattle.std.specs.Prelude.{◌≡◌, IfOk, map, option_map, true};
 ghost use Rattle.osschema.specs.Declarations.{declarations, mode_ref, number_id};
 ghost use Rattle.osvalidate.specs.Check.{are_scripts_short, is_core_short, is_script_short, successor};
-ghost use Rattle.osvalidate.specs.Verdict.{Judges, alarm_verdict, all_right, core_verdict, isr_verdict, spinlock_verdict, task_verdict, text_verdict};
-ghost use Rattle.osload.specs.Meaning.{core_mode, spinlock_plan, task_plan, isr_plan, resource_plan, counter_plan, start_plan, alarm_plan, core_plan, plan_of};
+ghost use Rattle.osvalidate.specs.Verdict.{Judges, alarm_verdict, all_right, both, core_verdict, each, isr_verdict, spinlock_verdict, table_verdict, task_verdict, text_verdict};
+ghost use Rattle.osload.specs.Meaning.{core_mode, spinlock_plan, task_plan, isr_plan, resource_plan, counter_plan, start_plan, alarm_plan, table_plan, core_plan, plan_of};
 
 use crate::planners::{Planner, plan_each};
 use osbase::{CoreId, CoreMode, List, ModeId, Name, SpinlockId};
 use osjson::{Text, Whole};
 use osplan::{
-    Alarm, AlarmStart, ConfFault, Core, Counter, DONT_CARE, Isr, Plan, Resource, Spinlock, Task,
+    Alarm, AlarmStart, ConfFault, Core, Counter, DONT_CARE, Isr, Plan, Resource, Spinlock, Table,
+    Task,
 };
 use osschema::{
     AlarmStartText, AlarmText, ConfigText, CoreText, CounterText, IsrText, Objects, ResourceText,
@@ -219,6 +220,61 @@ impl<'e> Planner<'e, AlarmText<'e>, Alarm> for CorePlanner<'_, 'e> {
     }
 }
 
+// What runs on a core.
+#[derive(Drop)]
+struct Runners {
+    tasks: List<Task>,
+    isrs: List<Isr>,
+}
+
+// What counts on a core, and what goes off by a count.
+#[derive(Drop)]
+struct Timers {
+    counters: List<Counter>,
+    alarms: List<Alarm>,
+    tables: List<Table>,
+}
+
+impl<'e> CorePlanner<'_, 'e> {
+    // The plans of what runs on a core. Nothing else of it has scripts, so nothing else can have too many operations.
+    #[tactic(auto, using(osvalidate::proofs::Counting::core_shorts))]
+    fn runners(&self, alloc: Global, core: &'e CoreText<'e>) -> Result<Judged<Runners>, ConfFault>
+        ensures { Judges result (is_core_short core.now)
+            (record { tasks = map (task_plan self.now.objects.now.declared) core.now.tasks; isrs = map (isr_plan self.now.objects.now.declared) core.now.isrs })
+            (both (each (task_verdict self.now.objects.now.declared self.now.core) core.now.tasks) (each (λ isr. isr_verdict self.now.objects.now.declared self.now.core isr.script) core.now.isrs)) }
+    {
+        let tasks = plan_each(alloc, self, core.tasks.as_slice())?;
+        let isrs = plan_each(alloc, self, core.isrs.as_slice())?;
+        Ok(Judged {
+            value: Runners {
+                tasks: tasks.value,
+                isrs: isrs.value,
+            },
+            verdict: tasks.verdict.and(isrs.verdict),
+        })
+    }
+
+    // The plans of its counters, and of what goes off by them.
+    #[tactic(auto, using(crate::proofs::Loops::always))]
+    fn timers(&self, alloc: Global, core: &'e CoreText<'e>) -> Result<Judged<Timers>, ConfFault>
+        ensures { Judges result true
+            (record { counters = map counter_plan core.now.counters; alarms = map (alarm_plan self.now.objects.now.declared self.now.core) core.now.alarms; tables = map (table_plan self.now.objects.now.declared self.now.core) core.now.tables })
+            (both (each (alarm_verdict self.now.objects.now.declared self.now.core) core.now.alarms) (each (table_verdict self.now.objects.now.declared self.now.core) core.now.tables)) }
+    {
+        let counters = plan_each(alloc, self, core.counters.as_slice())?;
+        let alarms = plan_each(alloc, self, core.alarms.as_slice())?;
+        let tables = plan_each(alloc, self, core.tables.as_slice())?;
+        Ok(Judged {
+            value: Timers {
+                counters: counters.value,
+                alarms: alarms.value,
+                tables: tables.value,
+            },
+            verdict: alarms.verdict.and(tables.verdict),
+        })
+    }
+}
+
 fn ids_of(alloc: Global, numbers: &[Whole]) -> Result<Vec<CoreId>, AllocError>
     ensures { IfOk result (λ ids. ids.items ≡ map number_id numbers.now) }
 {
@@ -273,37 +329,32 @@ impl<'e> Planner<'e, CoreText<'e>, Core> for TextPlanner<'_, 'e> {
 
     ghost is_short = { λ _ core. is_core_short core };
 
-    #[tactic(auto, using(crate::proofs::Loops::always, osvalidate::proofs::Counting::core_shorts))]
+    #[tactic(auto, using(crate::proofs::Loops::always))]
     fn plan(&self, alloc: Global, core: &'e CoreText<'e>) -> Result<Judged<Core>, ConfFault> {
         let id = number_id(core.id);
         let planner = CorePlanner {
             objects: self.objects,
             core: id,
         };
-        let tasks = plan_each(alloc, &planner, core.tasks.as_slice())?;
-        let isrs = plan_each(alloc, &planner, core.isrs.as_slice())?;
+        let runners = planner.runners(alloc, core)?;
         let resources = plan_each(alloc, &planner, core.resources.as_slice())?;
-        let counters = plan_each(alloc, &planner, core.counters.as_slice())?;
-        let alarms = plan_each(alloc, &planner, core.alarms.as_slice())?;
-        let tables = plan_each(alloc, &planner, core.tables.as_slice())?;
+        let timers = planner.timers(alloc, core)?;
         Ok(Judged {
             value: Core {
                 id,
                 mode: core_mode(self.objects, &core.mode),
                 start: List::from_vec(ids_of(alloc, core.start.as_slice())?),
                 protection: core.protection,
-                tasks: tasks.value,
-                isrs: isrs.value,
+                tasks: runners.value.tasks,
+                isrs: runners.value.isrs,
                 resources: resources.value,
-                counters: counters.value,
-                alarms: alarms.value,
-                tables: tables.value,
+                counters: timers.value.counters,
+                alarms: timers.value.alarms,
+                tables: timers.value.tables,
             },
-            verdict: tasks
+            verdict: runners
                 .verdict
-                .and(isrs.verdict)
-                .and(alarms.verdict)
-                .and(tables.verdict)
+                .and(timers.verdict)
                 .with_names(is_core_mode_known(self.objects, &core.mode)),
         })
     }
