@@ -12,7 +12,7 @@ use Rattle.osboard.specs.Boards.{IsLook}
 use Rattle.osspin.specs.Spins.{IsRefusedCall}
 use Rattle.osrun.specs.{Requests.Calls, Requests.no_calls, Fits.history_by, Fits.ids_of, Sound.AreSound}
 use Rattle.osworker.specs.declared.seats.Seats.{Seats}
-use Rattle.osthreads.specs.{declared.ending.Ending.Ending, declared.ending.Kept.Kept, declared.ending.Kept.TheVariants.Rings, declared.ending.Kept.TheVariants.Steps, declared.ending.Outfit.Outfit, declared.runs.Prepared.Prepared, declared.runs.Returned.Returned, declared.runs.Seated.Seated, declared.runs.ThreadReason.ThreadReason}
+use Rattle.osthreads.specs.{declared.ending.Ending.Ending, declared.ending.Kept.Kept, declared.ending.Kept.TheVariants.Rings, declared.ending.Kept.TheVariants.Steps, declared.ending.Outfit.Outfit, declared.runs.Prepared.Prepared, declared.runs.Returned.Returned, declared.runs.Room.Room, declared.runs.Seated.Seated, declared.runs.ThreadReason.ThreadReason}
 use Rattle.osthreads.specs.Runs.{IsOneCore, IsRun, new_board, new_spins}
 use Rattle.osworker.specs.Seats.{AreAt, Shared, first_seats, made_from, shared}
 use Rattle.osworker.specs.Working.{IsFinished, IsMailed, is_finished_by, is_kept_by, refusal_at}
@@ -71,6 +71,11 @@ pub record HasRoomFor (count : ℕ) (returned : Returned) : Type 0 where
   pub ends : (returned.ends.items ≡ []) × (count ≤ vec_capacity returned.ends)
   pub reports : (returned.reports.items ≡ []) × (count ≤ vec_capacity returned.reports)
 
+-- So it is of what the endings are parted into, and of the endings.
+pub record IsRoomFor (count : ℕ) (room : Room) : Type 0 where
+  pub endings : (room.endings.items ≡ []) × (count ≤ vec_capacity room.endings)
+  pub returned : HasRoomFor count room.returned
+
 -- What the cores of this configuration share, and the seats of each there.
 pub record IsSeated (plan : Plan) (s : Seated) : Type 0 where
   pub board : s.board.plan ≡ new_board plan
@@ -85,8 +90,7 @@ pub record IsPrepared (plan : Plan) (kind : MailKind) (p : Prepared) : Type 0 wh
   pub board : p.board.plan ≡ new_board plan
   pub bank : p.bank.plan ≡ new_spins plan
   pub outfits : AreEquipped kind (ids_of plan) (shared p.board p.bank) p.mail.rings p.outfits.items
-  pub endings : (p.endings.items ≡ []) × (vec_len p.outfits ≤ vec_capacity p.endings)
-  pub returned : HasRoomFor (vec_len p.outfits) p.returned
+  pub room : IsRoomFor (vec_len p.outfits) p.room
 
 -- The ends of the rings that came back.
 abbrev pub kept_in : Kept → List RingEnd

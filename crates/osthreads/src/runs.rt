@@ -8,7 +8,7 @@ ghost use Rattle.osplan.specs.Stimuli.{AreKnown};
 ghost use Rattle.osrun.specs.Sound.{AreSound};
 ghost use Rattle.osworker.specs.{Seats.paired, Working.is_kept_by, Working.was_stopped_by};
 ghost use Rattle.osthreads.specs.{declared.ending.Ending.Ending as EndingValue, Runs.AreFinished, declared.runs.ThreadReason.TheVariants.NoMemory, declared.runs.ThreadReason.TheVariants.NoThread};
-ghost use Rattle.osthreads.specs.Threads.{AreAllFinished, AreAllKept, AreEndsFor, AreParts, AreSettled, HasRoomFor, IsPrepared, IsSeated, IsSettled, IsThreadFault, equipped};
+ghost use Rattle.osthreads.specs.Threads.{AreAllFinished, AreAllKept, AreEndsFor, AreParts, AreSettled, HasRoomFor, IsPrepared, IsRoomFor, IsSeated, IsSettled, IsThreadFault, equipped};
 
 use crate::ending::{Ending, Outfit};
 use crate::threads::{Joined, run_all};
@@ -67,11 +67,9 @@ struct Prepared {
     cores: Vec<CoreId>,
     board: Board,
     bank: SpinBank,
-    clocks: Clocks,
     mail: RunMail,
     outfits: Vec<Outfit>,
-    endings: Vec<Ending>,
-    returned: Returned,
+    room: Room,
 }
 
 // The mail of a run: mailboxes under locks, each core making its own end, or rings, whose ends are made. One of the two
@@ -102,6 +100,27 @@ impl Returned {
             spins: Vec::with_capacity(alloc, count)?,
             ends: Vec::with_capacity(alloc, count)?,
             reports: Vec::with_capacity(alloc, count)?,
+        })
+    }
+}
+
+// What is made from the number of threads alone: room for their endings and for what these are parted into, and the clocks.
+#[derive(Drop)]
+struct Room {
+    endings: Vec<Ending>,
+    returned: Returned,
+    clocks: Clocks,
+}
+
+impl Room {
+    // Room for so many threads.
+    fn new(alloc: Global, count: usize) -> Result<Self, AllocError>
+        ensures { IfOk result (IsRoomFor count) }
+    {
+        Ok(Room {
+            endings: Vec::with_capacity(alloc, count)?,
+            returned: Returned::new(alloc, count)?,
+            clocks: Clocks::new(alloc)?,
         })
     }
 }
@@ -185,18 +204,14 @@ fn prepare(alloc: Global, config: &Config, kind: MailKind) -> Result<Prepared, A
     let (mail, ends) = mail_of(alloc, kind, cores.as_slice(), usize::from(plan.cap))?;
     let Seated { board, bank, seats } = seat(alloc, config)?;
     let outfits = equip(alloc, seats, ends)?;
-    let endings = Vec::with_capacity(alloc, outfits.len())?;
-    let returned = Returned::new(alloc, outfits.len())?;
-    let clocks = Clocks::new(alloc)?;
+    let room = Room::new(alloc, outfits.len())?;
     Ok(Prepared {
         cores,
         board,
         bank,
-        clocks,
         mail,
         outfits,
-        endings,
-        returned,
+        room,
     })
 }
 
@@ -231,12 +246,15 @@ pub fn run_threads<R: Threads + Wait + Sync, G: Gate + Sync>(
         cores,
         board,
         bank,
-        clocks,
         mut mail,
         outfits,
+        room,
+    } = prepared;
+    let Room {
         endings,
         returned,
-    } = prepared;
+        clocks,
+    } = room;
     let run = Run {
         config,
         stimuli: stimuli.as_slice(),

@@ -27,6 +27,5 @@ returns c =
         all = c.in_ok-mail.ensures.ends;
         unused = c.in_ok-mail.ensures.unused;
       };
-      endings = (c.in_ok-endings.ensures.items, omega (arith, c.in_ok-endings.ensures.capacity));
-      returned = rw c.len-2.ensures at c.in_ok-returned.ensures;
+      room = rw c.len.ensures at c.in_ok-room.ensures;
     }

@@ -8,8 +8,8 @@ use Rattle.osthreads.proofs.runs.run_threads.Goals as goal
 pub run_all-joined-requires-clause-outfits : goal.run_all-joined-requires-clause-outfits
 run_all-joined-requires-clause-outfits g c κs within = record {
   ready = all-ready c.args.config.now _ (shared c.in-Ok.prepared.board c.in-Ok.prepared.bank) (c.as_slice-2.ensures.value ∙ c.in-Ok.ensures.cores) c.args.kind c.in-Ok.prepared.mail.rings c.in-Ok.prepared.outfits.items c.in-Ok.ensures.outfits;
-  empty = c.in-Ok.ensures.endings.0;
-  room = c.in-Ok.ensures.endings.1;
+  empty = c.in-Ok.ensures.room.endings.0;
+  room = c.in-Ok.ensures.room.endings.1;
 }
 
 pub gather-requires-clause-places : goal.gather-requires-clause-places
