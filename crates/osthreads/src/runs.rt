@@ -248,13 +248,12 @@ pub fn run_threads<R: Threads + Wait + Sync, G: Gate + Sync>(
         bank,
         mut mail,
         outfits,
-        room,
+        room: Room {
+            endings,
+            returned,
+            clocks,
+        },
     } = prepared;
-    let Room {
-        endings,
-        returned,
-        clocks,
-    } = room;
     let run = Run {
         config,
         stimuli: stimuli.as_slice(),
