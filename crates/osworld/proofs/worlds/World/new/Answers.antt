@@ -1,12 +1,19 @@
-use Rattle.std.proofs.Common.{◌≡◌, Some, is_some, List, ap, sym, ◌∙◌}
+use Rattle.std.proofs.Common.{◌≡◌, Some, is_some, List, ap, refl, sym, ◌∙◌, arith}
 use Rattle.osmail.specs.Mail.{empty_mail}
-use Rattle.osplan.specs.{declared.plans.Plan.Plan, View.core_of}
+use Rattle.osplan.specs.{declared.plans.Plan.Plan, Limits.sizes_of, View.core_of}
+use Rattle.osplan.proofs.{Within.between, Within.cap-within, Within.limit-parts}
 use Rattle.osplan.proofs.Tests.{is_some-copied}
 use Rattle.osboard.specs.Boards.{first_board}
 use Rattle.osrun.specs.declared.core_runs.CoreRun.{CoreRun}
 use Rattle.osworld.proofs.{Places.place_by, Started.started-all, Started.started-push, Started.started-skip, worlds.World.new.Goals.then-is_some+in_ok-push, worlds.World.new.Goals.else-is_some}
 use Rattle.osrun.proofs.Configured.{id_at}
 use Rattle.osworld.proofs.worlds.World.new.Goals as goal
+
+pub new-requires-clause-number : goal.new-requires-clause-number
+new-requires-clause-number c = c.loop-number-test.true
+
+pub new-requires-clause-limits : goal.new-requires-clause-limits
+new-requires-clause-limits c = c.plan-plan.ensures.limits
 
 pub loop-number-preserved : goal.loop-number-preserved
 loop-number-preserved c =
@@ -19,14 +26,27 @@ loop-number-preserved c =
           (started-skip c.args.config.now c.args.stimuli.now c.loop-number.core_runs.items c.loop-number.number c.loop-number-test.true (there ∙ w.if-is_some.false) c.loop-number.invariant)
     ]
 
-pub returns-clause-plays : goal.returns-clause-plays
-returns-clause-plays c =
-    started-all c.args.config.now c.args.stimuli.now c.loop-number.core_runs.items c.loop-number.number c.in_ok-new.field-0 c.loop-number.invariant.0 c.loop-number.invariant.1 c.loop-number-test.false c.loop-number.auto.number-end
-    (c.in_ok-new.ensures.mail ∙ ap (λ (p : Plan). empty_mail p.cap) c.plan-plan.ensures.value)
-    (c.in_ok-new.ensures.board ∙ ap (λ (p : Plan). first_board p.master) c.plan-plan.ensures.value)
-    c.in_ok-new.ensures.spins
+pub new-requires-2 : goal.new-requires-2
+new-requires-2 c =
+    let plan = c.plan-plan.result.now in
+    let cap = between 1 16 plan.cap (cap-within (sizes_of plan) (limit-parts plan (rw c.plan-plan.ensures.value c.plan-plan.ensures.limits)).sizes) in
+    record { some = cap.0; fits = cap.1 }
 
 pub invariant_of-result : goal.invariant_of-result
 invariant_of-result c = record {
   placed = λ core below. c.places_of.ensures core below ∙ ap (λ (core_runs : List CoreRun). Some (place_by core_runs core)) c.as_slice.ensures.value;
 }
+
+pub returns : goal.returns
+returns c =
+    record {
+      config = refl;
+      plays =
+          started-all c.args.config.now c.args.stimuli.now c.loop-number.core_runs.items c.loop-number.number c.in_ok-new.field-0 c.loop-number.invariant.0 c.loop-number.invariant.1 c.loop-number-test.false c.loop-number.auto.number-end
+          (c.in_ok-new.ensures.mail ∙ ap (λ (p : Plan). empty_mail p.cap) c.plan-plan.ensures.value)
+          (c.in_ok-new.ensures.board ∙ ap (λ (p : Plan). first_board p.master) c.plan-plan.ensures.value)
+          c.in_ok-new.ensures.spins;
+      reports = c.in_ok-with_capacity.ensures.items;
+      room = omega (arith, c.len.ensures, c.in_ok-with_capacity.ensures.capacity);
+      limits = c.plan-plan.ensures.limits;
+    }
