@@ -188,21 +188,13 @@ fn text_of_core(alloc: Global, config: &Config, core: CoreId) -> Result<String, 
 
 fn shown_stimuli(alloc: Global, reader: Reader, text: &str) -> Result<String, Fail> {
     let config = named_in(alloc, reader)?;
-    shown_stimuli_for(alloc, &config, text)
-}
-
-fn shown_stimuli_for(alloc: Global, config: &Config, text: &str) -> Result<String, Fail> {
-    let stimuli = read_stimuli(alloc, config, text)?;
+    let stimuli = read_stimuli(alloc, &config, text)?;
     Ok(format!(in alloc; "{:?}", stimuli.as_slice())?)
 }
 
 fn shown_schedule(alloc: Global, reader: Reader, text: &str) -> Result<String, Fail> {
     let config = named_in(alloc, reader)?;
-    shown_schedule_for(alloc, &config, text)
-}
-
-fn shown_schedule_for(alloc: Global, config: &Config, text: &str) -> Result<String, Fail> {
-    let turns = read_schedule(alloc, config, text)?;
+    let turns = read_schedule(alloc, &config, text)?;
     Ok(format!(in alloc; "{:?}", turns.as_slice())?)
 }
 
@@ -245,6 +237,17 @@ fn play(
     let played = play_lines(rt, alloc, reader, frame, lines, &mut texts)?;
     assert_eq!(rt; played, cases);
     Ok(())
+}
+
+// Plays a table of configurations.
+fn play_configurations(
+    rt: &impl Abort,
+    alloc: Global,
+    frame: &str,
+    lines: &str,
+    cases: usize,
+) -> Result<(), Fail> {
+    play(rt, alloc, Reader::Configuration, frame, lines, cases)
 }
 
 // Plays a table's lines, and counts their cases. `texts` has the group's, and before the first group the frame.

@@ -142,8 +142,7 @@ fn write_by_threads<R: Threads + Sync, O: Sink>(
     ended: bool,
 ) -> Result<(), WriteFailed>
     requires { O.failed out.old < 2 ^ 48 }
-    ensures { Writes O.taken O.failed out.old out.new
-        (text_of config.now reports.now ++ last_line ended) result }
+    ensures { Writes O.taken O.failed out.old out.new (text_of config.now reports.now ++ last_line ended) result }
 {
     write_reports_by_threads(rt, alloc, config, out, reports)?;
     write_all(out, last_line(ended).as_bytes())

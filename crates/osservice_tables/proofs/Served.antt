@@ -4,24 +4,9 @@ use Rattle.std.specs.Option.{option_map}
 use Rattle.osbase.specs.{declared.marks.Mark.Mark, declared.references.Runner.Runner, declared.statuses.ServiceId.ServiceId, declared.statuses.Status.TheVariants.EOsId}
 use Rattle.osplan.specs.declared.plans.Core.{Core}
 use Rattle.osstate.specs.{Does.service_entries, Does.service_marks, State.KernelState}
-use Rattle.osacts.specs.{Acts.Acts, Acts.both, Runs.runs, Runs.says, Runs.seen_in, Seen.Seen, Steps.QuietSteps, Steps.Steps}
+use Rattle.osacts.specs.{Acts.both, Runs.runs, Runs.says, Runs.seen_in, Seen.Seen, Steps.QuietSteps, Steps.Steps}
 use Rattle.osacts.proofs.Each.{as_steps, then, unprinted}
-use Rattle.osservice.specs.{declared.returning.ServiceResult.ServiceResult, Returning.returns, Service.Service, Service.answer_of, Service.carries_out, Service.returns_with, Service.serves_if, Service.serves_own, Terms.MayAct}
-
--- After what it does there is room to return.
-pub may-finish : {most : ℕ} {acts : Acts} {s done now : KernelState} {r : Runner} {vec : Vec Mark Global} → most ≤ 2 → now ≡ done → QuietSteps most acts s done → MayAct service_entries service_marks s r vec → MayAct 3 2 now r vec
-may-finish {done = done} {r = r} {vec = vec} few same quiet may =
-    subst (λ (q : KernelState). MayAct 3 2 q r vec) (sym same)
-    (record {
-      own = rw quiet.view may.own;
-      room = record { count = omega (arith, few, quiet.count, may.room.count); place = omega (arith, may.room.place) };
-    })
-
--- And where it does nothing.
-pub may-refuse : {s now : KernelState} {r : Runner} {vec : Vec Mark Global} → now ≡ s → MayAct service_entries service_marks s r vec → MayAct 3 2 now r vec
-may-refuse {r = r} {vec = vec} same may =
-    subst (λ (q : KernelState). MayAct 3 2 q r vec) (sym same)
-    (record { own = may.own; room = record { count = omega (arith, may.room.count); place = omega (arith, may.room.place) } })
+use Rattle.osservice.specs.{declared.returning.ServiceResult.ServiceResult, Returning.returns, Service.Service, Service.answer_of, Service.carries_out, Service.returns_with, Service.serves_if, Service.serves_own}
 
 module _ {A : Type 0} (r : Runner) (id : ServiceId) (make : A → Seen → Service) (named : Core → Option A) where
   -- It is there.

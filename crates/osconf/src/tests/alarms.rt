@@ -1,6 +1,6 @@
 //! Alarms, their actions, and the operations that name them.
 
-use super::{Reader, play};
+use super::play_configurations;
 use std::test::Fail;
 
 const TEXTS: &str = r#"
@@ -141,14 +141,7 @@ BadScript GetAlarm W v0 v1
 
 #[test]
 fn texts_with_alarms(rt: HostRuntime) -> Result<(), Fail> {
-    play(&rt, rt.alloc(), Reader::Configuration, "@", TEXTS, 143)?;
-    play(&rt, rt.alloc(), Reader::Configuration, ACTION, ACTIONS, 65)?;
-    play(
-        &rt,
-        rt.alloc(),
-        Reader::Configuration,
-        TWO_CORES,
-        OPERATIONS,
-        66,
-    )
+    play_configurations(&rt, rt.alloc(), "@", TEXTS, 143)?;
+    play_configurations(&rt, rt.alloc(), ACTION, ACTIONS, 65)?;
+    play_configurations(&rt, rt.alloc(), TWO_CORES, OPERATIONS, 66)
 }

@@ -1,6 +1,6 @@
 //! Counters, and the operations that name them.
 
-use super::{Reader, play};
+use super::play_configurations;
 use std::test::Fail;
 
 const TEXTS: &str = r#"
@@ -71,13 +71,6 @@ UnknownName GetCounterValue Q v0;IncrementCounter Nobody|IncrementCounter A;GetC
 
 #[test]
 fn texts_with_counters(rt: HostRuntime) -> Result<(), Fail> {
-    play(&rt, rt.alloc(), Reader::Configuration, "@", TEXTS, 111)?;
-    play(
-        &rt,
-        rt.alloc(),
-        Reader::Configuration,
-        TWO_CORES,
-        OPERATIONS,
-        46,
-    )
+    play_configurations(&rt, rt.alloc(), "@", TEXTS, 111)?;
+    play_configurations(&rt, rt.alloc(), TWO_CORES, OPERATIONS, 46)
 }

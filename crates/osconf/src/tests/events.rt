@@ -1,6 +1,6 @@
 //! Events, the operations that name tasks, and extended tasks.
 
-use super::{Reader, play};
+use super::play_configurations;
 use std::test::Fail;
 
 // A core with two tasks, and a core with one; the last task of each is extended.
@@ -65,13 +65,6 @@ BadMask false
 
 #[test]
 fn texts_with_events(rt: HostRuntime) -> Result<(), Fail> {
-    play(&rt, rt.alloc(), Reader::Configuration, "@", TEXTS, 107)?;
-    play(
-        &rt,
-        rt.alloc(),
-        Reader::Configuration,
-        TWO_CORES,
-        OPERATIONS,
-        73,
-    )
+    play_configurations(&rt, rt.alloc(), "@", TEXTS, 107)?;
+    play_configurations(&rt, rt.alloc(), TWO_CORES, OPERATIONS, 73)
 }

@@ -103,7 +103,7 @@ each [ ] 1l
 BadSchedule 1000000
 "#;
 
-const SECOND_STIMULI: &str = r#"
+const STIMULI_2: &str = r#"
 text {"0":"op","@":""}
 fine 9|15
 BadStimulus 1|8|10|16|09|015|9 |15.0|150
@@ -119,14 +119,7 @@ BadSchedule 1o|8o|16o|9s9|15s15|15s1|9s16|09o|9s09|015o|150o|9s150|15|15s|9 s15
 fn texts_that_are_no_stimuli_or_schedules(rt: HostRuntime) -> Result<(), Fail> {
     play(&rt, rt.alloc(), Reader::Stimuli, "@", NO_STIMULI, 90)?;
     play(&rt, rt.alloc(), Reader::Schedule, "@", NO_SCHEDULES, 72)?;
-    play(
-        &rt,
-        rt.alloc(),
-        Reader::SecondStimuli,
-        "@",
-        SECOND_STIMULI,
-        11,
-    )?;
+    play(&rt, rt.alloc(), Reader::SecondStimuli, "@", STIMULI_2, 11)?;
     play(
         &rt,
         rt.alloc(),

@@ -1,6 +1,6 @@
 //! Texts that are no configurations: not JSON, or of another shape.
 
-use super::{Reader, TWO_CORES, fault_of, play, repeated};
+use super::{Reader, TWO_CORES, fault_of, play_configurations, repeated};
 use crate::ConfFault;
 use std::alloc::Global;
 use std::process::Abort;
@@ -178,22 +178,8 @@ fn nested(alloc: Global, depth: u32) -> Result<String, Fail> {
 
 #[test]
 fn texts_that_are_no_configurations(rt: HostRuntime) -> Result<(), Fail> {
-    play(&rt, rt.alloc(), Reader::Configuration, "@", TEXTS, 395)?;
-    play(
-        &rt,
-        rt.alloc(),
-        Reader::Configuration,
-        "\u{feff}@",
-        AROUND,
-        1,
-    )?;
-    play(&rt, rt.alloc(), Reader::Configuration, "@\0", AROUND, 1)?;
-    play(
-        &rt,
-        rt.alloc(),
-        Reader::Configuration,
-        "{\"cores\":\"\n@\"}",
-        WITHIN,
-        1,
-    )
+    play_configurations(&rt, rt.alloc(), "@", TEXTS, 395)?;
+    play_configurations(&rt, rt.alloc(), "\u{feff}@", AROUND, 1)?;
+    play_configurations(&rt, rt.alloc(), "@\0", AROUND, 1)?;
+    play_configurations(&rt, rt.alloc(), "{\"cores\":\"\n@\"}", WITHIN, 1)
 }

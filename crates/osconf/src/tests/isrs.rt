@@ -1,6 +1,6 @@
 //! ISRs, their scripts and interrupts, budgets, and how a core answers a time fault.
 
-use super::{Reader, play};
+use super::{Reader, play, play_configurations};
 use std::test::Fail;
 
 // A core with two tasks, two ISRs and a resource, and a core with one of each; the script is that of the first ISR.
@@ -119,14 +119,7 @@ Limit 100001
 
 #[test]
 fn texts_with_isrs(rt: HostRuntime) -> Result<(), Fail> {
-    play(&rt, rt.alloc(), Reader::Configuration, "@", TEXTS, 158)?;
-    play(
-        &rt,
-        rt.alloc(),
-        Reader::Configuration,
-        TWO_CORES,
-        OPERATIONS,
-        41,
-    )?;
+    play_configurations(&rt, rt.alloc(), "@", TEXTS, 158)?;
+    play_configurations(&rt, rt.alloc(), TWO_CORES, OPERATIONS, 41)?;
     play(&rt, rt.alloc(), Reader::Interrupts, "@", INTERRUPTS, 46)
 }

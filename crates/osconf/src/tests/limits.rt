@@ -1,6 +1,6 @@
 //! Each limit of a configuration, at, below and above; each fault, and the smaller of two.
 
-use super::{Reader, play};
+use super::play_configurations;
 use std::test::Fail;
 
 const TEXTS: &str = r#"
@@ -158,5 +158,5 @@ Limit 256
 
 #[test]
 fn texts_at_limits(rt: HostRuntime) -> Result<(), Fail> {
-    play(&rt, rt.alloc(), Reader::Configuration, "@", TEXTS, 194)
+    play_configurations(&rt, rt.alloc(), "@", TEXTS, 194)
 }

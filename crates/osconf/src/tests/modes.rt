@@ -1,6 +1,6 @@
 //! Application modes: their names, the mode of a core, and what names a mode.
 
-use super::{Reader, play};
+use super::play_configurations;
 use std::test::Fail;
 
 const TEXTS: &str = r#"
@@ -66,5 +66,5 @@ UnknownName {"modes":["A"],"cores":[{"id":0,"mode":"X","tasks":[{"name":"T","pri
 
 #[test]
 fn texts_with_modes(rt: HostRuntime) -> Result<(), Fail> {
-    play(&rt, rt.alloc(), Reader::Configuration, "@", TEXTS, 143)
+    play_configurations(&rt, rt.alloc(), "@", TEXTS, 143)
 }

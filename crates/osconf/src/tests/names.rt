@@ -1,6 +1,6 @@
 //! Names and operations: their form, and what stands twice.
 
-use super::{Reader, play};
+use super::play_configurations;
 use std::test::Fail;
 
 const TEXTS: &str = r#"
@@ -70,5 +70,5 @@ BadScript 129
 
 #[test]
 fn texts_with_names(rt: HostRuntime) -> Result<(), Fail> {
-    play(&rt, rt.alloc(), Reader::Configuration, "@", TEXTS, 128)
+    play_configurations(&rt, rt.alloc(), "@", TEXTS, 128)
 }

@@ -1,6 +1,6 @@
 //! Operations with a name and a number or a mask: each is judged whatever the other one is, and the smallest fault is told.
 
-use super::{Reader, play};
+use super::play_configurations;
 use std::test::Fail;
 
 // Two cores, each with a task, a counter, an alarm and a schedule table; the script is that of the first core's task.
@@ -81,21 +81,7 @@ BadScript |StartScheduleTableRel Z x
 
 #[test]
 fn texts_with_names_and_numbers(rt: HostRuntime) -> Result<(), Fail> {
-    play(&rt, rt.alloc(), Reader::Configuration, SCRIPT, NUMBERS, 691)?;
-    play(
-        &rt,
-        rt.alloc(),
-        Reader::Configuration,
-        DISORDER,
-        BESIDE_A_TABLE,
-        8,
-    )?;
-    play(
-        &rt,
-        rt.alloc(),
-        Reader::Configuration,
-        INACTION,
-        BESIDE_AN_ACTION,
-        4,
-    )
+    play_configurations(&rt, rt.alloc(), SCRIPT, NUMBERS, 691)?;
+    play_configurations(&rt, rt.alloc(), DISORDER, BESIDE_A_TABLE, 8)?;
+    play_configurations(&rt, rt.alloc(), INACTION, BESIDE_AN_ACTION, 4)
 }

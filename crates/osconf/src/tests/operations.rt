@@ -1,6 +1,6 @@
 //! The arguments of operations: variables, numbers, and positions in a script.
 
-use super::{Reader, play};
+use super::play_configurations;
 use std::test::Fail;
 
 const TEXTS: &str = r#"
@@ -47,5 +47,5 @@ Limit 255
 
 #[test]
 fn texts_with_arguments(rt: HostRuntime) -> Result<(), Fail> {
-    play(&rt, rt.alloc(), Reader::Configuration, "@", TEXTS, 109)
+    play_configurations(&rt, rt.alloc(), "@", TEXTS, 109)
 }

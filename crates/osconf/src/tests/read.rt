@@ -1,6 +1,6 @@
 //! What is read, as it is printed for debugging.
 
-use super::{Reader, play};
+use super::{Reader, play, play_configurations};
 use std::test::Fail;
 
 const PLANS: &str = r#"
@@ -133,7 +133,7 @@ is [(CoreId { number: 0 }, Own), (CoreId { number: 1 }, Look), (CoreId { number:
 "#;
 
 // Cores of one digit and of two.
-const SECOND_STIMULI: &str = r#"
+const STIMULI_2: &str = r#"
 text {"15":"tick op","9":"op","0":""}
 is [CoreStimuli { core: CoreId { number: 0 }, words: List { items: [] } }, CoreStimuli { core: CoreId { number: 15 }, words: List { items: [Tick, Op] } }, CoreStimuli { core: CoreId { number: 9 }, words: List { items: [Op] } }]
 "#;
@@ -145,18 +145,11 @@ is [(CoreId { number: 15 }, Own), (CoreId { number: 9 }, Look), (CoreId { number
 
 #[test]
 fn texts_that_are_read(rt: HostRuntime) -> Result<(), Fail> {
-    play(&rt, rt.alloc(), Reader::Configuration, "@", PLANS, 18)?;
+    play_configurations(&rt, rt.alloc(), "@", PLANS, 18)?;
     play(&rt, rt.alloc(), Reader::Stimuli, "@", STIMULI, 15)?;
     play(&rt, rt.alloc(), Reader::Interrupts, "@", INTERRUPTS, 1)?;
     play(&rt, rt.alloc(), Reader::Schedule, "@", SCHEDULES, 5)?;
-    play(
-        &rt,
-        rt.alloc(),
-        Reader::SecondStimuli,
-        "@",
-        SECOND_STIMULI,
-        1,
-    )?;
+    play(&rt, rt.alloc(), Reader::SecondStimuli, "@", STIMULI_2, 1)?;
     play(
         &rt,
         rt.alloc(),

@@ -1,6 +1,6 @@
 //! Resources, and the operations that name them.
 
-use super::{Reader, configured, play};
+use super::{configured, play_configurations};
 use crate::Plan;
 use osbase::{CoreId, ResourceRef};
 use std::process::Abort;
@@ -89,13 +89,6 @@ fn judge_name(rt: &impl Abort, plan: &Plan) {
 
 #[test]
 fn texts_with_resources(rt: HostRuntime) -> Result<(), Fail> {
-    play(&rt, rt.alloc(), Reader::Configuration, "@", TEXTS, 70)?;
-    play(
-        &rt,
-        rt.alloc(),
-        Reader::Configuration,
-        TWO_CORES,
-        OPERATIONS,
-        35,
-    )
+    play_configurations(&rt, rt.alloc(), "@", TEXTS, 70)?;
+    play_configurations(&rt, rt.alloc(), TWO_CORES, OPERATIONS, 35)
 }

@@ -1,6 +1,6 @@
 //! Spinlocks: their names and successors, and the operations that name them.
 
-use super::{Reader, configured, play};
+use super::{configured, play_configurations};
 use crate::{Config, order_ok};
 use osbase::SpinlockId;
 use std::alloc::Global;
@@ -179,14 +179,7 @@ fn push_after(config: &Config, newest: SpinlockId, after: &mut String) -> Result
 
 #[test]
 fn texts_with_spinlocks(rt: HostRuntime) -> Result<(), Fail> {
-    play(&rt, rt.alloc(), Reader::Configuration, "@", TEXTS, 140)?;
-    play(
-        &rt,
-        rt.alloc(),
-        Reader::Configuration,
-        TWO_CORES,
-        OPERATIONS,
-        131,
-    )?;
-    play(&rt, rt.alloc(), Reader::Configuration, "@", ACTIONS, 16)
+    play_configurations(&rt, rt.alloc(), "@", TEXTS, 140)?;
+    play_configurations(&rt, rt.alloc(), TWO_CORES, OPERATIONS, 131)?;
+    play_configurations(&rt, rt.alloc(), "@", ACTIONS, 16)
 }

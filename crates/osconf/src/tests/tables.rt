@@ -1,6 +1,6 @@
 //! Schedule tables and the operations that name them.
 
-use super::{Reader, fault_with, filled, listed, play};
+use super::{Reader, fault_with, filled, listed, play_configurations};
 use crate::ConfFault;
 use std::alloc::Global;
 use std::test::Fail;
@@ -125,22 +125,8 @@ fn fault_with_tables(alloc: Global, text: &str) -> Result<Option<ConfFault>, Fai
 
 #[test]
 fn texts_with_tables(rt: HostRuntime) -> Result<(), Fail> {
-    play(&rt, rt.alloc(), Reader::Configuration, "@", TEXTS, 6)?;
-    play(&rt, rt.alloc(), Reader::Configuration, TABLE, TABLES, 14)?;
-    play(
-        &rt,
-        rt.alloc(),
-        Reader::Configuration,
-        TIMES,
-        TABLE_TIMES,
-        25,
-    )?;
-    play(
-        &rt,
-        rt.alloc(),
-        Reader::Configuration,
-        SCRIPT,
-        OPERATIONS,
-        20,
-    )
+    play_configurations(&rt, rt.alloc(), "@", TEXTS, 6)?;
+    play_configurations(&rt, rt.alloc(), TABLE, TABLES, 14)?;
+    play_configurations(&rt, rt.alloc(), TIMES, TABLE_TIMES, 25)?;
+    play_configurations(&rt, rt.alloc(), SCRIPT, OPERATIONS, 20)
 }

@@ -1,9 +1,8 @@
 //! Worked examples of counters and alarms.
 
-use osplay::play_table;
-use std::test::Fail;
+use osplay::{Difference, play_table};
 
-const COUNTERS: &str = r#"
+const RUNS: &str = r#"
 // A counter that ticks advance past its greatest value, one that a task advances, and each check of the services.
 config {"cores":[{"id":0,"counters":[{"name":"C","max":2},{"name":"S","max":9,"min":2,"software":true}],"tasks":[{"name":"A","prio":1,"auto":["M"],"script":"GetCounterValue C v0;IncrementCounter S;GetCounterValue S v1;IncrementCounter C;IncrementCounter F;IncrementCounter ?;GetCounterValue ? v2;GetCounterValue C v0;TerminateTask"}]},{"id":1,"counters":[{"name":"F","max":5,"software":true}]}]}
 stimuli {"0":"tick tick op op op op op op op tick op op"}
@@ -28,9 +27,7 @@ post A
 end A
 core 1
 ended
-"#;
 
-const ALARMS: &str = r#"
 // An alarm that is to be due at the value that its counter has is due a full turn later.
 config {"cores":[{"id":0,"tasks":[{"name":"A","prio":1,"auto":["M"],"script":"SetAbsAlarm L 0 0;SetRelAlarm K 0 0;TerminateTask"},{"name":"B","prio":2,"script":"TerminateTask"}],"counters":[{"name":"C","max":3}],"alarms":[{"name":"L","counter":"C","action":"ActivateTask B"},{"name":"K","counter":"C","action":"ActivateTask B"}]}]}
 stimuli {"0":"op op op tick tick tick tick op"}
@@ -196,8 +193,6 @@ ended
 "#;
 
 #[test]
-fn counters_and_alarms_come_to_their_texts(rt: HostRuntime) -> Result<(), Fail> {
-    play_table(&rt, rt.alloc(), COUNTERS, 1)?;
-    play_table(&rt, rt.alloc(), ALARMS, 6)?;
-    Ok(())
+fn counters_and_alarms_come_to_their_texts(rt: HostRuntime) -> Result<(), Difference> {
+    play_table(&rt, rt.alloc(), RUNS, 7)
 }

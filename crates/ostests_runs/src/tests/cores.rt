@@ -1,8 +1,7 @@
 //! Runs with cores that version 2 of the configuration alone has.
 
-use osplay::play_table;
 use osplay::sixteen::RING;
-use std::test::Fail;
+use osplay::{Difference, play_table};
 
 const RUNS: &str = r#"
 // A core of a number above 7, by another version than 2.
@@ -74,8 +73,7 @@ ended
 "#;
 
 #[test]
-fn cores_of_version_2_come_to_their_texts(rt: HostRuntime) -> Result<(), Fail> {
+fn cores_of_version_2_come_to_their_texts(rt: HostRuntime) -> Result<(), Difference> {
     play_table(&rt, rt.alloc(), RUNS, 12)?;
-    play_table(&rt, rt.alloc(), RING, 1)?;
-    Ok(())
+    play_table(&rt, rt.alloc(), RING, 1)
 }

@@ -1,7 +1,6 @@
 //! Events, waiting and chaining, on one core and across the border.
 
-use osplay::play_table;
-use std::test::Fail;
+use osplay::{Difference, play_table};
 
 const RUNS: &str = r#"
 // A job that is released comes behind those of its priority.
@@ -165,7 +164,6 @@ ended
 "#;
 
 #[test]
-fn events_and_chains_come_to_their_texts(rt: HostRuntime) -> Result<(), Fail> {
-    play_table(&rt, rt.alloc(), RUNS, 7)?;
-    Ok(())
+fn events_and_chains_come_to_their_texts(rt: HostRuntime) -> Result<(), Difference> {
+    play_table(&rt, rt.alloc(), RUNS, 7)
 }

@@ -1,6 +1,6 @@
 //! The least groups of cores, and the configuration of a group by itself.
 
-use osplay::{given, group_of, play_table, result_of, run_of};
+use osplay::{Difference, given, group_of, play_table, result_of, run_of};
 use std::alloc::Global;
 use std::sync::Wait;
 use std::test::Fail;
@@ -117,9 +117,8 @@ const STIMULI_OF_0_AND_1: &str = r#"{"0":"op op op","1":"op op"}"#;
 const STIMULI_OF_2: &str = r#"{"2":"op op"}"#;
 
 #[test]
-fn groups_come_to_their_texts(rt: HostRuntime) -> Result<(), Fail> {
-    play_table(&rt, rt.alloc(), GROUPS, 19)?;
-    Ok(())
+fn groups_come_to_their_texts(rt: HostRuntime) -> Result<(), Difference> {
+    play_table(&rt, rt.alloc(), GROUPS, 19)
 }
 
 // What the cores print by the configuration of a core's least group by itself.

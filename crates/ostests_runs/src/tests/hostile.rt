@@ -2,11 +2,10 @@
 
 use osconf::ConfFault;
 use osjob::{Fault, tell};
-use osplay::play_table;
+use osplay::{Difference, play_table};
 use ostrace::{MemorySink, WriteFailed};
 use osworld::RunFault;
 use std::alloc::AllocError;
-use std::test::Fail;
 
 const TEXTS: &str = r#"
 // Lists within lists.
@@ -101,9 +100,8 @@ fault 15 ItemRefused 1
 "#;
 
 #[test]
-fn hostile_texts_come_to_their_faults(rt: HostRuntime) -> Result<(), Fail> {
-    play_table(&rt, rt.alloc(), TEXTS, 19)?;
-    Ok(())
+fn hostile_texts_come_to_their_faults(rt: HostRuntime) -> Result<(), Difference> {
+    play_table(&rt, rt.alloc(), TEXTS, 19)
 }
 
 // Each fault, also those to which no text leads, and its line.

@@ -1,7 +1,6 @@
 //! Worked examples of interrupts and execution budgets.
 
-use osplay::play_table;
-use std::test::Fail;
+use osplay::{Difference, play_table};
 
 const RUNS: &str = r#"
 // A job that waits has its whole budget again; one that has used it up ends without PostTaskHook and gives its
@@ -290,7 +289,6 @@ ended
 "#;
 
 #[test]
-fn interrupts_and_budgets_come_to_their_texts(rt: HostRuntime) -> Result<(), Fail> {
-    play_table(&rt, rt.alloc(), RUNS, 16)?;
-    Ok(())
+fn interrupts_and_budgets_come_to_their_texts(rt: HostRuntime) -> Result<(), Difference> {
+    play_table(&rt, rt.alloc(), RUNS, 16)
 }

@@ -1,9 +1,8 @@
 //! Jobs at the limits of what is accepted: each is done.
 
-use osplay::play_table;
-use std::test::Fail;
+use osplay::{Difference, play_table};
 
-const LARGEST: &str = r##"
+const RUNS: &str = r##"
 // Eight cores, all started by the first, each with 32 tasks. Each task may have two jobs at once, and has a name of 128
 // characters and a script of 256 operations.
 config {"version":1,"cap":16,"master":0,"cores":[{"id":0,"start":[1,2,3,4,5,6,7],"tasks":[{"name":"<124*N>_000","prio":31,"activations":2,"auto":["M"],"script":"<255*work;>TerminateTask"}<31%,{"name":"<124*N>_0%","prio":31,"activations":2,"auto":[],"script":"<255*work;>TerminateTask"}>]}<7#,{"id":#,"start":[],"tasks":[{"name":"<124*N>_#00","prio":31,"activations":2,"auto":["M"],"script":"<255*work;>TerminateTask"}<31%,{"name":"<124*N>_#%","prio":31,"activations":2,"auto":[],"script":"<255*work;>TerminateTask"}>]}>]}
@@ -30,9 +29,7 @@ pre <124*N>_#00 .. end <124*N>_#00
 turns "0o<300* 0s1 0s2 0s3 0s4 0s5 0s6 0s7 0o 0l 1s0 1s2 1s3 1s4 1s5 1s6 1s7 1o 1l 2s0 2s1 2s3 2s4 2s5 2s6 2s7 2o 2l 3s0 3s1 3s2 3s4 3s5 3s6 3s7 3o 3l 4s0 4s1 4s2 4s3 4s5 4s6 4s7 4o 4l 5s0 5s1 5s2 5s3 5s4 5s6 5s7 5o 5l 6s0 6s1 6s2 6s3 6s4 6s5 6s7 6o 6l 7s0 7s1 7s2 7s3 7s4 7s5 7s6 7o 7l>"
 run
 as before
-"##;
 
-const POSTING: &str = r#"
 // All eight tables of core 0 act on core 1 at one count, so that core 0 posts as much at once as it may. Core 1 is asked for as
 // many jobs as a core may have.
 config {"cores":[{"id":0,"start":[1],"counters":[{"name":"C","max":9}],"tables":[{"name":"P0","counter":"C","duration":1,"auto":{"modes":["M"],"offset":1},"points":[{"offset":0,"actions":["ActivateTask B"<6*,"ActivateTask B">]}]}<7#,{"name":"P#","counter":"C","duration":1,"auto":{"modes":["M"],"offset":1},"points":[{"offset":0,"actions":["ActivateTask B"<6*,"ActivateTask B">]}]}>]},{"id":1,"tasks":[{"name":"B","prio":1,"activations":64,"script":"TerminateTask"}]}]}
@@ -63,9 +60,7 @@ as before
 config {"cores":[{"id":0,"start":[1],"counters":[{"name":"C","max":9}],"tables":[{"name":"P0","counter":"C","duration":1,"auto":{"modes":["M"],"offset":1},"points":[{"offset":0,"actions":["ActivateTask B"<6*,"ActivateTask B">]}]}<6#,{"name":"P#","counter":"C","duration":1,"auto":{"modes":["M"],"offset":1},"points":[{"offset":0,"actions":["ActivateTask B"<6*,"ActivateTask B">]}]}>,{"name":"P7","counter":"C","duration":1,"auto":{"modes":["M"],"offset":1},"points":[{"offset":0,"actions":["ActivateTask B"<7*,"ActivateTask B">]}]}]},{"id":1,"tasks":[{"name":"B","prio":1,"activations":64,"script":"TerminateTask"}]}]}
 check
 fault 3 Limit
-"#;
 
-const SUSPENDING: &str = r#"
 // A job suspends interrupts 300 times, of which 255 are counted, and prints a variable after each 100. Then it resumes them
 // again and again, and prints a variable after each 100. The interrupt comes while they are suspended.
 config {"cores":[{"id":0,"isrs":[{"name":"I","level":1,"script":"work"}],"tasks":[{"name":"A","prio":1,"auto":["M"],"script":"set v0 -3;<100*SuspendAllInterrupts;>add v0 1;jz v0 104;jump 1;<100*ResumeAllInterrupts;>add v1 1;jump 104"}]}]}
@@ -89,12 +84,9 @@ run
 as before up to var A v1 2
 enter I
 ended
-"#;
+"##;
 
 #[test]
-fn jobs_at_the_limits_come_to_their_texts(rt: HostRuntime) -> Result<(), Fail> {
-    play_table(&rt, rt.alloc(), LARGEST, 3)?;
-    play_table(&rt, rt.alloc(), POSTING, 3)?;
-    play_table(&rt, rt.alloc(), SUSPENDING, 2)?;
-    Ok(())
+fn jobs_at_the_limits_come_to_their_texts(rt: HostRuntime) -> Result<(), Difference> {
+    play_table(&rt, rt.alloc(), RUNS, 8)
 }

@@ -1,7 +1,6 @@
 //! Worked examples of the lock budgets of resources.
 
-use osplay::play_table;
-use std::test::Fail;
+use osplay::{Difference, play_table};
 
 const RUNS: &str = r#"
 // A job that holds a resource for too many ticks ends.
@@ -383,7 +382,6 @@ ended
 "#;
 
 #[test]
-fn lock_budgets_come_to_their_texts(rt: HostRuntime) -> Result<(), Fail> {
-    play_table(&rt, rt.alloc(), RUNS, 29)?;
-    Ok(())
+fn lock_budgets_come_to_their_texts(rt: HostRuntime) -> Result<(), Difference> {
+    play_table(&rt, rt.alloc(), RUNS, 29)
 }

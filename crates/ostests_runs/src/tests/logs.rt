@@ -1,6 +1,6 @@
 //! The first example and its logs, a core by itself, and what is no log.
 
-use osplay::{compare, given, play_table, replay_of};
+use osplay::{Difference, compare, given, play_table, replay_of};
 use std::test::Fail;
 
 pub(super) const BORDER: &str = r#"
@@ -284,10 +284,9 @@ hook Error E_OS_STATE
 "#;
 
 #[test]
-fn logs_come_to_their_texts(rt: HostRuntime) -> Result<(), Fail> {
+fn logs_come_to_their_texts(rt: HostRuntime) -> Result<(), Difference> {
     play_table(&rt, rt.alloc(), BORDER, 68)?;
-    play_table(&rt, rt.alloc(), LOGS, 15)?;
-    Ok(())
+    play_table(&rt, rt.alloc(), LOGS, 15)
 }
 
 // No line of a table holds this line end.

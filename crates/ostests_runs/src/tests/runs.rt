@@ -1,10 +1,68 @@
 //! Worked examples of tasks and resources, on one core and across the border.
 
 use osplay::examples::MUTUAL;
-use osplay::play_table;
-use std::test::Fail;
+use osplay::{Difference, play_table};
 
 const RUNS: &str = r#"
+// No configuration can be read.
+check
+fault 21 Unreadable
+
+cut 0
+fault 21 Unreadable
+
+// Of a configuration that is read the fault is told, whatever the other files are.
+config {"cores":[
+stimuli {}
+run
+fault 1 NotJson
+
+config {"cores":[{"id":0}],"x":1}
+stimuli {}
+run
+fault 2 Shape
+
+config {"cores":[]}
+stimuli {}
+run
+fault 3 Limit
+
+config {"master":1,"cores":[{"id":0}]}
+stimuli x
+run
+fault 5 UnknownName
+
+config {"cores":[{"id":0,"tasks":[{"name":"A","prio":1,"script":"GetResource R"}]},{"id":1,"resources":[{"name":"R","ceiling":1}]}]}
+stimuli x
+run
+fault 6 WrongCore
+
+config {"spinlocks":[{"name":"S1","next":"S1"}],"cores":[{"id":0}]}
+stimuli x
+run
+fault 7 SpinOrder
+
+config {"cores":[{"id":0,"tasks":[{"name":"A","prio":1,"script":"ClearEvent 4294967296"}]}]}
+stimuli x
+run
+fault 8 BadMask
+
+config {"cores":[
+check
+fault 1 NotJson
+
+config {"cores":[]}
+check
+fault 3 Limit
+
+config {}
+cut 0
+fault 2 Shape
+
+config x
+replay 3
+fault 1 NotJson
+
 // The activation limit across cores.
 config {"cores":[{"id":0,"start":[1],"tasks":[{"name":"A","prio":1,"auto":["M"],"script":"ActivateTask B;ActivateTask B;TerminateTask"}]},{"id":1,"tasks":[{"name":"B","prio":1,"script":"TerminateTask"}]}]}
 stimuli {"0":"op op op"}
@@ -217,71 +275,8 @@ core 0 bound
 core 7 separate
 "#;
 
-const FAULTS: &str = r#"
-// No configuration can be read.
-check
-fault 21 Unreadable
-
-cut 0
-fault 21 Unreadable
-
-// Of a configuration that is read the fault is told, whatever the other files are.
-config {"cores":[
-stimuli {}
-run
-fault 1 NotJson
-
-config {"cores":[{"id":0}],"x":1}
-stimuli {}
-run
-fault 2 Shape
-
-config {"cores":[]}
-stimuli {}
-run
-fault 3 Limit
-
-config {"master":1,"cores":[{"id":0}]}
-stimuli x
-run
-fault 5 UnknownName
-
-config {"cores":[{"id":0,"tasks":[{"name":"A","prio":1,"script":"GetResource R"}]},{"id":1,"resources":[{"name":"R","ceiling":1}]}]}
-stimuli x
-run
-fault 6 WrongCore
-
-config {"spinlocks":[{"name":"S1","next":"S1"}],"cores":[{"id":0}]}
-stimuli x
-run
-fault 7 SpinOrder
-
-config {"cores":[{"id":0,"tasks":[{"name":"A","prio":1,"script":"ClearEvent 4294967296"}]}]}
-stimuli x
-run
-fault 8 BadMask
-
-config {"cores":[
-check
-fault 1 NotJson
-
-config {"cores":[]}
-check
-fault 3 Limit
-
-config {}
-cut 0
-fault 2 Shape
-
-config x
-replay 3
-fault 1 NotJson
-"#;
-
 #[test]
-fn runs_come_to_their_texts(rt: HostRuntime) -> Result<(), Fail> {
+fn runs_come_to_their_texts(rt: HostRuntime) -> Result<(), Difference> {
     play_table(&rt, rt.alloc(), MUTUAL, 2)?;
-    play_table(&rt, rt.alloc(), RUNS, 13)?;
-    play_table(&rt, rt.alloc(), FAULTS, 13)?;
-    Ok(())
+    play_table(&rt, rt.alloc(), RUNS, 26)
 }

@@ -1,8 +1,7 @@
 //! Runs that are shut down: one core, or all of them.
 
 use osplay::examples::{ALL_DOWN, ASKERS};
-use osplay::play_table;
-use std::test::Fail;
+use osplay::{Difference, play_table};
 
 const RUNS: &str = r#"
 // Core 1 shuts itself down, and core 0 asks for a task of it.
@@ -295,9 +294,8 @@ ended
 "#;
 
 #[test]
-fn shutdowns_come_to_their_texts(rt: HostRuntime) -> Result<(), Fail> {
+fn shutdowns_come_to_their_texts(rt: HostRuntime) -> Result<(), Difference> {
     play_table(&rt, rt.alloc(), ALL_DOWN, 24)?;
     play_table(&rt, rt.alloc(), ASKERS, 4)?;
-    play_table(&rt, rt.alloc(), RUNS, 33)?;
-    Ok(())
+    play_table(&rt, rt.alloc(), RUNS, 33)
 }

@@ -1,9 +1,8 @@
 //! Spinlocks that are given back for a job that ended or a core that is down, and the logs of that.
 
-use osplay::play_table;
-use std::test::Fail;
+use osplay::{Difference, play_table};
 
-const TWO_OWED: &str = r#"
+const RUNS: &str = r#"
 // Task A of core 0 ends with two spinlocks. Core 1 activates task H there, and asks for the second spinlock.
 config {"spinlocks":[{"name":"S1","next":"S2"},{"name":"S2"}],"cores":[{"id":0,"start":[1],"tasks":[{"name":"A","prio":2,"auto":["M"],"script":"GetSpinlock S1;GetSpinlock S2"},{"name":"N","prio":1,"auto":["M"],"script":"TerminateTask"},{"name":"H","prio":3,"script":"TerminateTask"}]},{"id":1,"tasks":[{"name":"B","prio":1,"auto":["M"],"script":"ActivateTask H;GetSpinlock S2;ReleaseSpinlock S2;TerminateTask"}]}]}
 stimuli {"0":"op op op op op","1":"op op op op"}
@@ -128,9 +127,7 @@ halt 1 E_OK
 replay 0
 as run up to end A
 fault 15 ItemRefused 12
-"#;
 
-const WAITING: &str = r#"
 // Core 1 waits for the spinlock of core 0, which shuts all cores down.
 config {"spinlocks":[{"name":"S"}],"cores":[{"id":0,"start":[1],"tasks":[{"name":"A","prio":1,"auto":["M"],"script":"GetSpinlock S;ShutdownAllCores 4"}]},{"id":1,"tasks":[{"name":"B","prio":1,"auto":["M"],"script":"GetSpinlock S;TerminateTask"}]}]}
 stimuli {"0":"op op","1":"op op"}
@@ -172,9 +169,7 @@ as run
 turns "0o 1l 1o 0o 0l 1l 0o 1o 0l 1l 0o 0o 1o 1o 1l 1o 0o 0o 1o 1l 1o 0o 0o 0l 1l 0l 1l"
 run
 as run
-"#;
 
-const DOWN: &str = r#"
 // Two tasks and an ISR of core 0 each have a spinlock when the ISR shuts that core down.
 config {"spinlocks":[{"name":"S1"},{"name":"S2"},{"name":"S3"}],"cores":[{"id":0,"start":[1],"tasks":[{"name":"A","prio":1,"auto":["M"],"script":"GetSpinlock S2;ActivateTask B;TerminateTask"},{"name":"B","prio":2,"script":"GetSpinlock S1;work;TerminateTask"}],"isrs":[{"name":"I","level":1,"script":"GetSpinlock S3;ShutdownOS 6"}]},{"id":1,"tasks":[{"name":"C","prio":1,"auto":["M"],"script":"work;work;work;work;work;GetSpinlock S2;ReleaseSpinlock S2;TerminateTask"}]}]}
 stimuli {"0":"op op op irq=I op op op","1":"op op op op op op op op"}
@@ -221,9 +216,6 @@ as run
 "#;
 
 #[test]
-fn spinlocks_are_given_back_as_the_logs_say(rt: HostRuntime) -> Result<(), Fail> {
-    play_table(&rt, rt.alloc(), TWO_OWED, 11)?;
-    play_table(&rt, rt.alloc(), WAITING, 6)?;
-    play_table(&rt, rt.alloc(), DOWN, 3)?;
-    Ok(())
+fn spinlocks_are_given_back_as_the_logs_say(rt: HostRuntime) -> Result<(), Difference> {
+    play_table(&rt, rt.alloc(), RUNS, 20)
 }

@@ -1,8 +1,7 @@
 //! Who gets a spinlock, and the logs of that.
 
 use osplay::examples::{POLLING, REFUSED};
-use osplay::play_table;
-use std::test::Fail;
+use osplay::{Difference, play_table};
 
 const SERVING: &str = r#"
 // Core 1 waits for the spinlock of core 0, which activates a task of core 1.
@@ -60,9 +59,8 @@ as before up to pre B
 "#;
 
 #[test]
-fn spinlocks_are_got_as_the_logs_say(rt: HostRuntime) -> Result<(), Fail> {
+fn spinlocks_are_got_as_the_logs_say(rt: HostRuntime) -> Result<(), Difference> {
     play_table(&rt, rt.alloc(), REFUSED, 24)?;
     play_table(&rt, rt.alloc(), SERVING, 4)?;
-    play_table(&rt, rt.alloc(), POLLING, 3)?;
-    Ok(())
+    play_table(&rt, rt.alloc(), POLLING, 3)
 }

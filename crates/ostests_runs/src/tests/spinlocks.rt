@@ -1,7 +1,6 @@
 //! Runs with spinlocks: their order, and what binds a core.
 
-use osplay::play_table;
-use std::test::Fail;
+use osplay::{Difference, play_table};
 
 const RUNS: &str = r#"
 // While a task has a spinlock it neither ends itself nor waits nor gives way. A chain to another core is not sent.
@@ -355,9 +354,7 @@ stat A GetSpinlock E_OK
 hook Error E_OS_MISSINGEND
 post A
 end A
-"#;
 
-const STANDINGS: &str = r#"
 // Two cores that share a spinlock, and one that asks for no spinlock.
 config {"spinlocks":[{"name":"S"}],"cores":[{"id":0,"start":[1,2],"tasks":[{"name":"A","prio":1,"auto":["M"],"script":"GetSpinlock S;ReleaseSpinlock S;TerminateTask"}]},{"id":1,"tasks":[{"name":"B","prio":1,"auto":["M"],"script":"GetSpinlock S;ReleaseSpinlock S;TerminateTask"}]},{"id":2,"tasks":[{"name":"V","prio":1,"auto":["M"],"script":"GetSpinlock ?;add v0 3;TerminateTask"}]}]}
 check
@@ -418,9 +415,7 @@ ok
 core 0 bound
 core 1 separate
 core 2 off
-"#;
 
-const FORMS: &str = r#"
 // Members `spinlocks` that are accepted.
 config {"spinlocks":@,"cores":[{"id":0,"tasks":[{"name":"A","prio":1,"script":""}]}]}
 with []|[{"name":"S","next":null}]|[{"name":"S1","next":"S2"},{"name":"S2","next":"S3"},{"name":"S3"},{"name":"S4","next":"S3"}]|[{"name":"S1"},{"name":"S2","next":"S1"},{"name":"none"}]|[{"name":"S0","next":"S1"},{"name":"S1","next":"S2"},{"name":"S2","next":"S3"},{"name":"S3","next":"S4"},{"name":"S4","next":"S5"},{"name":"S5","next":"S6"},{"name":"S6","next":"S7"},{"name":"S7","next":"S8"},{"name":"S8","next":"S9"},{"name":"S9","next":"Sa"},{"name":"Sa","next":"Sb"},{"name":"Sb","next":"Sc"},{"name":"Sc","next":"Sd"},{"name":"Sd","next":"Se"},{"name":"Se","next":"Sf"},{"name":"Sf"}]
@@ -483,9 +478,6 @@ as before
 "#;
 
 #[test]
-fn spinlocks_come_to_their_texts(rt: HostRuntime) -> Result<(), Fail> {
-    play_table(&rt, rt.alloc(), RUNS, 16)?;
-    play_table(&rt, rt.alloc(), STANDINGS, 7)?;
-    play_table(&rt, rt.alloc(), FORMS, 73)?;
-    Ok(())
+fn spinlocks_come_to_their_texts(rt: HostRuntime) -> Result<(), Difference> {
+    play_table(&rt, rt.alloc(), RUNS, 96)
 }

@@ -1,7 +1,6 @@
 //! Runs by application modes, and what a script learns of the start of cores.
 
-use osplay::play_table;
-use std::test::Fail;
+use osplay::{Difference, play_table};
 
 const RUNS: &str = r#"
 // Two cores that name different modes.
@@ -244,9 +243,7 @@ core 1
 hook Startup
 core 2 .. core 3
 ended
-"#;
 
-const SCRIPTS: &str = r#"
 // Operations that are in form, in a script of a task, and in one of an ISR. Core 0 starts cores, so it is bound in
 // any case.
 with StartCore ?|StartCore 0|StartCore 255|GetNumberOfActivatedCores v7|ShutdownOS 0|ShutdownOS 16|ShutdownAllCores 0|ShutdownAllCores 16
@@ -269,10 +266,8 @@ fault 10 BadScript
 config {"cores":[{"id":0,"start":[0],"isrs":[{"name":"A","level":1,"script":"@"}]},{"id":1}]}
 check
 as before
-"#;
 
 // What binds cores, and what does not.
-const STANDINGS: &str = r#"
 // Started cores that name different modes: none is separate.
 config {"modes":["M","N"],"cores":[{"id":0,"start":[1,2]},{"id":1,"mode":"N"},{"id":2},{"id":3,"mode":"N"}]}
 check
@@ -348,9 +343,6 @@ core 0 bound
 "#;
 
 #[test]
-fn modes_and_starts_come_to_their_texts(rt: HostRuntime) -> Result<(), Fail> {
-    play_table(&rt, rt.alloc(), RUNS, 23)?;
-    play_table(&rt, rt.alloc(), STANDINGS, 10)?;
-    play_table(&rt, rt.alloc(), SCRIPTS, 60)?;
-    Ok(())
+fn modes_and_starts_come_to_their_texts(rt: HostRuntime) -> Result<(), Difference> {
+    play_table(&rt, rt.alloc(), RUNS, 93)
 }

@@ -1,7 +1,6 @@
 //! Worked examples of schedule tables.
 
-use osplay::play_table;
-use std::test::Fail;
+use osplay::{Difference, play_table};
 
 const RUNS: &str = r#"
 // A table activates a task and releases one that waits, at one of its points: first the activation. At its end the
@@ -452,7 +451,6 @@ fault 10 BadScript
 "#;
 
 #[test]
-fn tables_come_to_their_texts(rt: HostRuntime) -> Result<(), Fail> {
-    play_table(&rt, rt.alloc(), RUNS, 15)?;
-    Ok(())
+fn tables_come_to_their_texts(rt: HostRuntime) -> Result<(), Difference> {
+    play_table(&rt, rt.alloc(), RUNS, 15)
 }

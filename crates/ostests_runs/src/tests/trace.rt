@@ -211,11 +211,11 @@ fn compare_by_threads(
     alloc: Global,
     config: &Config,
     reports: &[Report],
+    text: &[u8],
 ) -> Result<(), WriteFailed> {
-    let text = text_of(alloc, config, reports)?;
     let mut out = MemorySink::new(Vec::new(alloc));
     write_reports_by_threads(rt, alloc, config, &mut out, reports)?;
-    assert!(rt; out.bytes.as_slice() == text.as_slice());
+    assert!(rt; out.bytes.as_slice() == text);
     Ok(())
 }
 
@@ -225,7 +225,9 @@ fn threads_write_the_same_text(rt: HostRuntime) -> Result<(), Fail> {
     let config = read_config(rt.alloc(), CONFIG)?;
     for count in [100, 40_000, 1_048_576] {
         let reports = uneven(rt.alloc(), count)?;
-        compare_by_threads(&rt, rt.alloc(), &config, reports.as_slice())?;
+        let reports = reports.as_slice();
+        let text = text_of(rt.alloc(), &config, reports)?;
+        compare_by_threads(&rt, rt.alloc(), &config, reports, text.as_slice())?;
     }
     Ok(())
 }

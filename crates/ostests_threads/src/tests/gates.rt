@@ -281,18 +281,6 @@ fn a_core_that_nobody_starts_does_not_hold_up_the_others(rt: HostRuntime) -> Res
     Ok(())
 }
 
-// The separate core prints its block among the four cores.
-fn prints_among_four(
-    rt: &(impl Abort + Threads + Wait + Sync),
-    alloc: Global,
-    mail: MailKind,
-    gate: &Watcher,
-) -> Result<(), Fail> {
-    let text = three_end(rt, alloc, mail, gate)?;
-    assert!(rt; text.contains(SEPARATE));
-    Ok(())
-}
-
 // The separate core prints its block by this configuration, which is its own.
 fn prints_by(
     rt: &(impl Abort + Threads + Wait + Sync),
@@ -307,13 +295,15 @@ fn prints_by(
     Ok(())
 }
 
-// The separate core prints its block by the configuration that is cut out of that of the four cores.
-fn prints_alone(
+// The separate core prints its block among the four cores, and by the configuration that is cut out of theirs.
+fn prints_alike(
     rt: &(impl Abort + Threads + Wait + Sync),
     alloc: Global,
     mail: MailKind,
     gate: &Watcher,
 ) -> Result<(), Fail> {
+    let among = three_end(rt, alloc, mail, gate)?;
+    assert!(rt; among.contains(SEPARATE));
     let printed = result_of(rt, alloc, &cut_of(2), &[Some(FOUR_CORES)])?;
     let (config, _) = printed.split_once('\n').ok_or("a configuration")?;
     prints_by(rt, alloc, mail, gate, config)
@@ -323,8 +313,7 @@ fn prints_alone(
 fn a_separate_core_prints_what_its_configuration_alone_prints(rt: HostRuntime) -> Result<(), Fail> {
     for mail in KINDS.iter() {
         let gate = Watcher::new(None, false);
-        prints_among_four(&rt, rt.alloc(), *mail, &gate)?;
-        prints_alone(&rt, rt.alloc(), *mail, &gate)?;
+        prints_alike(&rt, rt.alloc(), *mail, &gate)?;
     }
     Ok(())
 }

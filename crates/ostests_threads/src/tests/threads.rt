@@ -21,7 +21,7 @@ pub const KINDS: [MailKind; 2] = [MailKind::Ring, MailKind::Locked];
 /// Some turns, for a run that does not end.
 pub(super) const FEW: u64 = 1_000;
 
-const BOUND_AND_SEPARATE: &str = r#"
+const RUNS: &str = r#"
 // Two cores, each of whose first task activates the other's second one, and a separate core.
 config {"cores":[{"id":0,"start":[1,2],"tasks":[{"name":"A","prio":2,"auto":["M"],"script":"ActivateTask D;TerminateTask"},{"name":"C","prio":1,"script":"TerminateTask"}]},{"id":1,"tasks":[{"name":"B","prio":2,"auto":["M"],"script":"ActivateTask C;TerminateTask"},{"name":"D","prio":1,"script":"TerminateTask"}]},{"id":2,"tasks":[{"name":"V","prio":1,"auto":["M"],"script":"add v0 3;TerminateTask"}]}]}
 check
@@ -84,9 +84,7 @@ config
 stimuli {"2":"op op"}
 run
 as run from core 2
-"#;
 
-const RUNS: &str = r#"
 // A core gives up once so many turns in a row changed nothing.
 config {"cores":[{"id":0,"tasks":[{"name":"A","prio":1,"auto":["M"],"script":"work;TerminateTask"}]}]}
 stimuli {"0":"op op"}
@@ -200,12 +198,10 @@ fault 21 Unreadable
 const SEPARATE_END: &str = "core 2\nhook Startup\nact V\npre V\nvar V v0 3\npost V\nend V\nended\n";
 
 #[test]
-fn runs_by_threads_come_to_their_texts(rt: HostRuntime) -> Result<(), Fail> {
-    play_table(&rt, rt.alloc(), BOUND_AND_SEPARATE, 9)?;
-    play_table(&rt, rt.alloc(), RUNS, 18)?;
+fn runs_by_threads_come_to_their_texts(rt: HostRuntime) -> Result<(), Difference> {
+    play_table(&rt, rt.alloc(), RUNS, 27)?;
     play_table(&rt, rt.alloc(), OWED, 36)?;
-    play_table(&rt, rt.alloc(), SHARED, 3)?;
-    Ok(())
+    play_table(&rt, rt.alloc(), SHARED, 3)
 }
 
 // The result of a run by threads of a table's first files, with this kind of mail.
@@ -247,7 +243,7 @@ fn cores_that_call_each_other_end_and_a_separate_one_prints_its_block(
 ) -> Result<(), Fail> {
     for mail in KINDS.iter() {
         both_answer(&rt, rt.alloc(), *mail, (MUTUAL, "ended\n"))?;
-        both_answer(&rt, rt.alloc(), *mail, (BOUND_AND_SEPARATE, SEPARATE_END))?;
+        both_answer(&rt, rt.alloc(), *mail, (RUNS, SEPARATE_END))?;
     }
     Ok(())
 }
@@ -299,7 +295,7 @@ impl Example {
     pub(super) fn table(self) -> &'static str {
         match self {
             Example::Mutual => MUTUAL,
-            Example::BoundAndSeparate => BOUND_AND_SEPARATE,
+            Example::BoundAndSeparate => RUNS,
             Example::AllDown => ALL_DOWN,
             Example::Askers => ASKERS,
             Example::Owed => OWED,

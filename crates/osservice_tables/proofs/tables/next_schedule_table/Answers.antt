@@ -1,18 +1,9 @@
-use Rattle.std.proofs.Common.{rules, sym, ◌∙◌, lit≤}
+use Rattle.std.proofs.Common.{sym, ◌∙◌, lit≤}
 use Rattle.osbase.specs.declared.statuses.ServiceId.TheVariants as Service
 use Rattle.osservice_tables.specs.Tables.{own_pair, switch}
-use Rattle.osservice_tables.proofs.Served.{may-finish, may-refuse, served-found, served-missing}
+use Rattle.osservice_tables.proofs.Served.{served-found, served-missing}
 use Rattle.osservice_tables.proofs.tables.next_schedule_table.Goals.{in-None, in-Some}
 use Rattle.osservice_tables.proofs.tables.next_schedule_table.Goals as goal
-
-pub finish-requires : goal.finish-requires
-finish-requires g c = (
-  search rules,
-  elim c.match-own_pair.branch [
-    | in-Some w ↦ may-finish (lit≤ tt) w.state-is w.switch-answer.ensures.steps c.requires
-    | in-None w ↦ may-refuse w.state-is c.requires
-  ],
-)
 
 pub returns : goal.returns
 returns g c =

@@ -1,20 +1,11 @@
-use Rattle.std.proofs.Common.{rules, sym, ◌∙◌, lit≤}
+use Rattle.std.proofs.Common.{sym, ◌∙◌, lit≤}
 use Rattle.osbase.specs.Objects.{table_object}
 use Rattle.osbase.specs.declared.statuses.ServiceId.TheVariants as Service
 use Rattle.osservice.specs.Named.{own_of}
 use Rattle.osservice_tables.specs.Tables.{absolute_start}
-use Rattle.osservice_tables.proofs.Served.{may-finish, may-refuse, served-found, served-missing}
+use Rattle.osservice_tables.proofs.Served.{served-found, served-missing}
 use Rattle.osservice_tables.proofs.tables.start_schedule_table_abs.Goals.{in-None, in-Some}
 use Rattle.osservice_tables.proofs.tables.start_schedule_table_abs.Goals as goal
-
-pub finish-requires : goal.finish-requires
-finish-requires g c = (
-  search rules,
-  elim c.match-own_of.branch [
-    | in-Some w ↦ may-finish (lit≤ tt) w.state-is w.start_absolute-answer.ensures.steps c.requires
-    | in-None w ↦ may-refuse w.state-is c.requires
-  ],
-)
 
 pub returns : goal.returns
 returns g c =
