@@ -365,3 +365,10 @@ fn judge(
     }
     Ok(())
 }
+
+#[test]
+fn a_fault_is_shown_by_its_number_and_its_name(rt: HostRuntime) -> Result<(), Fail> {
+    let shown = format!(in rt.alloc(); "{}", ConfFault::NotSeparate)?;
+    assert!(rt; shown.as_str() == "fault 20 NotSeparate");
+    Ok(())
+}

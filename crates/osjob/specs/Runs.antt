@@ -86,9 +86,13 @@ are_items_known plan (Some core) = is_some (core_of plan core)
 abbrev pub items_in : List Report → CoreId → List Item
 items_in reports core = option_map_or (λ (r : Report). r.items) (find (λ (r : Report). same_core r.core core) reports) []
 
--- What a run prints: each core's block by ascending number, and the last line. [own]
+-- The reports' blocks, by ascending number of the core, and the last line behind them. [own]
+abbrev pub ended_text : Plan → List Report → Bool → List ℕ
+ended_text plan reports ended = text_of plan reports ++ last_line ended
+
+-- What a run prints: whether every started core has ended stands last. [own]
 abbrev pub run_text : Plan → List Report → List ℕ
-run_text plan reports = text_of plan reports ++ last_line (have_all_ended plan reports)
+run_text plan reports = ended_text plan reports (have_all_ended plan reports)
 
 -- Or the log of one core alone. [own]
 abbrev pub printed_text : Plan → List Report → Option CoreId → List ℕ

@@ -1,14 +1,13 @@
 //! A run: its files are read and played, and the reports printed.
 
-ghost use Rattle.std.specs.Prelude.{◌≡◌, ◌+◌, ◌<◌, ◌^◌, ◌++◌, IfErr, IfOk, Ok, OnOk, Some, find, length, option_copied, true};
+ghost use Rattle.std.specs.Prelude.{◌≡◌, ◌+◌, ◌<◌, ◌^◌, IfErr, IfOk, Ok, OnOk, Some, find, length, option_copied, true};
 ghost use Rattle.osbase.specs.{History.same_core, declared.turns.Report.Report as ReportValue};
 ghost use Rattle.ostrace.specs.Taken.{Writes};
-ghost use Rattle.ostrace_text.specs.Trace.{text_of};
 ghost use Rattle.osplan.specs.Stimuli.{AreKnown};
 ghost use Rattle.osrun.specs.Ends.{have_all_ended};
 ghost use Rattle.oscommand.specs.Jobs.{listed, path_in};
 ghost use Rattle.osjob.specs.Performs.{PrintsOrFaults, HasNoItems, IsReported, IsRunPrinted, IsRead, Prints, outcome_of};
-ghost use Rattle.osjob.specs.Runs.{AreOfTurns, Consumes, are_items_known, items_in, last_line, run_text};
+ghost use Rattle.osjob.specs.Runs.{AreOfTurns, Consumes, are_items_known, ended_text, items_in, last_line, run_text};
 
 use crate::endings::written;
 use crate::faults::Fault;
@@ -169,7 +168,7 @@ fn write_run<O: Sink>(
     ended: bool,
 ) -> Result<(), WriteFailed>
     requires { O.failed out.old < 2 ^ 48 }
-    ensures { Writes O.taken O.failed out.old out.new (text_of config.now reports.now ++ last_line ended) result }
+    ensures { Writes O.taken O.failed out.old out.new (ended_text config.now reports.now ended) result }
 {
     write_reports(config, out, reports)?;
     write_all(out, last_line(ended).as_bytes())

@@ -1,9 +1,8 @@
 //! A run by threads: its files are read, its cores run, and the reports are printed.
 
-ghost use Rattle.std.specs.Prelude.{◌≡◌, ◌++◌, ◌<◌, ◌^◌, None};
+ghost use Rattle.std.specs.Prelude.{◌≡◌, ◌<◌, ◌^◌, None};
 ghost use Rattle.ostrace.specs.Taken.{Writes};
-ghost use Rattle.ostrace_text.specs.Trace.{text_of};
-ghost use Rattle.osjob.specs.{Performs.IsReported, Performs.IsThreadsPrinted, Performs.PrintsOrFaults, Runs.Consumes, Runs.last_line, Runs.logged_core};
+ghost use Rattle.osjob.specs.{Performs.IsReported, Performs.IsThreadsPrinted, Performs.PrintsOrFaults, Runs.Consumes, Runs.ended_text, Runs.logged_core};
 
 use crate::endings::written;
 use crate::faults::Fault;
@@ -142,7 +141,7 @@ fn write_by_threads<R: Threads + Sync, O: Sink>(
     ended: bool,
 ) -> Result<(), WriteFailed>
     requires { O.failed out.old < 2 ^ 48 }
-    ensures { Writes O.taken O.failed out.old out.new (text_of config.now reports.now ++ last_line ended) result }
+    ensures { Writes O.taken O.failed out.old out.new (ended_text config.now reports.now ended) result }
 {
     write_reports_by_threads(rt, alloc, config, out, reports)?;
     write_all(out, last_line(ended).as_bytes())

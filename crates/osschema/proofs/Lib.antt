@@ -2,4 +2,3 @@ pub mod Lists
 pub mod Naming
 pub mod Alone
 pub mod Indexing
-pub mod Settings

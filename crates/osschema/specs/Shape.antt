@@ -128,22 +128,18 @@ settings_shape d = do
   protection ← member_or protection_of Protection.Shutdown (codes "protection") d
   Some (record { id = id; mode = mode; start = start; protection = protection })
 
--- A core: its number; its mode, none by default; how it answers a time fault, PRO_SHUTDOWN by default; the cores that it starts, its
--- tasks, its ISRs, its resources, its counters, its alarms and its tables, none by default.
+-- A core: its settings; its tasks, its ISRs, its resources, its counters, its alarms and its tables, none by default.
 unfoldable pub core_shape : Data → Option CoreText
 core_shape d = do
   _ ← only_members (codes "id" ∷ codes "mode" ∷ codes "start" ∷ codes "protection" ∷ codes "tasks" ∷ codes "isrs" ∷ codes "resources" ∷ codes "counters" ∷ codes "alarms" ∷ codes "tables" ∷ []) d
-  id ← member_of whole_of (codes "id") d
-  mode ← member_or mode_shape None (codes "mode") d
-  start ← member_or (each_of whole_of) [] (codes "start") d
-  protection ← member_or protection_of Protection.Shutdown (codes "protection") d
+  settings ← settings_shape d
   tasks ← member_or (each_of task_shape) [] (codes "tasks") d
   isrs ← member_or (each_of isr_shape) [] (codes "isrs") d
   resources ← member_or (each_of resource_shape) [] (codes "resources") d
   counters ← member_or (each_of counter_shape) [] (codes "counters") d
   alarms ← member_or (each_of alarm_shape) [] (codes "alarms") d
   tables ← member_or (each_of table_shape) [] (codes "tables") d
-  Some (record { id = id; mode = mode; start = start; protection = protection; tasks = tasks; isrs = isrs; resources = resources; counters = counters; alarms = alarms; tables = tables })
+  Some (record { id = settings.id; mode = settings.mode; start = settings.start; protection = settings.protection; tasks = tasks; isrs = isrs; resources = resources; counters = counters; alarms = alarms; tables = tables })
 
 -- A configuration: its version, 1 by default; the size of a mailbox, 16 by default; the master core, 0 by default; its application
 -- modes, one by default; its spinlocks, none by default; its cores.

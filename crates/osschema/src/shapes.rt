@@ -568,7 +568,7 @@ impl<'v> JsonReader<'v, CoreText<'v>> for CoreReader {
 
     ghost passes = { λ _ core. has_named_objects core };
 
-    #[tactic(auto, using(crate::proofs::Lists::mapped, crate::proofs::Settings::core_settings))]
+    #[tactic(auto, unfolding(crate::specs::Shape::core_shape), using(crate::proofs::Lists::mapped))]
     fn read(&self, alloc: Global, value: &'v Value) -> Result<CoreText<'v>, Refusal> {
         only_members(
             value,

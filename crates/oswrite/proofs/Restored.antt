@@ -16,7 +16,7 @@ use Rattle.oscript.proofs.Acting.{action-back as action-of, call-objects}
 use Rattle.ossyntax.specs.{Operation.op_of_text, Operation.has_masks as text_has_masks, Action.is_action as is_action_text}
 use Rattle.ossyntax.proofs.{Joining.has_none, ActionTexts.meant_action, Operations.IsNamed, Operations.text-meant, Operations.text-none, Operations.text-some, Operations.meant-known, Operations.meant_masks}
 use Rattle.osjson.specs.Json.{each_of, whole_of, name_of as read_name, or_null}
-use Rattle.osschema.specs.Shape.{mode_shape, task_shape, isr_shape, resource_shape, counter_shape, alarm_start_shape, alarm_shape, point_shape, spinlock_shape, table_start_shape, table_shape, core_shape, config_shape}
+use Rattle.osschema.specs.Shape.{mode_shape, task_shape, isr_shape, resource_shape, counter_shape, alarm_start_shape, alarm_shape, point_shape, spinlock_shape, table_start_shape, table_shape, core_shape, settings_shape, config_shape}
 use Rattle.osschema.specs.Declarations.{counter_ref, mode_ref, number_id, declarations, place_of, names_of, counter_declared, declared_sizes, id_of, spinlock_ref}
 use Rattle.osschema.proofs.Lists.{all-apart}
 use Rattle.osvalidate.specs.{Action.action_of, Action.any_action, Operation.is_operation, Operation.is_operation_known, Operation.operations_of, Operation.op_of}
@@ -282,7 +282,7 @@ module _ (plan : Plan) (inside : IsTrue (limits.is_within_limits plan)) (sayable
   core-known core h = (grind arith, grind arith, grind arith, grind arith, grind arith)
 
   core-back : (core : Core) → In plan.cores core → Back (core_data plan) (core_as_text plan) core_shape (core_plan objects) (λ text. is_right (core_verdict objects text)) core
-  unfolding core_shape
+  unfolding core_shape settings_shape
   core-back core here =
       let id = id_of (core_as_text plan core) in
       let limit = core-parts (limits.core_sizes plan core) (here _ bounds.cores) in

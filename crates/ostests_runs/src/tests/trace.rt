@@ -88,6 +88,14 @@ fn reports_are_blocks_in_their_order(rt: HostRuntime) -> Result<(), Fail> {
     Ok(())
 }
 
+#[test]
+fn a_report_is_shown_by_how_much_it_has(rt: HostRuntime) -> Result<(), Fail> {
+    let report = report(rt.alloc(), ONE, marks::ANSWER.to_vec(rt.alloc())?);
+    let shown = format!(in rt.alloc(); "{report:?}")?;
+    assert!(rt; shown.as_str() == "Report { core: 1, items: 0, marks: 2, ended: true }");
+    Ok(())
+}
+
 // Behind so many writes of three bytes one was refused, and the sink has a beginning of the text: all before that write, and
 // nothing that stands behind it. The outcome says so, unless there was no such write.
 fn judge(
