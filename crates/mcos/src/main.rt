@@ -1,7 +1,7 @@
 //! `mcos`: a multicore AUTOSAR OS kernel, simulated.
 #![tactic(auto)]
 
-use osjob::{Fault, NoWords, answer, tell};
+use osjob::{Fault, NoWords, answer, report_ending};
 use ostrace::WriteSink;
 use std::alloc::AllocError;
 use std::env;
@@ -16,7 +16,7 @@ fn main(rt: HostRuntime) -> ExitCode {
     let mut err = WriteSink::new(rt.stderr());
     let status = match BufWriter::with_capacity(rt.alloc(), BUFFER, rt.stdout()) {
         Ok(writer) => answer(&rt, words_of(&rt), &mut WriteSink::new(writer), &mut err),
-        Err(_) => tell(Err(Fault::from(AllocError)), &mut err),
+        Err(_) => report_ending(Err(Fault::from(AllocError)), &mut err),
     };
     ExitCode::from(status)
 }

@@ -153,7 +153,7 @@ HasNoCut core files fault = fault ≢ Text NoMemory → IsCutFault core files fa
 abbrev pub IsCutOf : Plan → CoreId → List ℕ → Type 0
 IsCutOf plan core text = (is_separate plan core ≡ true) × (text ≡ config_text (cut_of plan core))
 
--- Why there is none: the core is not separate. Nothing is said where memory was wanting.
+-- Why there is none: the core is not separate. Nothing is said where memory ran out.
 abbrev pub IsNotCut : Plan → CoreId → Fault → Type 0
 IsNotCut plan core fault = fault ≢ Text NoMemory → (is_separate plan core ≡ false) × (fault ≡ Text NotSeparate)
 
@@ -239,9 +239,9 @@ pub data PrintsOrFaults {S : Type 0} (taken : S → Option (List ℕ)) (failed :
   fails : (fault : Fault) → result ≡ Err fault → NoOutput fault → new ≡ old → PrintsOrFaults taken failed old new Output NoOutput result
 
 -- A fault is reported by its line, as far as it can be written, and nothing else is reported. [own]
-abbrev pub Tells : {S : Type 0} → (S → Option (List ℕ)) → (S → ℕ) → S → S → Result Outcome Fault → Type 0
-Tells taken failed old new (Ok outcome) = new ≡ old
-Tells taken failed old new (Err fault) = (written : Result Unit SinkFailed) × Writes taken failed old new (fault_text fault) written
+abbrev pub ReportsEnding : {S : Type 0} → (S → Option (List ℕ)) → (S → ℕ) → S → S → Result Outcome Fault → Type 0
+ReportsEnding taken failed old new (Ok outcome) = new ≡ old
+ReportsEnding taken failed old new (Err fault) = (written : Result Unit SinkFailed) × Writes taken failed old new (fault_text fault) written
 
 -- The outcome of files, as many as there are: an output, which is printed, or a fault. [own]
 pub record PrintsFrom {O : Type 0} (taken : O → Option (List ℕ)) (failed : O → ℕ) (old new : O)
@@ -273,5 +273,5 @@ pub record Performs {O E : Type 0} (out_taken : O → Option (List ℕ)) (out_fa
     (count status : ℕ) : Type 0 where
   pub result : Result Outcome Fault
   pub printed : IsPrinted out_taken out_failed old_out new_out job files count result
-  pub tells : Tells err_taken err_failed old_err new_err result
+  pub reported : ReportsEnding err_taken err_failed old_err new_err result
   pub status_is : status ≡ status_of result

@@ -6,7 +6,7 @@ use Rattle.ostrace.specs.{declared.sinks.WriteFailed.WriteFailed as SinkFailed, 
 use Rattle.osjob.specs.{declared.faults.Fault.Fault, declared.faults.Fault.TheVariants.Text, declared.outcomes.Outcome.Outcome, declared.outcomes.Outcome.TheVariants.Done, declared.program.NoWords.NoWords, Outputs.Sends, Runs.StopsAtFaults, Texts.File}
 use Rattle.oscommand.specs.{declared.jobs.Job.Job, CommandLine.AsksFor, CommandLine.FailsByWords, Jobs.paths_of}
 use Rattle.osjob.specs.declared.program.NoWords.TheVariants as none
-use Rattle.osjob.specs.Performs.{IsPrinted, Prints, Tells, status_of, unless_refused}
+use Rattle.osjob.specs.Performs.{IsPrinted, Prints, ReportsEnding, status_of, unless_refused}
 
 -- What was printed is sent off, whatever was to come. [own]
 pub record SendsOff {S : Type 0} (taken sent : S → Option (List ℕ)) (failed : S → ℕ) (old new : S)
@@ -21,7 +21,7 @@ pub record Closes {O E : Type 0} (out_taken out_sent : O → Option (List ℕ)) 
     (status : ℕ) : Type 0 where
   pub result : Result Outcome Fault
   pub sends : SendsOff out_taken out_sent out_failed old_out new_out ending result
-  pub tells : Tells err_taken err_failed old_err new_err result
+  pub reported : ReportsEnding err_taken err_failed old_err new_err result
   pub status_is : status ≡ status_of result
 
 -- What a job prints from the files at its paths: none is read behind one with a fault, and no other. [own]
@@ -60,7 +60,7 @@ is_request _ = false
 module _ {O E : Type 0} (out_taken out_sent : O → Option (List ℕ)) (out_failed : O → ℕ) (old_out new_out : O)
     (err_taken : E → Option (List ℕ)) (err_failed : E → ℕ) (old_err new_err : E) where
   -- Words that name no job: help or the version is printed as a job's text is, or a mistake is reported and nothing printed, each
-  -- in some text; or memory was wanting. [own]
+  -- in some text; or memory ran out. [own]
   pub data Refuses (kind : ErrorKind) (status : ℕ) : Type 0 where
     shows : is_request kind ≡ true → (text : List ℕ) (printed : O) (result : Result Outcome Fault) →
         Prints out_taken out_failed old_out printed text (Ok Done) result →

@@ -1,8 +1,8 @@
-//! How a job ends: what it printed is sent off, a fault is told, and there is a status.
+//! How a job ends: what it printed is sent off, a fault is reported, and there is a status.
 
 ghost use Rattle.std.specs.Prelude.{◌≡◌, ◌<◌, ◌≤◌, ◌^◌};
 ghost use Rattle.ostrace.specs.Taken.{Writes};
-ghost use Rattle.osjob.specs.{Faults.fault_text, Performs.Tells, Performs.status_of, Performs.unless_refused, Program.Closes, Program.SendsOff};
+ghost use Rattle.osjob.specs.{Faults.fault_text, Performs.ReportsEnding, Performs.status_of, Performs.unless_refused, Program.Closes, Program.SendsOff};
 
 use crate::faults::Fault;
 use crate::outcomes::{FAULT, Outcome};
@@ -16,7 +16,7 @@ pub fn close<O: Output, E: Sink>(ending: Result<Outcome, Fault>, out: &mut O, er
     requires err { E.failed err.old < 2 ^ 48 }
     ensures { Closes O.taken O.sent O.failed out.old out.new E.taken E.failed err.old err.new ending result }
 {
-    tell(send_off(ending, out), err)
+    report_ending(send_off(ending, out), err)
 }
 
 // The ending, unless what was printed could not be sent off.
@@ -39,10 +39,10 @@ pub fn written(
     ending
 }
 
-/// Tells a fault by its line; answers the exit status.
-pub fn tell<E: Sink>(ending: Result<Outcome, Fault>, err: &mut E) -> u8
+/// Reports a fault by its line. Returns the exit status.
+pub fn report_ending<E: Sink>(ending: Result<Outcome, Fault>, err: &mut E) -> u8
     requires { E.failed err.old < 2 ^ 48 }
-    ensures told { Tells E.taken E.failed err.old err.new ending }
+    ensures reported { ReportsEnding E.taken E.failed err.old err.new ending }
     ensures status { result ≡ status_of ending }
 {
     match ending {

@@ -17,7 +17,7 @@ mod runs;
 mod sources;
 mod threads;
 
-pub use endings::{close, tell};
+pub use endings::{close, report_ending};
 pub use faults::Fault;
 pub use outcomes::Outcome;
 pub use outputs::Output;

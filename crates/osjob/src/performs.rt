@@ -5,7 +5,7 @@ ghost use Rattle.oscommand.specs.Jobs.{paths_of};
 ghost use Rattle.osjob.specs.{Performs.IsPrinted, Performs.Performs, Runs.Consumes};
 
 use crate::checks::{check, cut_out};
-use crate::endings::tell;
+use crate::endings::report_ending;
 use crate::faults::Fault;
 use crate::groups::{group_out, groups_out};
 use crate::outcomes::Outcome;
@@ -36,7 +36,7 @@ pub fn perform<R: Threads + Wait + Sync, O: Sink, E: Sink>(
         job.now files.now (length files.now) result }
 {
     let result = print_from(rt, alloc, job, Given { files }, out);
-    tell(result, err)
+    report_ending(result, err)
 }
 
 /// Prints what the job asks for over files that are read one by one: each is judged before the next is read, none

@@ -109,7 +109,7 @@ fn refuse<O: Output, E: Sink>(alloc: Global, error: &Error, out: &mut O, err: &m
             close(shown, out, err)
         }
         Ok(text) => mistake(text.as_str(), err),
-        Err(wanting) => close(Err(wanting), out, err),
+        Err(fault) => close(Err(fault), out, err),
     }
 }
 
@@ -138,7 +138,7 @@ fn show<O: Sink>(text: &str, out: &mut O) -> Result<Outcome, Fault>
     written(write_all(out, text.as_bytes()), Ok(Outcome::Done))
 }
 
-// Tells a mistake in the words; answers the exit status.
+// Reports a mistake in the words. Returns the exit status.
 fn mistake<E: Sink>(text: &str, err: &mut E) -> u8
     requires { E.failed err.old < 2 ^ 48 }
     ensures { IsMistaken E.taken E.failed err.old err.new text.now result }

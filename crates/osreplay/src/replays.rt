@@ -32,8 +32,6 @@ pub fn replay(
     requires { IsSome (core_of config.now core) }
     ensures { IsReplayResult config.now core items.now result }
 {
-    // The configuration is within the limits, so a seat fits the core.
-    let _plan = config.plan();
     let mut core_run = CoreRun::new(alloc, config, core, &[]);
     let mut taken = 0;
     for item in items {

@@ -10,8 +10,9 @@ use Rattle.osrun.specs.CoreRuns.{Keeps, Took, stimulus_count, left_after, IsCore
 use Rattle.osrun.proofs.{Longer.history_from-push, Longer.solo-push, Longer.stimulus_count-push, Ending.ended-by}
 
 -- A core that took nothing.
-pub seated-first : (plan : Plan) (stimuli : List CoreStimuli) (core_run : CoreRun) (id : CoreId) → core_run.id ≡ id → core_run.kernel ≡ state_of (view_of plan id) [] → core_run.stimuli.now ≡ stimuli_of stimuli id → core_run.items.items ≡ [] → core_run.marks.items ≡ [] → IsCoreRun plan stimuli core_run
-seated-first plan stimuli core_run id is_id is_kernel is_left no_items no_marks = record {
+pub seated-first : (plan : Plan) (stimuli : List CoreStimuli) (core_run : CoreRun) (id : CoreId) → core_run.id ≡ id → core_run.plan.now ≡ plan → core_run.kernel ≡ state_of (view_of plan id) [] → core_run.stimuli.now ≡ stimuli_of stimuli id → core_run.items.items ≡ [] → core_run.marks.items ≡ [] → IsCoreRun plan stimuli core_run
+seated-first plan stimuli core_run id is_id is_plan is_kernel is_left no_items no_marks = record {
+  planned = is_plan;
   tracks = rw (is_id, no_items, no_marks) (record { stands = record { is = is_kernel; granted = refl }; added = []; behind = refl; shows = refl });
   alone = rw (is_id, no_items) refl;
   left = rw (is_id, no_items) is_left;
@@ -19,6 +20,7 @@ seated-first plan stimuli core_run id is_id is_kernel is_left no_items no_marks 
 
 pub seated-kept : (plan : Plan) (stimuli : List CoreStimuli) (old new : CoreRun) → Keeps old new → IsCoreRun plan stimuli old → IsCoreRun plan stimuli new
 seated-kept plan stimuli old new keeps seated = record {
+  planned = ap (λ (p : Bor Plan). p.now) keeps.plan ∙ seated.planned;
   tracks = rw (keeps.id, keeps.items, keeps.marks, keeps.kernel) seated.tracks;
   alone = rw (keeps.id, keeps.items) seated.alone;
   left = rw (keeps.id, keeps.items, keeps.left) seated.left;
@@ -31,6 +33,7 @@ left-on i n xs = ap (λ (k : ℕ). drop k xs) (omega arith)
 
 pub seated-on : (plan : Plan) (stimuli : List CoreStimuli) (old new : CoreRun) (item : Item) → IsCoreRun plan stimuli old → takes outbox_size (view_of plan old.id) (history_by plan old.id old.items.items) item ≡ true → Took old new item → IsCoreRun plan stimuli new
 seated-on plan stimuli old new item seated taken took = record {
+  planned = ap (λ (p : Bor Plan). p.now) took.plan ∙ seated.planned;
   tracks = rw (took.id, took.items, history_from-push (view_of plan old.id) [] old.items.items item) (took.does (view_of plan old.id) (history_by plan old.id old.items.items) [] [] seated.tracks);
   alone = rw (took.id, took.items, history_from-push (view_of plan old.id) [] old.items.items item) (solo-push (view_of plan old.id) [] old.items.items item seated.alone taken);
   left = rw (took.id, took.items, took.left, seated.left, stimulus_count-push old.items.items item) (left-on item (stimulus_count old.items.items) (stimuli_of stimuli old.id));
@@ -40,6 +43,7 @@ seated-on plan stimuli old new item seated taken took = record {
 pub took-kept : (old roomy new : CoreRun) (item : Item) → Keeps old roomy → Took roomy new item → Took old new item
 took-kept old roomy new item keeps took = record {
   id = took.id ∙ keeps.id;
+  plan = took.plan ∙ keeps.plan;
   left = took.left ∙ ap (λ (xs : Bor (List Stimulus)). left_after item xs.now) keeps.left;
   items = took.items ∙ ap (λ (xs : List Item). xs ++ item ∷ []) keeps.items;
   does = rw (← keeps.kernel, ← keeps.marks) took.does;

@@ -41,6 +41,7 @@ pub record HasRoomForItem (core_run : CoreRun) : Type 0 where
 -- The core is as it was, but for the room that it has.
 pub record Keeps (old new : CoreRun) : Type 0 where
   pub id : new.id ≡ old.id
+  pub plan : new.plan ≡ old.plan
   pub left : new.stimuli ≡ old.stimuli
   pub items : new.items.items ≡ old.items.items
   pub marks : new.marks.items ≡ old.marks.items
@@ -49,12 +50,14 @@ pub record Keeps (old new : CoreRun) : Type 0 where
 -- The core took this item.
 pub record Took (old new : CoreRun) (item : Item) : Type 0 where
   pub id : new.id ≡ old.id
+  pub plan : new.plan ≡ old.plan
   pub left : new.stimuli.now ≡ left_after item old.stimuli.now
   pub items : new.items.items ≡ old.items.items ++ item ∷ []
   pub does : Does (λ v h. after v h item) old.kernel new.kernel old.marks.items new.marks.items
 
--- The core's kernel and lines are those of the items that it took, and each of these could be taken in turn.
+-- A core of this plan: its kernel and lines are those of the items that it took, and each of these could be taken in turn.
 pub record IsCoreRun (plan : Plan) (stimuli : List CoreStimuli) (core_run : CoreRun) : Type 0 where
+  pub planned : core_run.plan.now ≡ plan
   pub tracks : Tracks (view_of plan core_run.id) (history_by plan core_run.id core_run.items.items) [] [] core_run.kernel core_run.marks.items
   pub alone : solo (view_of plan core_run.id) core_run.items.items ≡ Some (history_by plan core_run.id core_run.items.items)
   pub left : core_run.stimuli.now ≡ drop (stimulus_count core_run.items.items) (stimuli_of stimuli core_run.id)

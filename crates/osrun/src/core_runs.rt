@@ -14,7 +14,7 @@ use osbase::{
     stimuli_for,
 };
 use oskernel::{Kernel, STEP_MARKS, Watch};
-use osplan::{Config, Core, Plan};
+use osplan::{Config, Plan};
 use std::alloc::{AllocError, Global};
 use std::mem;
 
@@ -22,15 +22,17 @@ use std::mem;
 /// outbox of `OUTBOX` letters.
 pub type CoreKernel<'a> = Kernel<'a, 32, 64, OUTBOX>;
 
-/// A core of a run: its kernel, the stimuli that are left, and what it took and printed so far.
+/// A core of a run: the configuration's plan, its kernel, the stimuli that are left, and what it took and printed so far.
 #[derive(Drop)]
 pub struct CoreRun<'a> {
     pub id: CoreId,
+    pub plan: &'a Plan,
     pub kernel: CoreKernel<'a>,
     pub stimuli: &'a [Stimulus],
     pub items: Vec<Item>,
     pub marks: Vec<Mark>,
     ghost known: { id.number < CORES },
+    ghost limits: { IsTrue (is_within_limits plan.now) },
 }
 
 impl<'a> CoreRun<'a> {
@@ -39,9 +41,8 @@ impl<'a> CoreRun<'a> {
     /// The core at the beginning of a run, with room for the items and lines that its stimuli are likely to
     /// bring, which then need not be moved while they grow. Where so much is refused it begins with none.
     pub fn new(alloc: Global, config: &'a Config, id: CoreId, stimuli: &'a [CoreStimuli]) -> Self
-        requires number { id.number < CORES }
-        requires configured { IsSome (core_of config.now id) }
-        requires limits { IsTrue (is_within_limits config.now) }
+        requires { IsSome (core_of config.now id) }
+        ensures plan { result.plan.now ≡ config.now }
         ensures kernel { result.kernel ≡ state_of (view_of config.now id) [] }
         ensures core { result.id ≡ id }
         ensures stimuli { result.stimuli.now ≡ stimuli_of stimuli.now id }
@@ -52,6 +53,7 @@ impl<'a> CoreRun<'a> {
         let ahead = stimuli.len().saturating_add(STEP_MARKS);
         CoreRun {
             id,
+            plan: config.plan(),
             kernel: Kernel::new(config, id),
             stimuli,
             // A stimulus is taken to bring itself and a letter, and three lines.
@@ -62,14 +64,14 @@ impl<'a> CoreRun<'a> {
 
     /// The request of a turn. The kernel is asked what the core wants for the core's own turn alone.
     #[inline(always)]
-    pub fn request_of_turn(&self, plan: &Plan, choice: Choice) -> Option<Request>
-        ensures value { result ≡ request_by (view_of plan.now self.now.id) (want_in self.now.kernel) (watch_in self.now.kernel) (slice_get self.now.stimuli.now 0) choice }
+    pub fn request_of_turn(&self, choice: Choice) -> Option<Request>
+        ensures value { result ≡ request_by (view_of self.now.plan.now self.now.id) (want_in self.now.kernel) (watch_in self.now.kernel) (slice_get self.now.stimuli.now 0) choice }
         ensures lock { IfSome result (λ request. IsTrue (is_request_known request)) }
     {
         match choice {
             Choice::Own => {
                 let next = self.stimuli.first().copied();
-                own_request(plan, self.id, self.kernel.want(), next)
+                own_request(self.plan, self.id, self.kernel.want(), next)
             }
             Choice::Serve(from) => Some(Request::Oldest(from)),
             Choice::Look => Some(look_request(self.kernel.watch())),

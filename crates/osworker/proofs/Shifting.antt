@@ -18,11 +18,11 @@ first-running true = refl
 first-running false = refl
 
 -- A worker that has done nothing.
-pub begun : (plan : Plan) (stimuli : List CoreStimuli) (core : CoreRun) (id : CoreId) (made : Calls) (sent taken : Streams) → core.id ≡ id → core.kernel ≡ state_of (view_of plan id) [] → core.stimuli.now ≡ stimuli_of stimuli id → core.items.items ≡ [] → core.marks.items ≡ []
+pub begun : (plan : Plan) (stimuli : List CoreStimuli) (core : CoreRun) (id : CoreId) (made : Calls) (sent taken : Streams) → core.id ≡ id → core.plan.now ≡ plan → core.kernel ≡ state_of (view_of plan id) [] → core.stimuli.now ≡ stimuli_of stimuli id → core.items.items ≡ [] → core.marks.items ≡ []
     → made ≡ no_calls → ((c : CoreId) → (sent c ≡ []) × (taken c ≡ [])) → HasDone plan stimuli core made sent taken None 0
-begun plan stimuli core id made sent taken is_id is_kernel is_left no_items no_marks none_made no_mail = record {
+begun plan stimuli core id made sent taken is_id is_plan is_kernel is_left no_items no_marks none_made no_mail = record {
   work = record {
-    seated = seated-first plan stimuli core id is_id is_kernel is_left no_items no_marks;
+    seated = seated-first plan stimuli core id is_id is_plan is_kernel is_left no_items no_marks;
     fits = rw (no_items) (record { alone = refl; begins = (stimuli_of stimuli core.id, refl); drains = λ drained. absurd (false≢true drained) });
   };
   calls = rw (no_items, none_made) (record { log = no_calls; answers = refl; before = []; idle = []; calls = refl; logged = refl; looks = tt; enough = omega arith; spins = tt });

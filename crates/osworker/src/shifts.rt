@@ -100,10 +100,10 @@ impl<'a, M: Mail> Shift<'a, M> {
     }
 
     // Wakes whom the item that was taken last may concern.
-    fn tell(&self) {
+    fn notify(&self) {
         if let Some(item) = self.worker.core.items.last() {
             let run = self.worker.run;
-            run.wakers.tell(run.cores, self.worker.core.id, item);
+            run.wakers.notify(run.cores, self.worker.core.id, item);
         }
     }
 
@@ -127,7 +127,7 @@ impl<'a, M: Mail> Shift<'a, M> {
         match self.turn() {
             Turned::Took => {
                 self.fruitless = 0;
-                self.tell();
+                self.notify();
                 if self.worker.core.has_ended() {
                     return Some(Stop::Ended);
                 }
@@ -191,7 +191,6 @@ pub fn core_worker<'a, R: Wait, M: Mail, G: Gate>(
     ensures seats { AreAt (shared run.now.board.now run.now.bank.now) seats.board.core result.seats }
     ensures which { M.which result.mail ≡ M.which mail }
 {
-    let _plan = run.config.plan();
     let core = CoreRun::new(alloc, run.config, seats.board.core(), run.stimuli);
     let stamps = Stamps::new(alloc, run.clocks, core.items.capacity().saturating_mul(2));
     let mut shift = Shift {

@@ -62,7 +62,7 @@ impl Wakers {
     /// Wakes whom an item of this core may concern: the receiver of a letter, its sender, which may have waited for room, and
     /// of a spinlock that is given back or a change of the board all that wait. The core itself waits no longer. A letter is
     /// news for its receiver, and one that was received for its core, since more may have come with it.
-    pub fn tell(&self, cores: &[CoreId], core: CoreId, item: &Item) {
+    pub fn notify(&self, cores: &[CoreId], core: CoreId, item: &Item) {
         self.withdraw(core);
         match *item {
             Item::Posted(to) => {
@@ -91,7 +91,7 @@ impl Wakers {
     }
 
     /// Before this core looks for mail: whether an envelope may have come since it looked last. That is forgotten here, before
-    /// it looks, so that what comes meanwhile is news again. Of an envelope that no worker sent, only `tell` brings news.
+    /// it looks, so that what comes meanwhile is news again. Of an envelope that no worker sent, only `notify` brings news.
     #[inline(always)]
     pub(crate) fn take_news(&self, core: CoreId) -> bool {
         let Some(waker) = self.cores.get(usize::from(core.number)) else {

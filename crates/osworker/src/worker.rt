@@ -19,6 +19,7 @@ pub struct Worker<'a, M> {
     pub seats: Seats,
     pub mail: M,
     pub stamps: Stamps<'a>,
+    ghost same_plan: { core.plan.now ≡ run.now.config.now },
     ghost same: { seats.board.core ≡ core.id },
     ghost placed: { seats.board.place ≡ run.now.board.now },
     ghost low: { seats.board.core.number < CORES },

@@ -64,10 +64,7 @@ impl<'a, M: Mail> Worker<'a, M> {
         ensures turn { IsTurn M.sent M.taken M.which 0 result self.old self.new }
         ensures stuck { UnlessTook result (HasNoWork self.old) }
     {
-        let Some(request) = self
-            .core
-            .request_of_turn(self.run.config.plan(), Choice::Own)
-        else {
+        let Some(request) = self.core.request_of_turn(Choice::Own) else {
             return Turned::Nothing;
         };
         match request {

@@ -15,4 +15,4 @@ pub mod Ordered
 pub mod Served
 pub mod Short
 pub mod Default
-pub mod Told
+pub mod Reporting

@@ -56,7 +56,7 @@ reports-played plan limits stimuli known turns core_runs shared plays =
       };
     }
 
--- turns before which memory was wanting
+-- turns before which memory ran out
 pub reported-cut : (plan : Plan) → IsTrue (is_within_limits plan) → (stimuli : List CoreStimuli) → AreKnown plan stimuli → (turns : List (CoreId × Choice)) (core_runs : List CoreRun) (shared : Shared) → IsCutShort plan stimuli (first_world plan) turns core_runs shared
     → (before : ℕ) × (before < length turns) × AppendsAt plan stimuli (first_world plan) turns before × AreReports plan stimuli (take before turns) (map report_of core_runs)
 reported-cut plan limits stimuli known turns core_runs shared short =

@@ -47,10 +47,10 @@ started-all plan stimuli core_runs n shared seated lists low high is_mail is_boa
 
 -- one seat more for a core that is configured, without items, and none for another
 pub started-push : (plan : Plan) (stimuli : List CoreStimuli) (core_runs : List CoreRun) (n : ℕ) (core_run : CoreRun) → n < 16 → is_there plan (id_at n) ≡ true → All (IsCoreRun plan stimuli) core_runs × (lists_of core_runs ≡ lists_below plan n)
-    → core_run.id ≡ id_at n → core_run.kernel ≡ state_of (view_of plan (id_at n)) [] → core_run.stimuli.now ≡ stimuli_of stimuli (id_at n) → core_run.items.items ≡ [] → core_run.marks.items ≡ []
+    → core_run.id ≡ id_at n → core_run.plan.now ≡ plan → core_run.kernel ≡ state_of (view_of plan (id_at n)) [] → core_run.stimuli.now ≡ stimuli_of stimuli (id_at n) → core_run.items.items ≡ [] → core_run.marks.items ≡ []
     → All (IsCoreRun plan stimuli) (core_runs ++ core_run ∷ []) × (lists_of (core_runs ++ core_run ∷ []) ≡ lists_below plan (n + 1))
-started-push plan stimuli core_runs n core_run lt there before is_id is_kernel is_left no_items no_marks = (
-  All-push (IsCoreRun plan stimuli) core_runs core_run before.0 (seated-first plan stimuli core_run (id_at n) is_id is_kernel is_left no_items no_marks),
+started-push plan stimuli core_runs n core_run lt there before is_id is_plan is_kernel is_left no_items no_marks = (
+  All-push (IsCoreRun plan stimuli) core_runs core_run before.0 (seated-first plan stimuli core_run (id_at n) is_id is_plan is_kernel is_left no_items no_marks),
   map-append (λ (s : CoreRun). (s.id, s.items.items)) core_runs (core_run ∷ [])
       ∙ ap (λ (ls : Lists). ls ++ (core_run.id, core_run.items.items) ∷ []) before.1
       ∙ ap (λ (i : CoreId). lists_below plan n ++ (i, core_run.items.items) ∷ []) is_id

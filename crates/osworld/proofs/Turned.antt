@@ -62,7 +62,11 @@ module _ (plan : Plan) (stimuli : List CoreStimuli) (w : World) (core_runs : Lis
     seated = subst (λ (s : CoreRun). IsCoreRun plan stimuli s) (sym is) (plays.seated at core_run within)
 
     abbrev named_here : Option (Request × Item)
-    named_here = next_by plan shared core_run.id core_run.stimuli.now core_run.kernel choice
+    named_here = next_by core_run.plan.now shared core_run.id core_run.stimuli.now core_run.kernel choice
+
+    -- the plan of the core is that of the world
+    by_plan : (o : Option (Request × Item)) → named_here ≡ o → next_by plan shared core_run.id core_run.stimuli.now core_run.kernel choice ≡ o
+    by_plan o is = ap (λ (p : Plan). next_by p shared core_run.id core_run.stimuli.now core_run.kernel choice) (sym seated.planned) ∙ is
 
     -- the seat as it was, with more room
     pub kept : (new : CoreRun) → Keeps core_run new → Plays plan stimuli w (set core_runs at new) shared
@@ -76,7 +80,7 @@ module _ (plan : Plan) (stimuli : List CoreStimuli) (w : World) (core_runs : Lis
 
     -- the turn gets no reply
     pub turn-unanswered : named_here ≡ None → turn plan stimuli w (core, choice) ≡ w
-    turn-unanswered nothing = subst (λ (c : CoreId). turn plan stimuli w (c, choice) ≡ w) at_core (turn-nothing plan stimuli w core_runs shared plays choice at core_run here within (sym is) nothing)
+    turn-unanswered nothing = subst (λ (c : CoreId). turn plan stimuli w (c, choice) ≡ w) at_core (turn-nothing plan stimuli w core_runs shared plays choice at core_run here within (sym is) (by_plan None nothing))
 
     pub unanswered-played : named_here ≡ None → IsPlayed plan stimuli w ((core, choice) ∷ []) false core_runs shared
     unanswered-played nothing = idle core_runs plays (turn-unanswered nothing)
@@ -92,11 +96,11 @@ module _ (plan : Plan) (stimuli : List CoreStimuli) (w : World) (core_runs : Lis
       -- the core does not take what the turn names
       pub refused-played : may ≡ false → (new : CoreRun) → Keeps core_run new → IsPlayed plan stimuli w ((core, choice) ∷ []) false (set core_runs at new) shared
       refused-played refused new keeps =
-          idle (set core_runs at new) (kept new keeps) (subst (λ (c : CoreId). turn plan stimuli w (c, choice) ≡ w) at_core (turn-refused plan stimuli w core_runs shared plays choice at core_run here within (sym is) request item names (sym admitted ∙ refused)))
+          idle (set core_runs at new) (kept new keeps) (subst (λ (c : CoreId). turn plan stimuli w (c, choice) ≡ w) at_core (turn-refused plan stimuli w core_runs shared plays choice at core_run here within (sym is) request item (by_plan (Some (request, item)) names) (sym admitted ∙ refused)))
 
       changes : takes outbox_size (view_of plan core_run.id) (history_by plan core_run.id core_run.items.items) item ≡ true → true ≡ not (is_unchanged w (turn plan stimuli w (core, choice)))
       changes takes_it = subst (λ (c : CoreId). true ≡ not (is_unchanged w (turn plan stimuli w (c, choice)))) at_core
-          (one_more-differs (item_total w) ∙ ap (λ (n : ℕ). not (nat_eq (item_total w) n)) (sym (turn-appends plan stimuli w core_runs shared plays choice at core_run here within (sym is) request item names takes_it)))
+          (one_more-differs (item_total w) ∙ ap (λ (n : ℕ). not (nat_eq (item_total w) n)) (sym (turn-appends plan stimuli w core_runs shared plays choice at core_run here within (sym is) request item (by_plan (Some (request, item)) names) takes_it)))
 
       -- there is no room for it
       pub stopped-short : may ≡ true → (new : CoreRun) → Keeps core_run new → IsCutShort plan stimuli w ((core, choice) ∷ []) (set core_runs at new) shared
@@ -115,7 +119,7 @@ module _ (plan : Plan) (stimuli : List CoreStimuli) (w : World) (core_runs : Lis
           record {
             plays = rw (carried_on, told_on, fronts, keeps.id, keeps.kernel)
                 (subst (λ (c : CoreId). Plays plan stimuli (turn plan stimuli w (c, choice)) (set core_runs at new) (settled core_run.id request (front_of core_run.kernel.border.outbox) item shared)) at_core
-                (turn-taken plan stimuli w core_runs shared plays choice at core_run here within (sym is) request item names new (took-kept core_run roomy new item keeps took) placed takes_it));
+                (turn-taken plan stimuli w core_runs shared plays choice at core_run here within (sym is) request item (by_plan (Some (request, item)) names) new (took-kept core_run roomy new item keeps took) placed takes_it));
             tells = changes takes_it;
           }
 
@@ -129,9 +133,9 @@ placed-by shared id item watch (StartUnknown k) leads = is-item (IsPlaced shared
 placed-by shared id item watch (TakeStimulus s) leads = is-item (IsPlaced shared.mail id) (Item.Stim s) item tt leads
 
 -- so is that of the item in which a turn results
-pub next-placed : (plan : Plan) (shared : Shared) (core_run : CoreRun) (choice : Choice) (request : Request) (item : Item) → next_by plan shared core_run.id core_run.stimuli.now core_run.kernel choice ≡ Some (request, item) → IsPlaced shared.mail core_run.id item
-next-placed plan shared core_run choice request item names =
-    by (request_by (view_of plan core_run.id) (want_in core_run.kernel) (watch_in core_run.kernel) (slice_get core_run.stimuli.now 0) choice) names
+pub next-placed : (shared : Shared) (core_run : CoreRun) (choice : Choice) (request : Request) (item : Item) → next_by core_run.plan.now shared core_run.id core_run.stimuli.now core_run.kernel choice ≡ Some (request, item) → IsPlaced shared.mail core_run.id item
+next-placed shared core_run choice request item names =
+    by (request_by (view_of core_run.plan.now core_run.id) (want_in core_run.kernel) (watch_in core_run.kernel) (slice_get core_run.stimuli.now 0) choice) names
   where
     named : (asked : Request) → (o : Option Item) → item_by core_run.id (watch_in core_run.kernel) asked (reply_by shared core_run.id asked) ≡ o → option_map {U = Request × Item} (λ i. (asked, i)) o ≡ Some (request, item) → IsPlaced shared.mail core_run.id item
     named asked (Some i) is names = placed-by shared core_run.id item (watch_in core_run.kernel) asked (is ∙ grind (arith, names))

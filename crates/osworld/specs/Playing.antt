@@ -1,12 +1,11 @@
 -- What a listed run holds in memory, beside the world's definition. Who reads what a run promises needs none of it. [own]
-use Rattle.std.specs.Prelude.{◌≡◌, ℕ, ◌*◌, ◌<◌, ◌≤◌, Bool, not, IsTrue, Some, List, length, drop, take, map, position, slice_get}
+use Rattle.std.specs.Prelude.{◌≡◌, ℕ, ◌*◌, ◌<◌, ◌≤◌, Bool, not, IsTrue, Some, List, length, drop, take, map, position}
 use Rattle.std.specs.List.{All}
 use Rattle.osbase.specs.{declared.references.CoreId.CoreId, declared.messages.Letter.Letter, declared.items.Item.Item, declared.turns.Choice.Choice, declared.turns.CoreStimuli.CoreStimuli, declared.limits.TheConstants.CORES, History.posted, History.received_count, History.same_core}
 use Rattle.osmail.specs.Mail.{Mail, box_of}
 use Rattle.osplan.specs.declared.plans.Plan.{Plan}
-use Rattle.oskernel.specs.Wants.{watch_in}
-use Rattle.osrun.specs.{declared.requests.Request.Request, declared.core_runs.CoreRun.CoreRun, Requests.request_and_item, CoreRuns.IsCoreRun}
-use Rattle.osworld.specs.{declared.answering.Shared.Shared, declared.worlds.World.World as Run, Answering.next_by, Answering.reply_by}
+use Rattle.osrun.specs.{declared.core_runs.CoreRun.CoreRun, CoreRuns.IsCoreRun}
+use Rattle.osworld.specs.{declared.answering.Shared.Shared, declared.worlds.World.World as Run}
 use Rattle.osworld.specs.Runs.{AppendsAt, HasAtLeast, default_turns, is_default, round_of}
 use Rattle.osworld.specs.World.{World, board_in, first_world, history_in, holders_in, is_unchanged, world, world_from}
 
@@ -42,7 +41,7 @@ pub record IsPlayed (plan : Plan) (stimuli : List CoreStimuli) (w : World) (turn
   pub plays : Plays plan stimuli (world_from plan stimuli w turns) core_runs shared
   pub tells : changed ≡ not (is_unchanged w (world_from plan stimuli w turns))
 
--- Memory was wanting before a turn that appends an item, and those before it were played.
+-- Memory ran out before a turn that appends an item, and those before it were played.
 pub record IsCutShort (plan : Plan) (stimuli : List CoreStimuli) (w : World) (turns : List (CoreId × Choice)) (core_runs : List CoreRun) (shared : Shared) : Type 0 where
   pub before : ℕ
   pub within : before < length turns
@@ -62,7 +61,7 @@ pub record IsDefaultPlayed (plan : Plan) (stimuli : List CoreStimuli) (rounds : 
   pub least : IsTrue (is_default plan stimuli rounds)
   pub plays : Plays plan stimuli (world plan stimuli (default_turns plan rounds)) core_runs shared
 
--- Memory was wanting before a turn of the default schedule.
+-- Memory ran out before a turn of the default schedule.
 pub record IsDefaultCutShort (plan : Plan) (stimuli : List CoreStimuli) (core_runs : List CoreRun) (shared : Shared) : Type 0 where
   pub rounds : ℕ
   pub goes_on : HasAtLeast plan stimuli rounds

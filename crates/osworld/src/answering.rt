@@ -82,15 +82,10 @@ impl Shared {
     /// The request of a turn of this core, with the item in which it results; `None` if the turn requests nothing, or results
     /// in nothing. Nothing changes yet.
     #[inline(always)]
-    pub fn next_item(
-        &self,
-        plan: &Plan,
-        core_run: &CoreRun,
-        choice: Choice,
-    ) -> Option<(Request, Item)>
-        ensures { result ≡ next_by plan.now self.now core_run.now.id core_run.now.stimuli.now core_run.now.kernel choice }
+    pub fn next_item(&self, core_run: &CoreRun, choice: Choice) -> Option<(Request, Item)>
+        ensures { result ≡ next_by core_run.now.plan.now self.now core_run.now.id core_run.now.stimuli.now core_run.now.kernel choice }
     {
-        let request = core_run.request_of_turn(plan, choice)?;
+        let request = core_run.request_of_turn(choice)?;
         let item = self.item_for(core_run, request)?;
         Some((request, item))
     }

@@ -1,4 +1,4 @@
-//! One order of the items of a run by threads: turns by which a listed run comes to the same reports.
+//! One order of the items of a run by threads: turns by which a listed run has the same reports.
 
 ghost use Rattle.std.specs.Prelude.{◌≡◌, ◌↔◌, IsTrue, IfSome, List, map};
 ghost use Rattle.std.specs.List.{AllByRecursion};

@@ -1,6 +1,6 @@
 //! The world of a listed run: its cores and what stands between them, turn by turn.
 
-ghost use Rattle.std.specs.Prelude.{IsTrue, ◌≡◌, ◌+◌, ◌<◌, ◌≤◌, ◌∷◌, [], Some, IfSome, IfOk, OnErr, false, vec_len, vec_capacity, length, map, not, ◌||◌, position, slice_get};
+ghost use Rattle.std.specs.Prelude.{IsTrue, ◌≡◌, ◌<◌, ◌≤◌, ◌∷◌, [], Some, IfSome, IfOk, OnErr, false, vec_len, vec_capacity, length, map, not, ◌||◌, position, slice_get};
 ghost use Rattle.std.specs.List.{list_all};
 ghost use Rattle.std.proofs.Props.{props};
 ghost use Rattle.osbase.specs.{declared.limits.TheConstants.CORES, declared.references.CoreId.CoreId as CoreIdValue, History.same_core, Sets.has_core};
@@ -170,9 +170,8 @@ impl<'a> World<'a> {
         ensures ok { IfOk result (λ changed. (core : CoreIdValue) → SitsAt self.old.core_runs.items core at → PlaysTurns ((core, choice) ∷ []) self.old changed self.new) }
         ensures err { OnErr result ((core : CoreIdValue) → SitsAt self.old.core_runs.items core at → StopsShort ((core, choice) ∷ []) self.old self.new) }
     {
-        let plan = self.config.plan();
         let core_run = &mut self.core_runs[at];
-        let Some((request, item)) = self.shared.next_item(plan, core_run, choice) else {
+        let Some((request, item)) = self.shared.next_item(core_run, choice) else {
             return Ok(false);
         };
         if !core_run.kernel.may_take(&item) {
@@ -201,7 +200,7 @@ impl<'a> World<'a> {
         let at = self.place_of(core)?;
         let core_run = &self.core_runs[at];
         let choice = choice_of(core_run, item);
-        let (_, named) = self.shared.next_item(self.config.plan(), core_run, choice)?;
+        let (_, named) = self.shared.next_item(core_run, choice)?;
         if is_same_item(named, *item) && core_run.kernel.may_take(&named) {
             Some(choice)
         } else {

@@ -16,7 +16,7 @@ use std::sync::Wait;
 use std::test::Fail;
 use std::thread::Threads;
 
-// The job over these files comes to this fault.
+// The job over these files has this fault.
 fn compare_fault(
     rt: &(impl Threads + Wait + Sync),
     alloc: Global,
@@ -29,7 +29,7 @@ fn compare_fault(
     same(alloc, fault, result.as_str(), due.as_str())
 }
 
-// The job over three files, of which this one is another, comes to this fault.
+// The job over three files, of which this one is another, has this fault.
 fn compare_with(
     rt: &(impl Threads + Wait + Sync),
     alloc: Global,

@@ -1,7 +1,7 @@
 //! Hostile texts, and the line that is told of each fault.
 
 use osconf::ConfFault;
-use osjob::{Fault, tell};
+use osjob::{Fault, report_ending};
 use osplay::{Difference, play_table};
 use ostrace::{MemorySink, WriteFailed};
 use osworld::RunFault;
@@ -149,7 +149,7 @@ const FAULTS: [(Fault, &str); 22] = [
 fn each_fault_has_its_line(rt: HostRuntime) {
     for (fault, line) in FAULTS {
         let mut err = MemorySink::new(Vec::new(rt.alloc()));
-        assert_eq!(rt; tell(Err(fault), &mut err), 1);
+        assert_eq!(rt; report_ending(Err(fault), &mut err), 1);
         assert_eq!(rt; err.bytes.as_slice(), line.as_bytes());
     }
 }

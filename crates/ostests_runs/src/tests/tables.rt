@@ -145,7 +145,7 @@ tick
 tick
 ended
 
-// A table that waits is stopped, and the other one comes to its end alone; a table that is stopped takes the one
+// A table that waits is stopped, and the other one ends alone; a table that is stopped takes the one
 // that waits for it along.
 config {"cores":[{"id":0,"counters":[{"name":"C","max":9}],"tables":[{"name":"S","counter":"C","duration":1,"points":[{"offset":1,"actions":["ActivateTask B"]}]},{"name":"U","counter":"C","duration":1,"points":[{"offset":0,"actions":["ActivateTask B"]}]}],"tasks":[{"name":"B","prio":1,"script":"GetScheduleTableStatus S v0;GetScheduleTableStatus U v1;TerminateTask"},{"name":"A","prio":2,"extended":true,"auto":["M"],"script":"StartScheduleTableRel S 1;NextScheduleTable S U;StopScheduleTable U;GetScheduleTableStatus U v0;GetScheduleTableStatus S v1;WaitEvent 1;StartScheduleTableRel S 1;NextScheduleTable S U;StopScheduleTable S;GetScheduleTableStatus U v0;TerminateTask"},{"name":"N","prio":3,"script":"SetEvent A 1;TerminateTask"}],"alarms":[{"name":"L","counter":"C","action":"ActivateTask N","auto":{"modes":["M"],"start":4,"cycle":0}}]}]}
 stimuli {"0":"op op op op op op tick tick tick op op op tick op op op op op op op tick tick tick"}

@@ -96,7 +96,7 @@ fn a_report_is_shown_by_how_much_it_has(rt: HostRuntime) -> Result<(), Fail> {
     Ok(())
 }
 
-// Behind so many writes of three bytes one was refused, and the sink has a beginning of the text: all before that write, and
+// Behind so many writes of three bytes one was refused, and the sink has a prefix of the text: all before that write, and
 // nothing that stands behind it. The outcome says so, unless there was no such write.
 fn judge(
     rt: &impl Abort,
@@ -240,7 +240,7 @@ fn threads_write_the_same_text(rt: HostRuntime) -> Result<(), Fail> {
     Ok(())
 }
 
-// A write of what threads made is refused, and the sink has a beginning of the text.
+// A write of what threads made is refused, and the sink has a prefix of the text.
 fn refuse_by_threads(
     rt: &(impl Abort + Threads + Sync),
     alloc: Global,

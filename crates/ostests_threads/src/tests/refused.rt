@@ -137,7 +137,7 @@ fn seats_of(
     Seats { board: own, spins }
 }
 
-// What core 0's worker comes to with this end of the mail.
+// What core 0's worker hands back, with this end of the mail.
 fn work<R: Wait + Abort, M: Mail>(rt: &R, alloc: Global, mail: M) -> Worked<M>
     requires { (core : CoreIdValue) → (M.sent mail core ≡ []) × (M.taken mail core ≡ []) }
 {

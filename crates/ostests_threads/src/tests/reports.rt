@@ -124,7 +124,7 @@ fn replay_all(
     Ok(())
 }
 
-// The reports of a run by threads with this kind of mail, which comes to its end.
+// The reports of a run by threads with this kind of mail, all of whose cores end.
 fn reports_at_end(
     rt: &(impl Threads + Wait + Sync),
     alloc: Global,

@@ -2,7 +2,7 @@
 
 /// A spinlock that is given back for a job that ended.
 pub const OWED: &str = r#"
-// Task A of core 0 comes to the end of its script with the spinlock, and task B of core 1 gets it.
+// Task A of core 0 ends with the spinlock, and task B of core 1 gets it.
 config {"spinlocks":[{"name":"S"}],"cores":[{"id":0,"start":[1],"tasks":[{"name":"A","prio":1,"auto":["M"],"script":"GetSpinlock S;work"}]},{"id":1,"tasks":[{"name":"B","prio":1,"auto":["M"],"script":"GetSpinlock S;ReleaseSpinlock S;TerminateTask"}]}]}
 stimuli {"0":"op op op","1":"op op op"}
 run

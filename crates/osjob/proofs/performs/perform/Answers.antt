@@ -8,6 +8,6 @@ returns g c =
     record {
       result = c.print_from-result.result;
       printed = rw files at used.comes;
-      tells = c.tell.ensures.told;
-      status_is = c.tell.ensures.status;
+      reported = c.report_ending.ensures.reported;
+      status_is = c.report_ending.ensures.status;
     }

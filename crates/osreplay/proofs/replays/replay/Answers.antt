@@ -1,18 +1,14 @@
 use Rattle.std.proofs.Common.{◌+◌, ℕ, [], ap, refl}
 use Rattle.std.proofs.{lemmas.List.take_all, lemmas.Option.slice_get-get_or}
-use Rattle.osplan.proofs.Numbered.{configured-low}
 use Rattle.osrun.proofs.CoreRunning.{seated-first}
 use Rattle.osreplay.proofs.Replaying.{cut-short, refuses, reports, takes-on}
 use Rattle.osreplay.proofs.replays.replay.Goals as goal
-
-pub new-core_run-requires-clause-number : goal.new-core_run-requires-clause-number
-new-core_run-requires-clause-number c = configured-low c.args.config.now c.args.core c.plan-plan.ensures.limits c.requires
 
 pub loop-item-init : goal.loop-item-init
 loop-item-init c =
     let new = c.new-core_run.ensures in (
       record {
-        seated = seated-first c.args.config.now [] c.new-core_run.result c.args.core new.core new.kernel new.stimuli new.items new.marks;
+        seated = seated-first c.args.config.now [] c.new-core_run.result c.args.core new.core new.plan new.kernel new.stimuli new.items new.marks;
         id_is = new.core;
         items_are = new.items;
       },

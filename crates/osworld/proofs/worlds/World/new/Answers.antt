@@ -9,19 +9,13 @@ use Rattle.osworld.proofs.{Places.place_by, Started.started-all, Started.started
 use Rattle.osrun.proofs.Configured.{id_at}
 use Rattle.osworld.proofs.worlds.World.new.Goals as goal
 
-pub new-requires-clause-number : goal.new-requires-clause-number
-new-requires-clause-number c = c.loop-number-test.true
-
-pub new-requires-clause-limits : goal.new-requires-clause-limits
-new-requires-clause-limits c = c.plan-plan.ensures.limits
-
 pub loop-number-preserved : goal.loop-number-preserved
 loop-number-preserved c =
     let there : is_some (core_of c.args.config.now (id_at c.loop-number.number)) ≡ c.is_some.result = ap (λ (p : Plan). is_some (core_of p (id_at c.loop-number.number))) (sym c.plan-plan.ensures.value) ∙ ap is_some (sym c.core.ensures) ∙ is_some-copied c.core.result ∙ sym c.is_some.ensures in
     elim c.if-is_some.branch [
       | then-is_some+in_ok-push w ↦ rw (w.core_runs-is, w.in_ok-push.ensures.items)
           (started-push c.args.config.now c.args.stimuli.now c.loop-number.core_runs.items c.loop-number.number w.new.result c.loop-number-test.true (there ∙ w.if-is_some.true) c.loop-number.invariant
-          w.new.ensures.core w.new.ensures.kernel w.new.ensures.stimuli w.new.ensures.items w.new.ensures.marks)
+          w.new.ensures.core w.new.ensures.plan w.new.ensures.kernel w.new.ensures.stimuli w.new.ensures.items w.new.ensures.marks)
       | else-is_some w ↦ rw (w.core_runs-is)
           (started-skip c.args.config.now c.args.stimuli.now c.loop-number.core_runs.items c.loop-number.number c.loop-number-test.true (there ∙ w.if-is_some.false) c.loop-number.invariant)
     ]

@@ -12,7 +12,7 @@ returns-in_default-clause-ok c stimuli w plays =
 pub returns-then-is_idle_look-clause-ok : goal.returns-then-is_idle_look-clause-ok
 returns-then-is_idle_look-clause-ok c stimuli w plays =
     unanswered-played c.args.self.now.config.now stimuli w c.args.self.now.core_runs.items c.args.self.now.shared plays c.args.core c.args.choice c.in-Some.at c.index.result.now
-    (sym c.place_of.ensures.place ∙ c.in-Some.is) c.index.ensures (idle-look c.args.self.now.config.now c.args.self.now.shared c.index.result.now.id c.index.result.now.stimuli.now c.index.result.now.kernel c.args.choice (sym c.is_idle_look.ensures ∙ c.if-is_idle_look.true))
+    (sym c.place_of.ensures.place ∙ c.in-Some.is) c.index.ensures (idle-look c.index.result.now.plan.now c.args.self.now.shared c.index.result.now.id c.index.result.now.stimuli.now c.index.result.now.kernel c.args.choice (sym c.is_idle_look.ensures ∙ c.if-is_idle_look.true))
 
 pub returns-clause-ok : goal.returns-clause-ok
 returns-clause-ok c =
