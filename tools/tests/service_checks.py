@@ -35,7 +35,7 @@ FILES = (
 # `(NAME ..)`, behind what the caller's core checks; and what goes before all.
 TABLES = ("task_acts", "chain_acts", "counter_acts", "increment_acts", "table_acts", "spin_acts", "core_acts")
 CALLER, CALLS = "calls", "service_of"
-SUSPENDED, ACTS_SUSPENDED = "operates_unless", "acts_suspended"
+SUSPENDED, ACTS_SUSPENDED = "operates_unless", "acts_while_suspended"
 # The act that looks whether a core was started, and what is done if it was, and if not.
 IF_STARTED = "if_started"
 

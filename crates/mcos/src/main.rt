@@ -8,7 +8,7 @@ use std::env;
 use std::io::{BufWriter, ErrorKind};
 use std::process::ExitCode;
 
-/// How many bytes of output are gathered before they are written. The lines of reports come in pieces of more, which are
+/// How many bytes of output are gathered before they are written. The lines of reports come in larger pieces, which are
 /// written as they are.
 const BUFFER: usize = 8192;
 

@@ -1,4 +1,4 @@
--- The actions of a core's alarms and of its tables' points: how many letters join the outbox by them.
+-- How many letters the actions of a core's alarms and expiry points add to the outbox.
 use Rattle.std.proofs.Common.{◌≡◌, ◌<◌, ◌≤◌, ◌+◌, ◌*◌, ℕ, suc, nat_le, Bool, true, false, not, cond, List, length, count_by, refl, arith}
 use Rattle.std.specs.List.{list_all}
 use Rattle.std.proofs.{lemmas.Bool.and_parts, lemmas.Bool.leb-true, lemmas.List.Filters.length-filter_both, lemmas.List.Filters.sum_by-filter_both}
@@ -8,19 +8,19 @@ use Rattle.osplan.specs.{declared.plans.Core.Core, declared.plans.ExpiryPoint.Ex
 use Rattle.oscall.specs.Border.{is_known_call}
 use Rattle.osaction.specs.Points.{is_known_point, is_of_kind, of_kind}
 
--- How many letters join the outbox by one.
+-- How many letters one action adds to the outbox.
 abbrev pub posted_by_action : Core → RemoteCall → ℕ
 posted_by_action core action = cond (is_posting core action) 1 0
 
 pub known-call : (core : Core) (call : RemoteCall) → may_act core call ≡ true → is_known_call core call ≡ true
 known-call core call may = (and_parts (is_action call) (is_known_call core call) may).1
 
--- There is a place for one that acts on another core.
+-- There is a place for the letter of an action on another core.
 pub place-left : (here : Bool) (n most : ℕ) → n + cond (not here) 1 0 ≤ most → here ≡ false → n < most
 place-left true n most places other = cc
 place-left false n most places other = omega (arith, places)
 
--- Then it has joined the outbox, or none has.
+-- The action adds at most one letter, and none if it acts here.
 pub joined : (here : Bool) (n m : ℕ) → (here ≡ true → m ≡ n) → m ≤ suc n → m ≤ n + cond (not here) 1 0
 joined true n m same more = omega (arith, same refl)
 joined false n m same more = omega (arith, more)
@@ -32,7 +32,7 @@ kinds-long = length-filter_both (is_of_kind true) (is_of_kind false) (λ x. refl
 pub kinds-posted : (core : Core) (actions : List RemoteCall) → count_by (is_posting core) (of_kind true actions) + count_by (is_posting core) (of_kind false actions) ≡ count_by (is_posting core) actions
 kinds-posted core = sum_by-filter_both (is_of_kind true) (is_of_kind false) (λ x. refl) (posted_by_action core)
 
--- A point's own line, and two entries for each of its at most 8 actions.
+-- A point adds at most 17 entries: its own line, and two for each of at most 8 actions.
 pub within-point : (activating setting all : ℕ) → activating + setting ≡ all → all ≤ 8 → 1 + 2 * activating + 2 * setting ≤ 17
 within-point activating setting all long few = omega (arith, long, few)
 

@@ -6,15 +6,18 @@ use Rattle.osservice.specs.{Returning.reports, Service.effect_of, Service.status
 use Rattle.osacts.specs.Seen.{is_this_core}
 use Rattle.oscall.specs.Border.{core_of_call, service_of}
 
--- An action on a task of the core acts at once, and its error calls ErrorHook. [AUTOSAR SWS OS 4.x, SWS_Os_00632; the hook: own]
+-- Does an action on a task of this core at once. If the action is refused, only ErrorHook is called.
+-- [AUTOSAR SWS OS 4.x, SWS_Os_00632; the hook: own]
 abbrev pub acts_here : RemoteCall → Acts
 acts_here call = look (λ s. both (effect_of (service_of call s)) (reports (status_of (service_of call s))))
 
--- One on another core's task joins the outbox, and has no reply. [AUTOSAR SWS OS 4.x, SWS_Os_00632 and SWS_Os_00633; the outbox: own]
+-- Prints the line of an action on another core's task, and puts the action into the outbox. No reply will come.
+-- [AUTOSAR SWS OS 4.x, SWS_Os_00632 and SWS_Os_00633; the outbox: own]
 abbrev pub posts : RemoteCall → Acts
 posts call = one_then (Prints (Mark.CallQueued (core_of_call call) call)) (one_then (Sends (core_of_call call) (Message.Action call)) nothing)
 
--- On a core that was never started nothing acts: ErrorHook is called here. [own]
+-- Does an action on a task of this core at once, and puts an action on another core's task into the outbox. If that
+-- core was never started, ErrorHook is called here with E_OS_CORE instead. [own]
 abbrev pub acts : RemoteCall → Acts
 acts call =
     look (λ s. when (is_this_core s (core_of_call call)) (acts_here call) (if_started (core_of_call call) (posts call) (prints (Mark.ErrorHook EOsCore))))

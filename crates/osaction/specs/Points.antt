@@ -8,29 +8,34 @@ use Rattle.osplan.specs.{declared.plans.Core.Core, declared.plans.ExpiryPoint.Ex
 use Rattle.osacts.specs.Acts.{Acts, Prints, both, for_each, one_then}
 use Rattle.osaction.specs.Actions.{acts}
 
--- An activation of a task, or else a setting of events.
+-- With `true`, whether the action activates a task. With `false`, whether it sets events.
 abbrev pub is_of_kind : Bool → RemoteCall → Bool
 is_of_kind true action = is_activation action
 is_of_kind false action = not (is_activation action)
 
--- Those of a point's actions that activate a task, and those that set events, in their order.
+-- With `true`, the actions that activate a task, in their order. With `false`, those that set events.
 abbrev pub of_kind : Bool → List RemoteCall → List RemoteCall
 of_kind activating actions = filter (is_of_kind activating) actions
 
+-- The actions that activate a task, in their order.
 abbrev pub activations_of : List RemoteCall → List RemoteCall
 activations_of actions = of_kind true actions
 
-abbrev pub settings_of : List RemoteCall → List RemoteCall
-settings_of actions = of_kind false actions
+-- The actions that set events, in their order.
+abbrev pub event_settings_of : List RemoteCall → List RemoteCall
+event_settings_of actions = of_kind false actions
 
+-- Does the actions one after another.
 abbrev pub acts_each : List RemoteCall → Acts
 acts_each actions = for_each (λ (action : RemoteCall). acts action) actions
 
--- The point's line; then its tasks are activated, before its events are set. [AUTOSAR SWS OS 4.x, SWS_Os_00407 and SWS_Os_00412]
+-- Prints the point's line, does the point's activations, and then sets its events.
+-- [AUTOSAR SWS OS 4.x, SWS_Os_00407 and SWS_Os_00412]
 abbrev pub does_point : TableRef → ExpiryPoint → Acts
 does_point s point =
-    one_then (Prints (Mark.ExpiryPoint s point.offset)) (both (acts_each (activations_of point.actions)) (acts_each (settings_of point.actions)))
+    one_then (Prints (Mark.ExpiryPoint s point.offset)) (both (acts_each (activations_of point.actions)) (acts_each (event_settings_of point.actions)))
 
--- What the core may act on, and at most so many actions of a point. [AUTOSAR SWS OS 4.x, SWS_Os_00407; the most is own]
+-- The core may do each action of the point, and the point has at most 8 of them. [AUTOSAR SWS OS 4.x, SWS_Os_00407; the
+-- most is own]
 abbrev pub is_known_point : Core → ExpiryPoint → Bool
 is_known_point core point = list_all (may_act core) point.actions && nat_le (length point.actions) 8

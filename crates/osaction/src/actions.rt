@@ -12,8 +12,9 @@ use oscall::serve;
 use osservice::is_ok;
 use osstate::CoreState;
 
-/// A task of the core is acted on at once, another core's by a letter without a reply; on a core that was never started nothing
-/// acts, and ErrorHook is called with E_OS_CORE (AUTOSAR SWS OS 4.x, SWS_Os_00632 and SWS_Os_00633).
+/// Does an action on a task of this core at once, and puts an action on another core's task into the outbox. If that
+/// core was never started, ErrorHook is called here with E_OS_CORE instead (AUTOSAR SWS OS 4.x, SWS_Os_00632 and
+/// SWS_Os_00633).
 #[inline(always)]
 pub fn act<const P: usize, const J: usize, const OUT: usize>(
     state: &mut CoreState<'_, P, J, OUT>,
@@ -33,7 +34,7 @@ pub fn act<const P: usize, const J: usize, const OUT: usize>(
     }
 }
 
-// What is refused has no effect but the hook.
+// Does an action on a task of this core. If the action is refused, only ErrorHook is called.
 #[inline(always)]
 fn act_here<const P: usize, const J: usize, const OUT: usize>(
     state: &mut CoreState<'_, P, J, OUT>,
@@ -50,6 +51,7 @@ fn act_here<const P: usize, const J: usize, const OUT: usize>(
     }
 }
 
+// Prints the line of an action on another core's task, and puts the action into the outbox.
 fn post<const P: usize, const J: usize, const OUT: usize>(
     state: &mut CoreState<'_, P, J, OUT>,
     call: RemoteCall,

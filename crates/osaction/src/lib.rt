@@ -1,7 +1,8 @@
-//! What an alarm and an expiry point of a schedule table do: an action on a task of the core, or on another core's, and a point with all
-//! its actions.
+//! What alarms and expiry points of schedule tables do. An alarm does one action, on a task of this core or of another
+//! core. An expiry point does all its actions.
 //!
-//! No function here takes memory. Each asks for room for the entries and marks that it adds, and for places in the outbox.
+//! No function here takes memory. Each asks for room for the entries and marks that it adds, and for places in the
+//! outbox.
 #![tactic(auto)]
 
 mod actions;

@@ -13,8 +13,8 @@ use oscript::is_activation;
 use osplan::ExpiryPoint;
 use osstate::CoreState;
 
-/// The point's line, and then its actions: all activations come before all settings of events (AUTOSAR SWS OS 4.x, SWS_Os_00407 and
-/// SWS_Os_00412).
+/// Prints the point's line, and then does its actions: all activations before all settings of events (AUTOSAR SWS OS
+/// 4.x, SWS_Os_00407 and SWS_Os_00412).
 pub fn do_point<const P: usize, const J: usize, const OUT: usize>(
     state: &mut CoreState<'_, P, J, OUT>,
     table: TableRef,
@@ -32,7 +32,7 @@ pub fn do_point<const P: usize, const J: usize, const OUT: usize>(
     act_each(state, actions, false, marks);
 }
 
-// Those of the actions that activate a task, or those that set events.
+// Does the actions that activate a task or, if `activating` is false, those that set events.
 fn act_each<const P: usize, const J: usize, const OUT: usize>(
     state: &mut CoreState<'_, P, J, OUT>,
     actions: &[RemoteCall],
@@ -50,7 +50,7 @@ fn act_each<const P: usize, const J: usize, const OUT: usize>(
     }
 }
 
-// An activation, or, if those are not wanted, a setting of events.
+// Whether the action is an activation or, if `activating` is false, a setting of events.
 fn is_of_kind(action: &RemoteCall, activating: bool) -> bool
     ensures { result ≡ is_of_kind activating action.now }
 {

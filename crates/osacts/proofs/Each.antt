@@ -33,7 +33,7 @@ noted n s same = record {
   count = omega (arith, ap (λ (q : KernelState). q.progress.entries) same);
 }
 
--- What has no line leaves the vector.
+-- Acts without a line leave the vector as it is.
 pub unprinted : {most : ℕ} {x : Acts} {s s' : KernelState} {vec : Vec Mark Global} → QuietSteps most x s s' → Steps most 0 x s s' vec vec
 unprinted {vec = vec} e = record {
   state = e.state;
@@ -45,7 +45,7 @@ unprinted {vec = vec} e = record {
   capacity = refl;
 }
 
--- One thing, and then another.
+-- Some acts, and then others.
 pub then : {a b m n : ℕ} {x y : Acts} {s s' s'' : KernelState} {vec vec' vec'' : Vec Mark Global} → Steps a m x s s' vec vec' → Steps b n y s' s'' vec' vec'' → Steps (a + b) (m + n) (both x y) s s'' vec vec''
 then {x = x} {y = y} {s = s} {s' = s'} {vec = vec} e d = record {
   state = d.state ∙ ap (runs y) e.state;
@@ -61,7 +61,7 @@ then {x = x} {y = y} {s = s} {s' = s'} {vec = vec} e d = record {
   capacity = d.capacity ∙ e.capacity;
 }
 
--- The same in other words, within as much or more.
+-- The same acts in other words, within the same bounds or greater ones.
 pub as_steps : {a b m n : ℕ} {x y : Acts} {s s' : KernelState} {vec vec' : Vec Mark Global} → runs y s ≡ runs x s → says y s ≡ says x s → a ≤ b → m ≤ n → Steps a m x s s' vec vec' → Steps b n y s s' vec vec'
 as_steps {vec = vec} same told few short e = record {
   state = e.state ∙ sym same;
@@ -80,11 +80,11 @@ module _ {a m : ℕ} {s s' : KernelState} {vec vec' : Vec Mark Global} where
   pub in-words : {x y : Acts} → y ≡ x → Steps a m x s s' vec vec' → Steps a m y s s' vec vec'
   in-words same e = subst (λ (z : Acts). Steps a m z s s' vec vec') (sym same) e
 
-  -- By what is read now.
+  -- By acts that are chosen by what is read now.
   pub looked : {f : Seen → Acts} → Steps a m (f (seen_in s)) s s' vec vec' → Steps a m (look f) s s' vec vec'
   looked e = record { state = e.state; prints = e.prints; view = e.view; phase = e.phase; count = e.count; len = e.len; capacity = e.capacity }
 
-  -- By the side of a test.
+  -- By the acts on the side of a test that holds.
   pub where-holds : {b : Bool} {x y : Acts} → b ≡ true → Steps a m x s s' vec vec' → Steps a m (when b x y) s s' vec vec'
   where-holds {b} {x} {y} is e =
       subst (λ (c : Bool). Steps a m (when c x y) s s' vec vec') (sym is)
@@ -101,7 +101,7 @@ module _ {a m : ℕ} {s s' : KernelState} {vec vec' : Vec Mark Global} where
 
 -- ---- for each of a list
 
--- One more does what it does after those before it.
+-- One more element acts after those before it.
 pub runs-append : {A : Type 0} (f : A → Acts) (xs : List A) (x : A) (s : KernelState) → runs (for_each f (xs ++ x ∷ [])) s ≡ runs (f x) (runs (for_each f xs) s)
 runs-append f [] x s = refl
 runs-append f (y ∷ ys) x s = runs-append f ys x (runs (f y) s)

@@ -1,5 +1,5 @@
--- What acts do to the state of a history they do to the history: the law by which a function that speaks of its state alone speaks of
--- every history.
+-- What acts do to the state of a history they do to the history: the law by which a function that speaks of its state
+-- alone speaks of every history.
 use Rattle.std.proofs.Common.{◌≡◌, Bool, true, false, cond, List, ◌++◌, refl, ap, sym, subst, ◌∙◌, append_assoc}
 use Rattle.std.proofs.{lemmas.Bool.and_from, lemmas.Bool.and_parts, lemmas.Bool.ltb-true, lemmas.List.append-nil}
 use Rattle.osbase.specs.{declared.references.CoreId.CoreId, declared.marks.Mark.Mark, declared.limits.TheConstants.CORES}
@@ -34,7 +34,7 @@ act-line (Sends core message) h = sym (append-nil (marks_of h))
 
 -- ---- the law
 
--- Of two, the first where a test holds.
+-- Of two, the first if a test holds.
 chosen : (b : Bool) (x y : Acts) (v : View) (h : History) → cond b (are_permitted x (state_of v h)) (are_permitted y (state_of v h)) ≡ true
     → (are_permitted x (state_of v h) ≡ true → Agrees x v h) → (are_permitted y (state_of v h) ≡ true → Agrees y v h) → Agrees (when b x y) v h
 chosen true x y v h permitted first second = let w = first permitted in record { state = w.state; lines = w.lines; granted = w.granted }
@@ -93,6 +93,6 @@ module _ (x : Acts) {v : View} {h : History} {s : KernelState} (within : are_clo
   pub stands-after : Stands v (does x v h) (runs x s)
   stands-after = record { is = ap (runs x) stands.is ∙ agrees-here.state; granted = agrees-here.granted }
 
-  -- And its lines are those that the acts print at the state.
+  -- The acts add to the history's lines those that they print at the state.
   pub lines-after : marks_of (does x v h) ≡ marks_of h ++ says x s
   lines-after = agrees-here.lines ∙ ap (λ (q : KernelState). marks_of h ++ says x q) (sym stands.is)

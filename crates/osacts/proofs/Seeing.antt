@@ -21,7 +21,7 @@ use Rattle.osacts.specs.{Seen.seen_of, Runs.seen_in}
 
 -- ---- what is no object of the core's own
 
--- A place that is not there, in a list of the core's own.
+-- A place that a list of the core's own does not have.
 none-there : {A : Type 0} (b : Bool) (xs : List A) (n : ℕ) → b && nat_lt n (length xs) ≡ false → cond b (slice_get xs n) None ≡ None
 none-there true xs n e = slice_get_past xs n (ltb-false n (length xs) e)
 none-there false xs n e = refl

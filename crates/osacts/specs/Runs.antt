@@ -1,8 +1,8 @@
 -- What acts do to a state, and which lines they print.
 --
--- `does` says what acts do to a history. Here the same is said of the state that a history results in, with no history: each act changes
--- the state by the step of its entry. The law (specs/Laws.antt) says that both are the same for every history, so that a function need
--- only say what it does to the state.
+-- `does` says what acts do to a history. Here the same is said of the state that a history results in, with no history:
+-- each act changes the state by the step of its entry. The law (specs/Laws.antt) says that both are the same for every
+-- history, so that a function need only say what it does to the state.
 use Rattle.std.specs.Prelude.{◌&&◌, Bool, if◌then◌else◌, None, option_map, List, [], ◌∷◌, ◌++◌}
 use Rattle.osbase.specs.{declared.references.AlarmRef.AlarmRef, declared.references.CoreId.CoreId, declared.references.CounterRef.CounterRef, declared.references.TableRef.TableRef, declared.histories.Job.Job, declared.marks.Mark.Mark, Counting.counts_to, Interrupts.is_pending_among, Objects.alarm_object, Objects.counter_object, Objects.table_object, Sets.has_core}
 use Rattle.osbase.specs.History.{Entry, Printed, Noted, Queued, job_count}
@@ -18,13 +18,15 @@ use Rattle.osacts.specs.Seen.{AllCores, Seen}
 
 -- ---- what a core sees of its state
 
--- A counter of the core's own; any other reference has none. Whether an alarm is the core's own, and whether a table is.
+-- The counter as the state has it, if it is the core's own; else one whose greatest value is 0.
 abbrev pub counter_seen : CounterRef → KernelState → Counter
 counter_seen c s = if is_own_object s.view.own (counter_object c) then counter_in c s.clocks else no_counter
 
+-- The alarm is one of the core's own.
 abbrev pub is_alarm_in : AlarmRef → KernelState → Bool
 is_alarm_in a s = is_own_object s.view.own (alarm_object a)
 
+-- The schedule table is one of the core's own.
 abbrev pub is_table_in : TableRef → KernelState → Bool
 is_table_in t s = is_own_object s.view.own (table_object t)
 
@@ -53,15 +55,17 @@ seen_in s = record {
   spins = s.border.spins;
 }
 
+-- What a core may read of what all cores share, as its state has it.
 abbrev pub all_cores_in : KernelState → AllCores
 all_cores_in s = record { configured = s.view.around.cores; started = s.progress.started; links = s.view.around.links }
 
+-- Core `core` was started, as far as the core with this state learned at the second gate.
 abbrev pub knows_started_in : KernelState → CoreId → Bool
 knows_started_in s core = has_core s.progress.started core
 
 -- ---- what acts do
 
--- The entry of an act. A letter gets the number that is next on its way.
+-- The entry of an act. A letter gets the next number on the way to its core.
 abbrev pub entry_in : Act → KernelState → Entry
 entry_in (Prints m) s = Printed m
 entry_in (Notes n) s = Noted n
@@ -77,11 +81,12 @@ runs (if_started core x y) s = if knows_started_in s core then runs x s else run
 runs (look f) s = runs (f (seen_in s)) s
 runs (look_around f) s = runs (f (all_cores_in s)) s
 
--- The lines that they print, the first one first.
+-- The line that an act prints; none for a note or a letter.
 abbrev pub line_of : Act → List Mark
 line_of (Prints m) = m ∷ []
 line_of a = []
 
+-- The lines that these acts print, the first one first.
 abbrev pub says : Acts → KernelState → List Mark
 says nothing s = []
 says (one_then a x) s = line_of a ++ says x (state_after (entry_in a s) s)

@@ -11,32 +11,33 @@ use Rattle.osstate.specs.Readings.{is_pending, row_at, rows_of, running}
 use Rattle.osstate.specs.Sound.{activation_limit}
 
 -- What a core may read for what it does next: its own part of the configuration, and what its history says of its own
--- runners, counters, alarms and tables. No stamp is among it, nothing of other cores, and not which of them were started. [own]
+-- objects, its start, its open call and the spinlocks that it got. It has no stamp, no object of another core, and not
+-- which cores were started. [own]
 pub record Seen : Type 0 where
   -- the core's number and its own part of the configuration
   pub id : CoreId
   pub core : Core
-  -- how many jobs of a runner are live, and its row: what its oldest job holds, its events, where that job stands, how often it has
-  -- suspended interrupts, and how many ticks of its budget it has used
+  -- how many jobs of a runner are live, and its row: what its oldest job holds, its events, where that job is in its
+  -- script, how often it has suspended interrupts without resuming them, and how many ticks of its budgets it has used
   pub jobs : Runner → ℕ
   pub row : Runner → Row
   -- whether a job holds the resource of this index
   pub is_occupied : ℕ → Bool
   -- whether a job of the ISR is pending
   pub is_pending : IsrRef → Bool
-  -- a counter's value, and after how many counts it has this one; which alarms are due at its next count, and which tables do something
+  -- a counter's value; after how many counts it has a given value; which alarms and tables are due at its next count
   pub value : CounterRef → ℕ
   pub counts_to_value : CounterRef → ℕ → ℕ
   pub due : CounterRef → List AlarmRef
   pub due_tables : CounterRef → List DueTable
-  -- whether an alarm is in use, how many counts are left, and after how many its counter has this value
+  -- whether an alarm is in use; how many counts are left; after how many its counter has a given value
   pub is_in_use : AlarmRef → Bool
   pub counts_left : AlarmRef → Option ℕ
   pub counts_to : AlarmRef → ℕ → ℕ
   -- the status of a table, and which table waits for the end of its period
   pub status : TableRef → TableStatus
   pub next : TableRef → Option TableRef
-  -- the result of the first gate, whether the core runs, whose job is running, and the call that is open
+  -- the result of the first gate; whether the core runs, is down or was halted; whose job is running; the open call
   pub agreement : Option Agreement
   pub course : Course
   pub running : Option Runner
@@ -44,6 +45,7 @@ pub record Seen : Type 0 where
   -- the spinlocks that the core got, the newest first, and whose job has each
   pub spins : List GotSpinlock
 
+-- What a core may read for what it does next, as its history has it.
 abbrev pub seen_of : View → History → Seen
 seen_of v h = record {
   id = v.core;
@@ -68,21 +70,23 @@ seen_of v h = record {
   spins = got_spinlocks h;
 }
 
--- What a core may read of what all cores share: which cores are configured, which were started, and the successor of each spinlock.
--- No separate core reads it. [own]
+-- What a core may read of what all cores share: which cores are configured, which were started, and the successor of
+-- each spinlock. No separate core reads it. [own]
 pub record AllCores : Type 0 where
   pub configured : List CoreId
   pub started : CoreSet
   pub links : List (Option SpinlockId)
 
+-- What a core may read of what all cores share, as its history has it.
 abbrev pub all_cores : View → History → AllCores
 all_cores v h = record { configured = v.around.cores; started = started_cores h; links = v.around.links }
 
--- The object is one of this core's.
+-- `core` is this core's own number.
 abbrev pub is_this_core : Seen → CoreId → Bool
 is_this_core s core = same_core core s.id
 
--- As many jobs of the task are live as it may have. [OSEK/VDX OS 2.2.3, section 4.3, multiple requesting]
+-- As many jobs of the task are live as it may have. A task of another core may have none.
+-- [OSEK/VDX OS 2.2.3, section 4.3, multiple requesting]
 abbrev pub is_at_limit : Seen → TaskRef → Bool
 is_at_limit s t = nat_le (activation_limit s.core (Runner.Task t)) (s.jobs (Runner.Task t))
 

@@ -1,4 +1,4 @@
-//! Which item may be taken.
+//! Which items may be taken.
 
 ghost use Rattle.std.specs.Prelude.{◌≡◌, ◌||◌, false, not};
 ghost use Rattle.std.specs.{List.list_all, Option.option_map_or};
@@ -14,7 +14,7 @@ use osbase::{
 };
 use osstate::CoreState;
 
-/// Whether an item may be taken, but for how many were taken.
+/// Whether an item may be taken, apart from the limit on the number of items.
 pub fn is_admitted<const P: usize, const J: usize, const OUT: usize>(
     state: &CoreState<'_, P, J, OUT>,
     item: &Item,
@@ -23,17 +23,17 @@ pub fn is_admitted<const P: usize, const J: usize, const OUT: usize>(
 {
     let phase = state.phase();
     match item {
-        Item::On => phase.stands_in(Phase::Off),
+        Item::On => phase.is(Phase::Off),
         Item::Began { core, status } => {
             let is_next = is_next_start(state, *core);
-            phase.stands_in(Phase::Boot) & is_next & is_answer(state, *core, *status)
+            phase.is(Phase::Boot) & is_next & is_start_answer(state, *core, *status)
         }
-        Item::Entered => phase.stands_in(Phase::Boot) & state.next_start().is_none(),
-        Item::Pass1(agreement) => phase.stands_in(Phase::FirstGate) & is_agreed(state, *agreement),
-        Item::Readied => phase.stands_in(Phase::BetweenGates),
-        Item::Pass2(cores) => phase.stands_in(Phase::SecondGate) & are_started(state, cores),
+        Item::Entered => phase.is(Phase::Boot) & state.next_start().is_none(),
+        Item::Pass1(agreement) => phase.is(Phase::FirstGate) & is_agreed(state, *agreement),
+        Item::Readied => phase.is(Phase::BetweenGates),
+        Item::Pass2(cores) => phase.is(Phase::SecondGate) & are_started(state, cores),
         Item::Stim(stimulus) => {
-            phase.stands_in(Phase::Live) & state.knows(*stimulus) & may_go_on(state)
+            phase.is(Phase::Live) & state.knows(*stimulus) & may_go_on(state)
         }
         Item::Posted(core) => phase.is_scheduling() & is_front(state, *core),
         Item::Received {
@@ -41,18 +41,19 @@ pub fn is_admitted<const P: usize, const J: usize, const OUT: usize>(
             number,
             message,
         } => phase.is_scheduling() & is_next_letter(state, *from, *number, message),
-        Item::Granted(lock) => phase.stands_in(Phase::Live) & awaits_get(state, *lock),
+        Item::Granted(lock) => phase.is(Phase::Live) & awaits_get(state, *lock),
         Item::Tried { spinlock, taken: _ } => {
-            phase.stands_in(Phase::Live) & awaits_try(state, *spinlock)
+            phase.is(Phase::Live) & awaits_try(state, *spinlock)
         }
-        Item::Freed(lock) => phase.stands_in(Phase::Live) & is_next_release(state, *lock),
-        Item::Halt { core: _, status: _ } => phase.stands_in(Phase::Live) & may_halt(state),
-        Item::Drained => phase.stands_in(Phase::Live) & is_settled(state),
-        Item::PassEnd => phase.stands_in(Phase::Drained),
-        Item::Last(_) => phase.stands_in(Phase::Closing),
+        Item::Freed(lock) => phase.is(Phase::Live) & is_next_release(state, *lock),
+        Item::Halt { core: _, status: _ } => phase.is(Phase::Live) & may_halt(state),
+        Item::Drained => phase.is(Phase::Live) & is_settled(state),
+        Item::PassEnd => phase.is(Phase::Drained),
+        Item::Last(_) => phase.is(Phase::Closing),
     }
 }
 
+// The outbox has a letter, and the one at its front goes to `core`.
 fn is_front<const P: usize, const J: usize, const OUT: usize>(
     state: &CoreState<'_, P, J, OUT>,
     core: CoreId,
@@ -65,7 +66,7 @@ fn is_front<const P: usize, const J: usize, const OUT: usize>(
     }
 }
 
-// The core is the next of the start list.
+// The core is the next one in the start list.
 fn is_next_start<const P: usize, const J: usize, const OUT: usize>(
     state: &CoreState<'_, P, J, OUT>,
     core: CoreId,
@@ -78,7 +79,8 @@ fn is_next_start<const P: usize, const J: usize, const OUT: usize>(
     }
 }
 
-fn is_answer<const P: usize, const J: usize, const OUT: usize>(
+// StartCore may return this status for this core: E_OK or E_OS_STATE if the core is configured, else E_OS_ID.
+fn is_start_answer<const P: usize, const J: usize, const OUT: usize>(
     state: &CoreState<'_, P, J, OUT>,
     core: CoreId,
     status: Status,
@@ -86,24 +88,27 @@ fn is_answer<const P: usize, const J: usize, const OUT: usize>(
     ensures { result ≡ is_start_answer state.now.view core status }
 {
     if state.is_configured(core) {
-        return is_started_now(status);
+        return is_started_now_or_before(status);
     }
-    is_no_core(status)
+    is_unknown_core(status)
 }
 
-fn is_started_now(status: Status) -> bool
+// The status is E_OK, since StartCore starts the core now, or E_OS_STATE, since the core was started before.
+fn is_started_now_or_before(status: Status) -> bool
     ensures { result ≡ is_started_now_or_before status }
 {
     matches!(status, Status::EOk | Status::EOsState)
 }
 
-fn is_no_core(status: Status) -> bool
+// The status is E_OS_ID: there is no such core.
+fn is_unknown_core(status: Status) -> bool
     ensures { result ≡ is_unknown_core status }
 {
     matches!(status, Status::EOsId)
 }
 
-// Whether this may be the result of the first gate for a core of this mode.
+// The first gate may have this result for this core: a conflict, the core's own mode, or, if the core says DONOTCARE,
+// any configured mode or none.
 fn is_agreed<const P: usize, const J: usize, const OUT: usize>(
     state: &CoreState<'_, P, J, OUT>,
     agreement: Agreement,
@@ -120,6 +125,7 @@ fn is_agreed<const P: usize, const J: usize, const OUT: usize>(
     }
 }
 
+// The first gate may result in this mode: it is the core's own or, if the core says DONOTCARE, any configured mode.
 fn is_agreed_mode<const P: usize, const J: usize, const OUT: usize>(
     state: &CoreState<'_, P, J, OUT>,
     mode: ModeId,
@@ -132,7 +138,7 @@ fn is_agreed_mode<const P: usize, const J: usize, const OUT: usize>(
     }
 }
 
-// The set has configured cores only, and the own one.
+// These may be the started cores: this core is among them, and each of them is configured.
 fn are_started<const P: usize, const J: usize, const OUT: usize>(
     state: &CoreState<'_, P, J, OUT>,
     cores: &CoreSet,
@@ -158,6 +164,7 @@ fn are_configured<const P: usize, const J: usize, const OUT: usize>(
     true
 }
 
+// The core is not in the set, or it is configured.
 fn is_absent_or_configured<const P: usize, const J: usize, const OUT: usize>(
     state: &CoreState<'_, P, J, OUT>,
     cores: &CoreSet,
@@ -171,8 +178,8 @@ fn is_absent_or_configured<const P: usize, const J: usize, const OUT: usize>(
     true
 }
 
-// A letter may be taken: its sender was started and is another core, its number is the next from there,
-// and it is one that this core awaits or serves.
+// A letter may be taken if its sender is another core that was started, its number is the next one from that sender,
+// and its message is expected.
 fn is_next_letter<const P: usize, const J: usize, const OUT: usize>(
     state: &CoreState<'_, P, J, OUT>,
     from: CoreId,
@@ -202,6 +209,7 @@ fn awaits_get<const P: usize, const J: usize, const OUT: usize>(
     }
 }
 
+// The call is GetSpinlock of this spinlock.
 fn is_get_of(awaits: Awaited, lock: SpinlockId) -> bool
     ensures { result ≡ is_get_of lock awaits }
 {
@@ -224,6 +232,7 @@ fn awaits_try<const P: usize, const J: usize, const OUT: usize>(
     }
 }
 
+// The call is TryToGetSpinlock of this spinlock.
 fn is_try_of(awaits: Awaited, lock: SpinlockId) -> bool
     ensures { result ≡ is_try_of lock awaits }
 {
@@ -233,7 +242,8 @@ fn is_try_of(awaits: Awaited, lock: SpinlockId) -> bool
     }
 }
 
-// The spinlock is given back next: the open call releases it, or no call is open, and of the owed releases it is the newest.
+// The core gives this spinlock back next: the open call releases it, or no call is open and this spinlock is the newest
+// of those whose release is owed.
 fn is_next_release<const P: usize, const J: usize, const OUT: usize>(
     state: &CoreState<'_, P, J, OUT>,
     lock: SpinlockId,
@@ -246,6 +256,7 @@ fn is_next_release<const P: usize, const J: usize, const OUT: usize>(
     }
 }
 
+// The call is ReleaseSpinlock of this spinlock.
 fn is_release_of(awaits: Awaited, lock: SpinlockId) -> bool
     ensures { result ≡ is_release_of lock awaits }
 {
@@ -255,6 +266,7 @@ fn is_release_of(awaits: Awaited, lock: SpinlockId) -> bool
     }
 }
 
+// Of the spinlocks whose release is owed, this one is the newest.
 fn is_owed_next<const P: usize, const J: usize, const OUT: usize>(
     state: &CoreState<'_, P, J, OUT>,
     lock: SpinlockId,
@@ -288,6 +300,7 @@ fn has_asked_halt<const P: usize, const J: usize, const OUT: usize>(
     }
 }
 
+// The call is ShutdownAllCores.
 fn asks_halt(awaits: Awaited) -> bool
     ensures { result ≡ asks_halt awaits }
 {

@@ -1,4 +1,4 @@
-//! Which item a core may take.
+//! Which items a core may take.
 //!
 //! Each function only reads the core's state. None takes memory.
 #![tactic(auto)]

@@ -1,4 +1,4 @@
--- A count that goes over a counter's own objects is one that goes over all and leaves the others.
+-- A change of only a counter's objects is the same as a pass over all objects that leaves the others unchanged.
 use Rattle.std.proofs.Common.{◌≡◌, ℕ, zero, suc, ◌+◌, Bool, true, false, cond, filter, List, ◌∷◌, length, map, refl, ap, sym, ◌∙◌, arith, get_or}
 use Rattle.std.specs.List.{slice_set}
 use Rattle.std.proofs.lemmas.List.{set-get_or}
@@ -10,7 +10,7 @@ module _ {R X A : Type 0} (f : Family R X) (c : CounterRef) (index : R → ℕ) 
   abbrev step : ℕ → A → A
   step = changed_by f c change
 
-  -- one place on
+  -- one more place
   place-on : (n : ℕ) (ys : List A) (b : Bool) → goes_by f c (f.ref n) ≡ b → cond b (slice_set ys (index (f.ref n)) (change (f.ref n) (get_or ys (index (f.ref n)) none))) ys ≡ slice_set ys n (step n (get_or ys n none))
   place-on n ys true on =
       ap (λ k. slice_set ys k (change (f.ref n) (get_or ys k none))) (at n)

@@ -3,7 +3,7 @@ use Rattle.std.proofs.Common.{◌≡◌, ℕ, zero, suc, ◌+◌, ◌<◌, List,
 use Rattle.std.specs.List.{slice_set}
 use Rattle.osbase.specs.Sets.{numbers_from}
 
--- the first places changed, so many of them
+-- the list with its first `count` places changed
 abbrev pub filled : {A : Type 0} → (ℕ → A → A) → ℕ → ℕ → List A → List A
 filled F first count [] = []
 filled F first zero (x ∷ xs) = x ∷ xs
@@ -18,7 +18,7 @@ length-filled F first count [] = refl
 length-filled F first zero (x ∷ xs) = refl
 length-filled F first (suc count) (x ∷ xs) = ap suc (length-filled F (first + 1) count xs)
 
--- the next place is as it was
+-- the next place is unchanged
 pub filled-next : {A : Type 0} (F : ℕ → A → A) (first count : ℕ) (xs : List A) (d : A) → get_or (filled F first count xs) count d ≡ get_or xs count d
 filled-next F first count [] d = refl
 filled-next F first zero (x ∷ xs) d = refl
@@ -36,7 +36,7 @@ filled-on F place xs ys d is =
     ∙ filled-more F 0 place place xs d (omega arith)
     ∙ ap (λ n. filled F 0 n xs) (let one : suc place ≡ place + 1 = omega arith in one)
 
--- and with all of them it is a table
+-- with all places changed, the list is a table
 filled-all : {A : Type 0} (F : ℕ → A → A) (G : ℕ → A) (first : ℕ) (xs : List A) (d : A) → ((k : ℕ) → k < length xs → F (first + k) (get_or xs k d) ≡ G (first + k)) → filled F first (length xs) xs ≡ map G (numbers_from first (length xs))
 filled-all F G first [] d same = refl
 filled-all F G first (x ∷ xs) d same =

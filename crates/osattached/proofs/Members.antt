@@ -1,4 +1,4 @@
--- What holds of the objects that go by a counter.
+-- What holds of the objects that use a counter.
 use Rattle.std.proofs.Common.{◌≡◌, ℕ, zero, suc, ◌≤◌, ◌+◌, Bool, true, false, cond, All, Option, Some, None, filter, List, [], ◌∷◌, ◌++◌, length, replicate, map, sum_by, get_or, refl, ap, sym, ◌∙◌, arith, length-append}
 use Rattle.std.specs.{List.list_all, List.slice_set, Option.option_map_or}
 use Rattle.std.proofs.{lemmas.Bool.and_from, lemmas.Bool.false_from_ne_true, lemmas.Bool.false≢true, lemmas.List.Elements.All-weaker, lemmas.List.Elements.filter-append, lemmas.List.Elements.filter_passes, lemmas.List.append-nil, lemmas.List.Sums.sum_by-le-sum_by}
@@ -10,7 +10,7 @@ use Rattle.osattached.proofs.{Ranges.repeated, Ranges.table-more, Sums.at-most-o
 
 -- ---- one object
 
--- an object that goes by a counter is there, and refers to it
+-- an object that uses a counter exists, and refers to the counter
 pub record Stands {R X : Type 0} (f : Family R X) (c : CounterRef) (r : R) : Type 0 where
   pub value : X
   pub is : f.own r ≡ Some value
@@ -23,7 +23,7 @@ stands {R} {X} f c r on = at (f.own r) refl on
     at None is on = absurd (false≢true on)
     at (Some x) is on = record { value = x; is = is; by = same_counter-true c (f.counter x) on }
 
--- and to no other
+-- an object uses no two counters
 pub goes-once : {R X : Type 0} (f : Family R X) (core : CoreId) (m n : ℕ) (r : R) → goes_by f (counter_at core m) r ≡ true → goes_by f (counter_at core n) r ≡ true → m ≡ n
 goes-once {R} {X} f core m n r one other =
     ap (λ (c : CounterRef). c.index) ((stands f (counter_at core m) r one).by ∙ same ∙ sym (stands f (counter_at core n) r other).by)
@@ -33,11 +33,11 @@ goes-once {R} {X} f core m n r one other =
 
 -- ---- all of them
 
--- what holds of each element that passes holds of each that is kept
+-- what holds of each element that passes `q` holds of each element that the filter keeps
 pub kept-all : {A : Type 0} (q : A → Bool) (P : A → Type 0) (xs : List A) → ((x : A) → q x ≡ true → P x) → All P (filter q xs)
 kept-all q P xs each = All-weaker (λ x. q x ≡ true) P each (filter q xs) (filter_passes q xs)
 
--- two tests that agree where one passes keep the same of what it passes
+-- if `f` and `g` agree on all that passes `q`, they keep the same of it
 pub kept-same : {A : Type 0} (q f g : A → Bool) (xs : List A) → ((x : A) → q x ≡ true → f x ≡ g x) → filter f (filter q xs) ≡ filter g (filter q xs)
 kept-same q f g [] same = refl
 kept-same q f g (x ∷ xs) same = by (q x) refl (kept-same q f g xs same)
@@ -46,7 +46,7 @@ kept-same q f g (x ∷ xs) same = by (q x) refl (kept-same q f g xs same)
     by false e rest = rest
     by true e rest = ap (λ b. cond b (x ∷ filter f (filter q xs)) (filter f (filter q xs))) (same x e) ∙ ap (λ ys. cond (g x) (x ∷ ys) ys) rest
 
--- a test that each element passes that is kept
+-- if each element that passes `q` passes `t`, so does each element that is kept
 pub kept-passes : {A : Type 0} (q t : A → Bool) (xs : List A) → ((x : A) → q x ≡ true → t x ≡ true) → list_all t (filter q xs) ≡ true
 kept-passes q t [] each = refl
 kept-passes q t (x ∷ xs) each = by (q x) refl (kept-passes q t xs each)
@@ -55,7 +55,7 @@ kept-passes q t (x ∷ xs) each = by (q x) refl (kept-passes q t xs each)
     by false e rest = rest
     by true e rest = and_from (t x) (list_all t (filter q xs)) (each x e) rest
 
--- ---- the lists of them, object by object
+-- ---- the lists of objects, object by object
 
 module _ {R : Type 0} (core : CoreId) (counters : ℕ) (goes : CounterRef → R → Bool) (ref : ℕ → R) where
   abbrev firsts : ℕ → List (List R)
@@ -70,7 +70,7 @@ module _ {R : Type 0} (core : CoreId) (counters : ℕ) (goes : CounterRef → R 
       ∙ filter-append (goes c) (map ref (numbers_from 0 n)) (ref n ∷ [])
       ∙ ap (λ d. filter (goes c) (map ref (numbers_from 0 n)) ++ cond d (ref n ∷ []) []) is
 
-  -- the next object, which goes by a counter of the core
+  -- the next object, which uses a counter of the core
   pub firsts-more : (n : ℕ) (counter : CounterRef) (r : R) → IsMember core goes ref n counter r → CounterPlace core counters counter → slice_set (firsts n) counter.index (get_or (firsts n) counter.index [] ++ r ∷ []) ≡ firsts (n + 1)
   firsts-more n counter r next place =
       ap (λ (l : List R). slice_set (firsts n) counter.index (l ++ r ∷ [])) (table-at list 0 counters counter.index counter.index [] (omega arith) place.inside)
@@ -86,7 +86,7 @@ module _ {R : Type 0} (core : CoreId) (counters : ℕ) (goes : CounterRef → R 
           sym (append-nil (list m))
           ∙ sym (kept-more (counter_at core m) n false (next.by (counter_at core m) ∙ false_from_ne_true (same_counter (counter_at core m) counter) (λ e. other (ap (λ (c : CounterRef). c.index) (same_counter-true (counter_at core m) counter e)))))
 
--- no list has more than there are objects
+-- no list has more entries than there are objects
 pub few-more : {R : Type 0} (lists : List (List R)) (i n : ℕ) (r : R) → ((k : ℕ) → length (get_or lists k []) ≤ n) → (k : ℕ) → length (get_or (slice_set lists i (get_or lists i [] ++ r ∷ [])) k []) ≤ n + 1
 few-more {R} lists i n r few k = at lists i k (get_or lists i [] ++ r ∷ []) (omega (arith, length-append (get_or lists i []) (r ∷ []), few i)) few
   where
@@ -103,13 +103,13 @@ none-few R (suc count) zero = omega arith
 none-few R (suc count) (suc k) = none-few R count k
 
 module _ {R X : Type 0} (core : CoreId) (f : Family R X) where
-  -- those of an own counter
+  -- the objects of a counter of the core
   pub list-at : (counters : ℕ) (c : CounterRef) → CounterPlace core counters c → get_or (firsts_by core counters (goes_by f) f.ref f.count) c.index [] ≡ those_by f c
   list-at counters c place =
       table-at (λ (n : ℕ). those_by f (counter_at core n)) 0 counters c.index c.index [] (omega arith) place.inside
       ∙ ap (those_by f) (sym place.ref)
 
-  -- ---- each goes by at most one counter: what those of all counters add up to
+  -- ---- each object uses at most one counter, so the sum over all counters is at most the sum over all objects
 
   pub portions : (g : R → ℕ) (count : ℕ) → sum_by (λ (n : ℕ). sum_by g (those_by f (counter_at core n))) (numbers_from 0 count) ≤ sum_by g (refs_of f)
   portions g count =

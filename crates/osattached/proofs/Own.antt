@@ -1,4 +1,4 @@
--- The core's own objects of a family: each has its place in the core's configuration, by which the code keeps something for it.
+-- The core's own objects of a family. Each has a place in the core's configuration, at which the code keeps its state.
 use Rattle.std.proofs.Common.{◌≡◌, ℕ, ◌<◌, ◌&&◌, nat_lt, Bool, true, false, cond, All, Option, Some, None, is_some, option_map, List, get_or, length, map, refl, ap, sym, subst, ◌∙◌, arith}
 use Rattle.std.specs.{List.list_all, List.slice_get, List.slice_set, Option.option_map_or}
 use Rattle.std.proofs.lemmas.Option.{slice_get-get_or}
@@ -9,7 +9,7 @@ use Rattle.osbase.proofs.Tables.{table-at, table-set}
 use Rattle.osattached.specs.Attached.{IsMember, all_changed, changed_by}
 use Rattle.osattached.proofs.{Members.kept-all, Members.stands, Ranges.table-within}
 
--- A family that is all objects of one kind on a core with so many counters, by their places.
+-- A family of all objects of one kind on a core with this many counters, by their places.
 pub record Placed {R X : Type 0} (core : CoreId) (counters : ℕ) (f : Family R X) : Type 0 where
   pub place : R → Place
   pub plans : List X
@@ -25,45 +25,45 @@ module _ {R X : Type 0} {core : CoreId} {counters : ℕ} {f : Family R X} (p : P
   abbrev is_known : CounterRef → Bool
   is_known c = is_place_on core counters (counter_place c)
 
-  -- an own object has its place
+  -- an own object is the one at its place
   pub own-ref : (r : R) → is_own r ≡ true → r ≡ f.ref (p.place r).index
   own-ref r own = p.ref r (place-is core f.count (p.place r) own)
 
   pub own-inside : (r : R) → is_own r ≡ true → (p.place r).index < f.count
   own-inside r own = place-inside core f.count (p.place r) own
 
-  -- where it is configured
+  -- the configuration of an own object is the one at its place
   pub own-is : (r : R) → is_own r ≡ true → f.own r ≡ slice_get p.plans (p.place r).index
   own-is r own = p.own r ∙ there core f.count p.plans (p.place r) own
 
   pub own-some : (r : R) → is_own r ≡ true → is_some (f.own r) ≡ true
   own-some r own = ap (λ (o : Option X). is_some o) (p.own r) ∙ some-there core f.count p.plans (p.place r) p.all own
 
-  -- what stands at a place is the core's own
+  -- an object at a place is the core's own
   pub own-there : (n : ℕ) → n < f.count → is_own (f.ref n) ≡ true
   own-there n inside = ap (is_place_on core f.count) (p.at n) ∙ own-at core f.count n inside
 
-  -- and is not what is not its own
+  -- an object that is not the core's own is at none of these places
   pub not-own : (r : R) (n : ℕ) → is_own r ≡ false → n < f.count → same_place (p.place r) (p.place (f.ref n)) ≡ false
   not-own r n other inside = apart core f.count (p.place r) (p.place (f.ref n)) other (own-there n inside)
 
-  -- nor is it what stands at another place
+  -- an object is at no place other than its own
   pub not-there : (r : R) (n : ℕ) → (n ≡ (p.place r).index → ⊥) → same_place (p.place r) (p.place (f.ref n)) ≡ false
   not-there r n other = ap (same_place (p.place r)) (p.at n) ∙ elsewhere core (p.place r) n other
 
-  -- what goes by a counter is the core's own
+  -- an object that uses a counter is the core's own
   pub goes-own : (c : CounterRef) (r : R) → goes_by f c r ≡ true → is_own r ≡ true
   goes-own c r on =
       let s = stands f c r on in
       ap (λ (n : ℕ). same_core (p.place r).core core && nat_lt (p.place r).index n) p.all
       ∙ found-inside (same_core (p.place r).core core) p.plans (p.place r).index s.value (sym (p.own r) ∙ s.is)
 
-  -- so each has a place in what is kept for all
+  -- so each object that uses a counter has a place in a list of all
   pub those-inside : (c : CounterRef) (n : ℕ) → n ≡ f.count → All (λ (r : R). (p.place r).index < n) (those_by f c)
   those-inside c n long =
       kept-all (goes_by f c) (λ (r : R). (p.place r).index < n) (refs_of f) (λ r on. subst (λ (m : ℕ). (p.place r).index < m) (sym long) (own-inside r (goes-own c r on)))
 
-  -- the counter of an own object is one of the core's own, if that of each is
+  -- if each object's counter is one of the core's own, so is the counter of an own object
   pub refers : (r : R) (x : X) → list_all (λ (y : X). is_known (f.counter y)) p.plans ≡ true → f.own r ≡ Some x → is_known (f.counter x) ≡ true
   refers r x all is = own-passes (λ (y : X). is_known (f.counter y)) p.plans (same_core (p.place r).core core) (p.place r).index x all (sym (p.own r) ∙ is)
 
@@ -97,19 +97,19 @@ module _ {R X : Type 0} {core : CoreId} {counters : ℕ} {f : Family R X} (p : P
         ap (slice_set table (p.place r).index) (here ∙ ap G (own-ref r own))
         ∙ table-set (λ (n : ℕ). F (f.ref n)) (λ (n : ℕ). G (f.ref n)) 0 f.count (p.place r).index (p.place r).index (omega arith) (own-inside r own) (λ m other. others (f.ref m) (not-there r m other))
 
-    -- none changed, where only what is not the core's own does
+    -- if only an object that is not the core's own changes, the list stays the same
     pub none-changed : (G : R → A) (r : R) → is_own r ≡ false → ((q : R) → same_place (p.place r) (p.place q) ≡ false → F q ≡ G q) → table ≡ map (λ (n : ℕ). G (f.ref n)) (numbers_from 0 f.count)
     none-changed G r other others =
         table-within (λ (n : ℕ). F (f.ref n)) (λ (n : ℕ). G (f.ref n)) 0 f.count (λ n inside. others (f.ref n) (not-own r n other (omega (arith, inside))))
 
-    -- those of a counter changed
+    -- the objects of a counter changed
     pub those-changed : (G : R → A) (c : CounterRef) (change : R → A → A) (none : A) → ((r : R) → cond (goes_by f c r) (change r (F r)) (F r) ≡ G r)
         → all_changed f c change none table ≡ map (λ (n : ℕ). G (f.ref n)) (numbers_from 0 f.count)
     those-changed G c change none each =
         table-within (λ (n : ℕ). changed_by f c change n (get_or table n none)) (λ (n : ℕ). G (f.ref n)) 0 f.count
         (λ n inside. ap (changed_by f c change n) (table-at (λ (m : ℕ). F (f.ref m)) 0 f.count n n none (omega arith) (omega (arith, inside))) ∙ each (f.ref n))
 
--- An object that is configured so goes by its counter alone.
+-- An object whose configuration refers to this counter uses no other counter.
 pub member : {R X : Type 0} (core : CoreId) (counters : ℕ) (f : Family R X) (n : ℕ) (counter : CounterRef) (r : R) → IsObjectOf core counters f n counter r → IsMember core (goes_by f) f.ref n counter r
 member {R} {X} core counters f n counter r is = record { here = is.here; on = (place-of-counter core counters counter is.own).ref; by = λ c. alone c (f.own (f.ref n)) is.refers }
   where

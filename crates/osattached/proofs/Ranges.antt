@@ -19,7 +19,7 @@ table-within F G first (suc count) same =
     ap (λ x. x ∷ map F (numbers_from (first + 1) count)) (same first (omega arith))
     ∙ ap (λ xs. G first ∷ xs) (table-within F G (first + 1) count (λ n h. same n (omega (arith, h))))
 
--- a table one place on
+-- a table with one place more
 pub table-more : {A : Type 0} (F : ℕ → A) (count : ℕ) → map F (numbers_from 0 (count + 1)) ≡ map F (numbers_from 0 count) ++ F count ∷ []
 table-more {A} F count = ap (λ n. map F (numbers_from 0 n)) (add-one count) ∙ from 0 count count (omega arith)
   where
@@ -27,7 +27,7 @@ table-more {A} F count = ap (λ n. map F (numbers_from 0 n)) (add-one count) ∙
     from first zero last is = ap (λ n. F n ∷ []) (let here : first ≡ last = omega (arith, is) in here)
     from first (suc many) last is = ap (λ xs. F first ∷ xs) (from (first + 1) many last (omega (arith, is)))
 
--- a list by place
+-- a list is a table by its places
 pub listed : {X Y : Type 0} (f : X → Y) (G : ℕ → Y) (first : ℕ) (xs : List X) → ((k : ℕ) (x : X) → slice_get xs k ≡ Some x → f x ≡ G (first + k)) → map f xs ≡ map G (numbers_from first (length xs))
 listed f G first [] same = refl
 listed f G first (x ∷ xs) same =

@@ -1,4 +1,4 @@
--- Sums over lists: of what is kept, by rows and by columns, and of what is there at most once.
+-- Sums over lists: of what is kept, by rows and by columns, and of what occurs at most once.
 use Rattle.std.proofs.Common.{◌≡◌, ℕ, zero, suc, ◌+◌, ◌≤◌, Bool, true, false, cond, filter, List, [], ◌∷◌, map, sum_by, refl, ap, sym, subst, ◌∙◌, arith}
 use Rattle.std.proofs.{lemmas.Bool.false_from_ne_true, lemmas.List.Sums.sum_by-cons}
 use Rattle.osbase.specs.Sets.{numbers_from}
@@ -43,7 +43,7 @@ pub sum-mapped : {A : Type 0} (g : A → ℕ) (F : ℕ → A) (ns : List ℕ) �
 sum-mapped g F [] = refl
 sum-mapped g F (n ∷ ns) = omega (arith, sum_by-cons g (F n) (map F ns), sum_by-cons (λ (m : ℕ). g (F m)) n ns, sum-mapped g F ns)
 
--- of numbers of which at most one passes
+-- a sum over numbers, of which at most one passes the test
 past : (q : ℕ → Bool) (k first count : ℕ) → ((n : ℕ) → first ≤ n → q n ≡ false) → sum_by (λ (n : ℕ). cond (q n) k 0) (numbers_from first count) ≡ 0
 past q k first zero none = refl
 past q k first (suc count) none =

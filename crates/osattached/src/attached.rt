@@ -1,4 +1,4 @@
-//! Which objects of a core go by which of its counters.
+//! Which objects of a core use which of its counters.
 
 ghost use Rattle.std.specs.Prelude.{◌≡◌, ◌<◌, ◌≤◌, ◌++◌, ◌∷◌, ℕ, Bool, [], length, replicate, slice_index_or};
 ghost use Rattle.std.specs.List.{slice_set};
@@ -9,7 +9,7 @@ use arrayvec::ArrayVec;
 use osbase::{COUNTERS, CounterRef};
 use std::marker::Model;
 
-/// For each counter of a core those objects of one kind that go by it, in index order, so that a count goes over no others
+/// For each counter of a core, the objects of one kind that use it, in index order. So a count visits no other objects
 /// (AUTOSAR SWS OS 4.x, OsAlarmCounterRef and OsScheduleTableCounterRef).
 #[derive(Drop)]
 pub struct Attached<R, const N: usize> {
@@ -26,8 +26,8 @@ impl<R, const N: usize> Model for Attached<R, N> {
 }
 
 impl<R: Copy + Default, const N: usize> Attached<R, N> {
-    /// The first so many objects of one kind of a core with so many counters: the closure gives for each index the counter by
-    /// which the object goes, one of the core's, and how it is referred to.
+    /// Attaches the first `count` objects of one kind to the `counters` counters of a core. For each index, the closure
+    /// gives the object's counter, which is one of the core's, and the object's reference.
     pub fn new<F: Fn(usize) -> (CounterRef, R)>(counters: usize, count: usize, object: F) -> Self
         requires few { AreFew N counters count }
         requires called { (n : ℕ) → n < count → F.pre object n }
@@ -42,7 +42,7 @@ impl<R: Copy + Default, const N: usize> Attached<R, N> {
         attached
     }
 
-    // So many counters, and nothing goes by any of them.
+    // This many counters, and no object uses any of them.
     fn none(counters: usize) -> Self
         requires { counters ≤ COUNTERS }
         ensures { result ≡ replicate counters [] }
@@ -54,7 +54,7 @@ impl<R: Copy + Default, const N: usize> Attached<R, N> {
         Attached { lists }
     }
 
-    // One object more goes by this counter.
+    // Attaches one more object to this counter.
     fn attach(&mut self, counter: CounterRef, object: R)
         requires { HasRoom N self.old counter }
         ensures { self.new ≡ slice_set self.old counter.index (slice_index_or self.old counter.index [] ++ object ∷ []) }
@@ -64,7 +64,7 @@ impl<R: Copy + Default, const N: usize> Attached<R, N> {
         }
     }
 
-    /// Those that go by this counter; none by one that the core does not have.
+    /// The objects that use this counter; none if the core has no such counter.
     pub fn of(&self, counter: CounterRef) -> &[R]
         ensures value { result.now ≡ slice_index_or self.now counter.index [] }
         ensures few { length result.now ≤ N }

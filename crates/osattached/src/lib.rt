@@ -1,4 +1,4 @@
-//! The objects of a core that go by its counters.
+//! The objects of a core that use its counters.
 //!
 //! Nothing here takes memory.
 #![tactic(auto)]

@@ -1,4 +1,4 @@
-//! Whether a core may go on by itself.
+//! When a core may drain, take its next stimulus, dispatch, or look for a shutdown of all cores.
 
 ghost use Rattle.std.specs.Prelude.{◌≡◌};
 ghost use Rattle.osawait.specs.Free.{is_active, is_free, is_get, is_settled, may_dispatch, may_go_on, may_look_halt};
@@ -6,7 +6,7 @@ ghost use Rattle.osawait.specs.Free.{is_active, is_free, is_get, is_settled, may
 use osbase::Awaited;
 use osstate::CoreState;
 
-// No call is open, and the release of no spinlock is owed.
+// No call is open, and no spinlock release is owed.
 fn is_free<const P: usize, const J: usize, const OUT: usize>(
     state: &CoreState<'_, P, J, OUT>,
 ) -> bool
@@ -15,7 +15,7 @@ fn is_free<const P: usize, const J: usize, const OUT: usize>(
     state.awaited_call().is_none() & !state.is_owing()
 }
 
-/// No call is open, nothing is owed, and nothing waits in the outbox: so a core drains.
+/// A core drains only if no call is open, no spinlock release is owed, and its outbox is empty.
 pub fn is_settled<const P: usize, const J: usize, const OUT: usize>(
     state: &CoreState<'_, P, J, OUT>,
 ) -> bool
@@ -24,7 +24,7 @@ pub fn is_settled<const P: usize, const J: usize, const OUT: usize>(
     is_free(state) & state.is_outbox_empty()
 }
 
-// The core is active: it is neither down nor halted, no call is open, and nothing is owed.
+// The core is active: it is neither down nor halted, no call is open, and no spinlock release is owed.
 fn is_active<const P: usize, const J: usize, const OUT: usize>(
     state: &CoreState<'_, P, J, OUT>,
 ) -> bool
@@ -33,7 +33,7 @@ fn is_active<const P: usize, const J: usize, const OUT: usize>(
     is_free(state) & state.course().is_going()
 }
 
-/// An active core takes its next stimulus where nothing waits in the outbox.
+/// The core may take its next stimulus: it is active (`is_active`), and its outbox is empty.
 pub fn may_go_on<const P: usize, const J: usize, const OUT: usize>(
     state: &CoreState<'_, P, J, OUT>,
 ) -> bool
@@ -42,7 +42,8 @@ pub fn may_go_on<const P: usize, const J: usize, const OUT: usize>(
     is_active(state) & state.is_outbox_empty()
 }
 
-/// An active core that schedules dispatches (OSEK/VDX OS 2.2.3, section 4.6).
+/// The core may dispatch: it is active (`is_active`), and in a phase in which it schedules (OSEK/VDX OS 2.2.3, section
+/// 4.6).
 pub fn may_dispatch<const P: usize, const J: usize, const OUT: usize>(
     state: &CoreState<'_, P, J, OUT>,
 ) -> bool
@@ -51,15 +52,15 @@ pub fn may_dispatch<const P: usize, const J: usize, const OUT: usize>(
     state.phase().is_scheduling() & is_active(state)
 }
 
-// What waits for a spinlock.
+// The call is GetSpinlock, which waits until it has taken its spinlock.
 fn is_get(awaits: Awaited) -> bool
     ensures { result ≡ is_get awaits }
 {
     matches!(awaits, Awaited::Get(_))
 }
 
-/// A core that goes on may look for a shutdown of all cores, once nothing is owed, and unless a call is open that does not wait for a
-/// spinlock.
+/// The core may look for a shutdown of all cores: it is neither down nor halted, owes no spinlock release, and has no
+/// open call but GetSpinlock.
 pub fn may_look_halt<const P: usize, const J: usize, const OUT: usize>(
     state: &CoreState<'_, P, J, OUT>,
 ) -> bool

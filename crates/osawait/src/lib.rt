@@ -1,4 +1,4 @@
-//! Whether a core may go on by itself, and which messages it expects.
+//! When a core may drain, take its next stimulus or dispatch, and which messages it expects.
 //!
 //! Each function only reads the core's state. None takes memory.
 #![tactic(auto)]

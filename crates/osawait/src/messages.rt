@@ -8,8 +8,9 @@ use oscript::is_action;
 use osservice::is_ok;
 use osstate::CoreState;
 
-/// A message is expected: a request where the reply to it has a place, an action that an alarm may have, or the reply of the open
-/// call.
+/// The core expects the message of core `from`. A request has to be for an object of this core, with a place left in
+/// the outbox for the reply. An action has to activate a task of this core or set its events. A reply has to be the
+/// one that the open call awaits.
 pub fn is_awaited<const P: usize, const J: usize, const OUT: usize>(
     state: &CoreState<'_, P, J, OUT>,
     from: CoreId,
@@ -25,6 +26,7 @@ pub fn is_awaited<const P: usize, const J: usize, const OUT: usize>(
     }
 }
 
+// A call is open and awaits a reply of core `from` with this status, and with a value exactly if `has_value` says so.
 fn is_awaited_reply<const P: usize, const J: usize, const OUT: usize>(
     state: &CoreState<'_, P, J, OUT>,
     from: CoreId,
@@ -39,7 +41,8 @@ fn is_awaited_reply<const P: usize, const J: usize, const OUT: usize>(
     }
 }
 
-// A reply of the core that was asked, with a value exactly for GetAlarm and E_OK.
+// The call awaits a reply of core `from`, and the reply has the right form: it has a value (`has_value`) exactly if the
+// awaited service is GetAlarm and `status` is E_OK.
 fn is_reply(from: CoreId, status: Status, has_value: bool, call: OpenCall) -> bool
     ensures { result ≡ is_reply_to from status has_value call }
 {
@@ -53,6 +56,7 @@ fn is_reply(from: CoreId, status: Status, has_value: bool, call: OpenCall) -> bo
     }
 }
 
+// The service is GetAlarm: only its reply carries a value, and only with E_OK.
 fn gives_value(service: ServiceId) -> bool
     ensures { result ≡ answers_value service }
 {

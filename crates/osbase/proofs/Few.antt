@@ -1,8 +1,8 @@
--- Numbers below a bound, none of them twice, are no more than the bound.
+-- A list of numbers below a bound that has no number twice is no longer than the bound.
 use Rattle.std.proofs.Common.{◌≡◌, ℕ, zero, suc, ◌+◌, ◌<◌, ◌≤◌, nat_eq, Bool, true, false, cond, List, [], ◌∷◌, length, refl, ap, sym, ◌∙◌, arith}
 use Rattle.std.proofs.lemmas.Bool.{eq-eqb, false≢true}
 
--- How often a number is among these.
+-- How often a number is in this list.
 abbrev pub number_count : ℕ → List ℕ → ℕ
 number_count n [] = 0
 number_count n (x ∷ xs) = cond (nat_eq x n) (suc (number_count n xs)) (number_count n xs)

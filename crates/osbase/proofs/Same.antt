@@ -12,7 +12,7 @@ same_core-true a b e = ap (λ (n : ℕ). let c : CoreId = record { number = n } 
 pub same_core-refl : (a : CoreId) → same_core a a ≡ true
 same_core-refl a = eq-eqb a.number a.number refl
 
--- The test asks both in any order.
+-- The test is symmetric.
 pub same_core-comm : (a b : CoreId) → same_core a b ≡ same_core b a
 same_core-comm a b = cases (same_core a b) (same_core b a) refl refl
   where
@@ -30,7 +30,7 @@ same_place-true p q e =
 pub same_place-refl : (p : Place) → same_place p p ≡ true
 same_place-refl p = and_from (same_core p.core p.core) (nat_eq p.index p.index) (same_core-refl p.core) (eq-eqb p.index p.index refl)
 
--- So of references of each kind, by where they stand.
+-- The same holds for references of each kind, by their places.
 pub same_task-true : (a b : TaskRef) → same_task a b ≡ true → a ≡ b
 same_task-true a b e = ap task_of (same_place-true (task_place a) (task_place b) e)
 

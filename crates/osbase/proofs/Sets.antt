@@ -15,7 +15,7 @@ flag-read (b ∷ bs) (suc n) = flag-read bs n
 pub has_core-flag : (cores : CoreSet) (id : CoreId) → id.number < 16 → has_core cores id ≡ get_or cores.members id.number false
 has_core-flag cores id lt = ap (λ b. b && option_map_or (λ (f : Bool). f) (slice_get cores.members id.number) false) (lt-ltb id.number 16 lt) ∙ flag-read cores.members id.number
 
--- One flag alone.
+-- The empty set has no flag set, and a set with only the flag of `m` has no other flag set.
 pub no-flag : (n k : ℕ) → get_or (replicate n false) k false ≡ false
 no-flag zero k = refl
 no-flag (suc n) zero = refl

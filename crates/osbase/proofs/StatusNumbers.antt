@@ -5,7 +5,7 @@ use Rattle.std.proofs.{lemmas.Bool.and_parts, lemmas.Bool.eqb-true, lemmas.Optio
 use Rattle.osbase.specs.{declared.statuses.Status.Status, declared.statuses.TheConstants.STATUS_LIST, Words.status_number, Words.status_numbered}
 use Rattle.osbase.specs.declared.statuses.Status.TheVariants.{EOk, EOsAccess, EOsCallevel, EOsId, EOsLimit, EOsNofunc, EOsResource, EOsState, EOsValue, EOsMissingend, EOsDisabledint, EOsProtectionTime, EOsCore, EOsSpinlock, EOsInterferenceDeadlock, EOsNestingDeadlock, EOsProtectionLocked}
 
--- The status of a status' number is that status,
+-- The status of a status' number is that status.
 pub status_back : (status : Status) → status_numbered (status_number status) ≡ Some status
 status_back EOk = refl
 status_back EOsAccess = refl
@@ -25,7 +25,7 @@ status_back EOsInterferenceDeadlock = refl
 status_back EOsNestingDeadlock = refl
 status_back EOsProtectionLocked = refl
 
--- so statuses of one number are one status.
+-- Statuses with the same number are equal.
 pub status_same : (s t : Status) → status_number s ≡ status_number t → s ≡ t
 status_same s t e = same_Some s t (sym (status_back s) ∙ ap status_numbered e ∙ status_back t)
 
@@ -49,7 +49,7 @@ status_low EOsInterferenceDeadlock = omega arith
 status_low EOsNestingDeadlock = omega arith
 status_low EOsProtectionLocked = omega arith
 
--- Statuses in the order of their numbers, the first of which has this number.
+-- The statuses have consecutive numbers, and the first has this number.
 abbrev are_numbered : ℕ → List Status → Bool
 are_numbered n [] = true
 are_numbered n (s ∷ ss) = (status_number s == n) && are_numbered (suc n) ss
@@ -59,6 +59,6 @@ number-at n [] i are less = absurd (omega arith)
 number-at n (s ∷ ss) zero are less = eqb-true (status_number s) n (and_parts (status_number s == n) _ are).0 ∙ omega arith
 number-at n (s ∷ ss) (suc i) are less = number-at (suc n) ss i (and_parts (status_number s == n) _ are).1 (omega arith) ∙ omega arith
 
--- The number of a number's status is that number.
+-- The status of a number has that number.
 pub number_back : (n : ℕ) → n < 17 → status_number (unwrap_or (status_numbered n) EOk) ≡ n
 number_back n less = number-at 0 STATUS_LIST n refl less ∙ omega arith

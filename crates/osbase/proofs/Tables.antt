@@ -3,24 +3,24 @@ use Rattle.std.proofs.Common.{◌≡◌, ℕ, zero, suc, ◌+◌, ◌-◌, ◌�
 use Rattle.std.specs.List.{slice_set}
 use Rattle.osbase.specs.Sets.{numbers_from}
 
--- the numbers up to a bound, from one of them on
+-- the numbers from `n` up to a bound begin with `n`
 pub numbers-next : (n most : ℕ) → n < most → numbers_from n (most - n) ≡ n ∷ numbers_from (n + 1) (most - (n + 1))
 numbers-next n most below = ap (numbers_from n) (let one : most - n ≡ suc (most - (n + 1)) = omega (arith, below) in one)
 
--- a table's entry at a place
+-- a table's entry at a place is the value for the number of this place
 pub table-at : {A : Type 0} (F : ℕ → A) (first count place n : ℕ) (d : A) → n ≡ first + place → place < count → get_or (map F (numbers_from first count)) place d ≡ F n
 table-at F first zero place n d e within = absurd (omega (arith, within))
 table-at F first (suc count) zero n d e within = ap F (let here : first ≡ n = omega (arith, e) in here)
 table-at F first (suc count) (suc place) n d e within = table-at F (first + 1) count place n d (omega (arith, e)) (omega (arith, within))
 
--- two tables that agree at every number
+-- two tables that agree at every number are equal
 pub table-same : {A : Type 0} (F G : ℕ → A) (first count : ℕ) → ((n : ℕ) → first ≤ n → F n ≡ G n) → map F (numbers_from first count) ≡ map G (numbers_from first count)
 table-same F G first zero same = refl
 table-same F G first (suc count) same =
     ap (λ x. x ∷ map F (numbers_from (first + 1) count)) (same first (omega arith))
     ∙ ap (λ xs. G first ∷ xs) (table-same F G (first + 1) count (λ n h. same n (omega (arith, h))))
 
--- two tables that agree at every number but one, where the first is given the second one's entry
+-- if two tables agree at every number but one, they are equal once the first gets the second one's entry there
 pub table-set : {A : Type 0} (F G : ℕ → A) (first count place n : ℕ) → n ≡ first + place → place < count → ((m : ℕ) → (m ≡ n → ⊥) → F m ≡ G m) → slice_set (map F (numbers_from first count)) place (G n) ≡ map G (numbers_from first count)
 table-set F G first zero place n e within others = absurd (omega (arith, within))
 table-set F G first (suc count) zero n e within others =

@@ -20,14 +20,15 @@ same_kind kind other = false
 abbrev pub same_place : Place → Place → Bool
 same_place p q = same_core p.core q.core && (p.index == q.index)
 
--- The place of this index on a core, and the object of a kind that stands at a place.
+-- The place of this index on a core.
 abbrev pub place_on : CoreId → ℕ → Place
 place_on core index = record { core = core; index = index }
 
+-- The object of this kind at this place.
 abbrev pub object_at : ObjectKind → Place → Object
 object_at kind place = record { kind = kind; place = place }
 
--- Where a reference's object stands, and the reference of a place. [own]
+-- The place of a reference's object, and the reference to the object at a place. [own]
 abbrev pub mode_place : ModeId → Place
 mode_place m = place_on NOBODY m.index
 

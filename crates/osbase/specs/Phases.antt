@@ -3,7 +3,7 @@ use Rattle.std.specs.Prelude.{ℕ, ◌==◌, ◌&&◌, nat_lt, Bool, true, false
 use Rattle.osbase.specs.{declared.histories.Course.Course, declared.histories.Course.TheVariants.Going, declared.histories.Course.TheVariants.Down, declared.histories.Course.TheVariants.Halted, declared.histories.Phase.Phase}
 use Rattle.osbase.specs.declared.histories.Phase.TheVariants.{Off, Boot, FirstGate, BetweenGates, SecondGate, Live, Drained, Closing, Ended}
 
--- The place of a phase in their order. [own]
+-- The place of a phase in the order of the phases. [own]
 abbrev pub place_of : Phase → ℕ
 place_of Off = 0
 place_of Boot = 1
@@ -15,34 +15,36 @@ place_of Drained = 6
 place_of Closing = 7
 place_of Ended = 8
 
--- The core stands in this phase.
-abbrev pub stands_in : Phase → Phase → Bool
-stands_in asked p = place_of p == place_of asked
+-- Both phases are the same.
+abbrev pub same_phase : Phase → Phase → Bool
+same_phase asked p = place_of p == place_of asked
 
--- The core does not schedule yet.
+-- A core in this phase does not schedule yet.
 abbrev pub is_before_live : Phase → Bool
 is_before_live p = nat_lt (place_of p) (place_of Live)
 
--- The core is past the first gate, and not at its end.
+-- A core in this phase is past the first gate of StartOS, and not at its end.
 abbrev pub is_past_first_gate : Phase → Bool
 is_past_first_gate p = nat_lt (place_of FirstGate) (place_of p) && nat_lt (place_of p) (place_of Ended)
 
--- A core schedules, serves and posts from the second gate to its end. [own]
+-- A core in this phase schedules jobs, serves other cores and posts letters: it is past the second gate of StartOS, and
+-- not at its end. [own]
 abbrev pub is_scheduling : Phase → Bool
 is_scheduling p = nat_lt (place_of SecondGate) (place_of p) && nat_lt (place_of p) (place_of Ended)
 
--- The core schedules and serves, as far as its phase lets it; or it is down or halted, and does neither. [own]
+-- The core is neither down nor halted, so it schedules and serves as its phase allows. [own]
 abbrev pub is_going : Course → Bool
 is_going Going = true
 is_going Down = false
 is_going Halted = false
 
+-- The core is down, by its own shutdown.
 abbrev pub is_down : Course → Bool
 is_down Going = false
 is_down Down = true
 is_down Halted = false
 
--- A halt of all cores: a core that is down stays so. [own]
+-- The course after a halt of all cores: a core that is down stays down. [own]
 abbrev pub halted_from : Course → Course
 halted_from Going = Halted
 halted_from Down = Down

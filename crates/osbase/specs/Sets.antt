@@ -3,7 +3,7 @@ use Rattle.std.specs.Prelude.{ℕ, zero, suc, ◌+◌, ◌&&◌, nat_lt, Bool, f
 use Rattle.std.specs.Option.{option_map_or}
 use Rattle.osbase.specs.{declared.references.CoreId.CoreId, declared.items.CoreSet.CoreSet, declared.references.Runner.Runner, declared.limits.TheConstants.CORES, declared.limits.TheConstants.TASKS}
 
--- So many numbers from this one on.
+-- The `count` numbers from `first` on.
 abbrev pub numbers_from : ℕ → ℕ → List ℕ
 numbers_from first zero = []
 numbers_from first (suc count) = first ∷ numbers_from (first + 1) count
@@ -16,7 +16,8 @@ core_ids = map (λ (n : ℕ). record { number = n }) (numbers_from 0 CORES)
 abbrev pub has_core : CoreSet → CoreId → Bool
 has_core cores id = nat_lt id.number CORES && option_map_or (λ (b : Bool). b) (slice_get cores.members id.number) false
 
--- The place of a runner among its core's tasks and ISRs: the tasks come first. [own]
+-- The place of a runner among its core's tasks and ISRs: the index of a task, or `TASKS` plus the index of an ISR.
+-- [own]
 abbrev pub slot_of : Runner → ℕ
 slot_of (Runner.Task t) = t.index
 slot_of (Runner.Isr i) = TASKS + i.index

@@ -24,7 +24,7 @@ status_number EOsInterferenceDeadlock = 14
 status_number EOsNestingDeadlock = 15
 status_number EOsProtectionLocked = 16
 
--- The status of a number, if one has it.
+-- The status with this number, if there is one.
 abbrev pub status_numbered : ℕ → Option Status
 status_numbered number = slice_get STATUS_LIST number
 

@@ -1,13 +1,13 @@
-//! What the definitions over a history share with the kernel that keeps their readings.
+//! The types that the definitions over a core's history share with the kernel.
 
 ghost use Rattle.std.specs.Prelude.{◌≡◌};
-ghost use Rattle.osbase.specs.Phases.{halted_from, is_down, is_going, is_scheduling, stands_in};
+ghost use Rattle.osbase.specs.Phases.{halted_from, is_down, is_going, is_scheduling, same_phase};
 
 use crate::messages::Letter;
 use crate::references::{CoreId, Runner, SpinlockId};
 use crate::statuses::{ServiceId, Status};
 
-/// Where a core stands between being started and its end.
+/// The phase of a core, from before its start to its end.
 #[derive(Clone, Copy, PartialEq, Eq)]
 pub enum Phase {
     Off,
@@ -15,23 +15,24 @@ pub enum Phase {
     FirstGate,
     BetweenGates,
     SecondGate,
-    /// Scheduling, and taking stimuli.
+    /// The core schedules, and takes stimuli.
     Live,
-    /// Scheduling, and only serving other cores.
+    /// The core takes no more stimuli. It schedules, and serves other cores.
     Drained,
     Closing,
     Ended,
 }
 
 impl Phase {
-    /// Whether the core stands in this phase.
-    pub fn stands_in(self, asked: Phase) -> bool
-        ensures { result ≡ stands_in asked self }
+    /// Whether this phase and the phase `asked` are the same.
+    pub fn is(self, asked: Phase) -> bool
+        ensures { result ≡ same_phase asked self }
     {
         self as u8 == asked as u8
     }
 
-    /// Whether a core schedules, serves and posts: from the second gate to its end.
+    /// Whether a core in this phase schedules jobs, serves other cores and posts letters, as it does from the second
+    /// gate of StartOS to its end.
     pub fn is_scheduling(self) -> bool
         ensures { result ≡ is_scheduling self }
     {
@@ -40,7 +41,8 @@ impl Phase {
 }
 
 /// Whether a core runs, is down after its own shutdown, or was halted with all others. A core that is down or halted
-/// schedules nothing any more and serves no other core, whatever its phase is (AUTOSAR SWS OS 4.x, ShutdownOS and ShutdownAllCores).
+/// schedules nothing any more and serves no other core, whatever its phase is (AUTOSAR SWS OS 4.x, ShutdownOS and
+/// ShutdownAllCores).
 #[derive(Clone, Copy, PartialEq, Eq)]
 pub enum Course {
     Going,
@@ -63,7 +65,7 @@ impl Course {
         matches!(self, Course::Down)
     }
 
-    /// The course after a halt of all cores: a core that is down stays so.
+    /// The course after a halt of all cores: a core that is down stays down.
     pub fn halted(self) -> Course
         ensures { result ≡ halted_from self }
     {
@@ -74,23 +76,23 @@ impl Course {
     }
 }
 
-/// A job of a task or an ISR. Its stamp is the place in the history of its activation, or of its
-/// last release from waiting: of two jobs the one with the smaller stamp is the older.
+/// A job of a task or an ISR. Its stamp is the place in the history where the job began, or was
+/// last released from waiting. Of two jobs, the one with the smaller stamp is older.
 #[derive(Clone, Copy, Default, PartialEq, Eq)]
 pub struct Job {
     pub runner: Runner,
     pub stamp: u64,
 }
 
-/// A resource that a job holds: its index among its core's own and its ceiling priority. A job holds only resources of
-/// its own core (OSEK/VDX OS 2.2.3, section 8.5).
+/// A resource that a job holds: its index among the core's resources, and its ceiling priority. A job holds only
+/// resources of its own core (OSEK/VDX OS 2.2.3, section 8.5).
 #[derive(Clone, Copy, Default, PartialEq, Eq)]
 pub struct HeldResource {
     pub index: u8,
     pub ceiling: u8,
 }
 
-/// The events of a task, each a bit of a mask: those that are set, and those that it waits for, if it waits
+/// The events of a task, each a bit of a mask: those that are set, and those that the task waits for, if it waits
 /// (OSEK/VDX OS 2.2.3, section 7).
 #[derive(Clone, Copy, PartialEq, Eq)]
 pub struct TaskEvents {
@@ -103,13 +105,13 @@ pub struct TaskEvents {
 pub enum Awaited {
     /// The reply of another core to this service.
     Reply { service: ServiceId, core: CoreId },
-    /// GetSpinlock: that the spinlock is taken.
+    /// GetSpinlock waits until it has taken the spinlock.
     Get(SpinlockId),
-    /// TryToGetSpinlock: what one try answers.
+    /// TryToGetSpinlock waits for the answer to one try.
     Try(SpinlockId),
-    /// ReleaseSpinlock: that the spinlock is given back.
+    /// ReleaseSpinlock waits until the spinlock is given back.
     Release(SpinlockId),
-    /// ShutdownAllCores with this status: which core requested it first.
+    /// ShutdownAllCores with this status waits until it is known which core requested a shutdown first.
     Halt(Status),
 }
 
@@ -120,7 +122,7 @@ pub struct OpenCall {
     pub awaits: Awaited,
 }
 
-/// A spinlock that the core got, and the runner whose oldest job has it: none once its release is owed
+/// A spinlock that the core got, and the runner whose oldest job has it. If its release is owed, it has no holder
 /// (AUTOSAR SWS OS 4.x, GetSpinlock).
 #[derive(Clone, Copy, Default, PartialEq, Eq)]
 pub struct GotSpinlock {

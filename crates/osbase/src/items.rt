@@ -8,14 +8,14 @@ use crate::messages::Message;
 use crate::references::{CoreId, IsrRef, ModeId, SpinlockId};
 use crate::statuses::Status;
 
-/// What a core's environment gives it.
+/// An input from a core's environment.
 #[derive(Clone, Copy, Debug, PartialEq, Eq)]
 pub enum Stimulus {
     /// The running job does its next operation.
     Op,
     /// Every hardware counter of the core advances by one.
     Tick,
-    /// An interrupt of this ISR.
+    /// An interrupt for this ISR occurs.
     Irq(IsrRef),
 }
 
@@ -62,7 +62,7 @@ pub enum Agreement {
 pub enum Item {
     /// The core was started by another core.
     On,
-    /// `StartCore` before StartOS: the next core of the start list, and the answer.
+    /// The core calls StartCore for the next core of the start list before StartOS, and gets this status.
     Began {
         core: CoreId,
         status: Status,
@@ -77,17 +77,17 @@ pub enum Item {
     Pass2(CoreSet),
     /// A stimulus.
     Stim(Stimulus),
-    /// The front of the outbox went to this core's mailbox.
+    /// The first letter of the outbox goes to this core's mailbox.
     Posted(CoreId),
-    /// An envelope of another core: `in` in a log.
+    /// The core receives a letter from another core. A log writes `in`.
     Received {
         from: CoreId,
         number: u64,
         message: Message,
     },
-    /// An open GetSpinlock got its spinlock.
+    /// An open call of GetSpinlock gets its spinlock.
     Granted(SpinlockId),
-    /// An open TryToGetSpinlock was answered.
+    /// An open call of TryToGetSpinlock is answered.
     Tried {
         spinlock: SpinlockId,
         taken: bool,
@@ -103,6 +103,6 @@ pub enum Item {
     Drained,
     /// Every started core has drained.
     PassEnd,
-    /// The end, with the core that requested a shutdown of all cores, if one did.
+    /// The core's end. If a core requested a shutdown of all cores, it has that core and its status.
     Last(Option<(CoreId, Status)>),
 }

@@ -1,6 +1,6 @@
-//! The words that every layer speaks: references, statuses, items, marks, letters and turns.
+//! The types that every layer shares: references, statuses, items, marks, letters and turns.
 //!
-//! Nothing here takes memory or refuses anything, but the two lists, which grow as a `Vec` does.
+//! Only `List` and `Name` take memory.
 #![tactic(auto)]
 
 pub mod histories;

@@ -1,12 +1,12 @@
-//! How many there may be at most, and how great a number: each limit that several crates ask for, once.
+//! Limits: the most objects of each kind, and the greatest values. Each limit that several crates need is here once.
 
-/// A set of cores has a place for each number below this.
+/// The most cores. A set of cores has a flag for each number below this.
 pub const CORES: usize = 16;
 
-/// The same bound in the type of a core's number.
+/// `CORES` in the type of a core's number.
 pub const CORE_NUMBERS: u8 = CORES as u8;
 
-/// The most cores of a configuration of version 1. Version 2 has as many as a set has places for.
+/// The most cores of a configuration of version 1. A configuration of version 2 may have `CORES`.
 pub const FIRST_CORES: usize = 8;
 
 /// The most application modes of a configuration.
@@ -24,7 +24,7 @@ pub const TASKS: usize = 32;
 /// The most ISRs of a core.
 pub const ISRS: usize = 16;
 
-/// The most tasks and ISRs of a core: each has a place in what is kept of all.
+/// The most tasks and ISRs of a core together.
 pub const RUNNERS: usize = TASKS + ISRS;
 
 /// The most resources of a core.
@@ -42,7 +42,7 @@ pub const TABLES: usize = 8;
 /// The most jobs of all a core's tasks at once.
 pub const JOBS: u64 = 64;
 
-/// The most jobs of all a core's ISRs at once: of each one that was entered, and one that is pending.
+/// The most jobs of all a core's ISRs at once: for each ISR one that was entered, and one that is pending.
 pub const INTERRUPTS: usize = 2 * ISRS;
 
 /// The greatest level of an ISR; the least is 1.
@@ -60,13 +60,13 @@ pub const GREATEST_VALUE: u64 = 1_000_000_000;
 /// The longest period of a schedule table, in counts.
 pub const GREATEST_DURATION: u64 = 1_000_000_000;
 
-/// The most points of a schedule table.
+/// The most expiry points of a schedule table.
 pub const POINTS: usize = 16;
 
-/// The most actions of a point.
+/// The most actions of an expiry point.
 pub const ACTIONS: usize = 8;
 
-/// The most letters that a core's alarms and tables may add to its outbox at once.
+/// The most letters that a core's alarms and schedule tables may add to its outbox at once.
 pub const POSTED: usize = 56;
 
 /// The most letters that a core's calls add to its outbox at once: its own call, and a reply to each other core.

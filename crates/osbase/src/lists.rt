@@ -1,4 +1,4 @@
-//! Lists and names as clauses see them: by what they hold, and never by their capacity.
+//! Lists and names. Clauses see only what they contain, never their capacity.
 
 ghost use Rattle.std.specs.Prelude.{◌≡◌, ◌++◌, ◌∷◌, [], List as Items, length, IfOk, OnOk, OnErr};
 
@@ -46,7 +46,7 @@ impl<T> List<T> {
         List { items }
     }
 
-    /// Adds an element at the end; without memory the list stays as it was.
+    /// Adds an element at the end; if memory runs out, the list stays as it was.
     pub fn push(&mut self, item: T) -> Result<(), AllocError>
     where
         T: Drop,
@@ -95,7 +95,7 @@ impl Clone for Name {
 }
 
 impl Name {
-    /// A copy of the text.
+    /// A name with a copy of this text.
     pub fn new(alloc: Global, text: &str) -> Result<Self, AllocError>
         ensures { IfOk result (λ n. n ≡ text.now) }
     {

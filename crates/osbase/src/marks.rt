@@ -1,4 +1,4 @@
-//! Marks: what a core does, each exactly one line of its trace.
+//! Marks: what a core does. Each mark is exactly one line of the core's trace.
 
 use crate::messages::RemoteCall;
 use crate::references::{AlarmRef, CoreId, IsrRef, Runner, TableRef, TaskRef, Variable};
@@ -7,7 +7,7 @@ use crate::statuses::{ServiceId, Status};
 /// One line of a trace.
 #[derive(Clone, Copy, PartialEq, Eq)]
 pub enum Mark {
-    /// `start K S`: StartCore before StartOS.
+    /// `start K S`: a call of StartCore before StartOS returned.
     StartCoreReturned {
         core: CoreId,
         status: Status,
@@ -22,13 +22,13 @@ pub enum Mark {
     ProtectionHook(Status),
     /// `hook Shutdown S`: ShutdownHook is called.
     ShutdownHook(Status),
-    /// `act T`: a job of the task is activated.
+    /// `act T`: the task is activated.
     Activated(TaskRef),
     /// `end T`: the oldest job of the task has ended.
     Terminated(TaskRef),
-    /// `pre T`: PreTaskHook is called, the task enters the running state.
+    /// `pre T`: PreTaskHook is called, and the task enters the running state.
     PreTaskHook(TaskRef),
-    /// `post T`: PostTaskHook is called, the task leaves the running state.
+    /// `post T`: PostTaskHook is called, and the task leaves the running state.
     PostTaskHook(TaskRef),
     /// `ev T m`: events are set.
     EventSet {
@@ -51,15 +51,15 @@ pub enum Mark {
     InterruptAccepted(IsrRef),
     /// `lost I`: an interrupt is lost.
     InterruptLost(IsrRef),
-    /// `enter I`: the ISR is entered, its oldest job runs.
+    /// `enter I`: the ISR is entered, and its oldest job runs.
     IsrEntered(IsrRef),
     /// `leave I`: the ISR has ended.
     IsrLeft(IsrRef),
-    /// `tick`.
+    /// `tick`: every hardware counter of the core advances by one.
     Tick,
     /// `alarm A`: the alarm expires.
     AlarmExpired(AlarmRef),
-    /// `point S o`: the expiry point of this offset is processed.
+    /// `point S o`: the expiry point at this offset is processed.
     ExpiryPoint {
         table: TableRef,
         offset: u32,
@@ -92,7 +92,7 @@ pub enum Mark {
         service: ServiceId,
         status: Status,
     },
-    /// `stat J Op E_OK n`: a service returned that has a value.
+    /// `stat J Op E_OK n`: a service returned with a value.
     ValueReturned {
         runner: Runner,
         service: ServiceId,
@@ -104,7 +104,7 @@ pub enum Mark {
         variable: Variable,
         value: i64,
     },
-    /// `halt K S`: the shutdown of all cores is taken, which core K requested first.
+    /// `halt K S`: the core takes the shutdown of all cores that core K requested first.
     Halted {
         core: CoreId,
         status: Status,

@@ -1,4 +1,4 @@
-//! What crosses the border between cores.
+//! The messages between cores.
 
 ghost use Rattle.std.specs.Prelude.{◌≡◌};
 ghost use Rattle.osbase.specs.{declared.messages.Message.Message as MessageValue, declared.statuses.Status.TheVariants.EOk, Objects.object_of_call};
@@ -7,7 +7,7 @@ use crate::objects::{Object, Reference};
 use crate::references::{AlarmRef, TaskRef, Variable};
 use crate::statuses::Status;
 
-/// A service that a core asks of another core's object (AUTOSAR SWS OS 4.x, SWS_Os_00596 and SWS_Os_00602).
+/// A service that a core calls for another core's object (AUTOSAR SWS OS 4.x, SWS_Os_00596 and SWS_Os_00602).
 #[derive(Clone, Copy, Debug, PartialEq, Eq)]
 pub enum RemoteCall {
     ActivateTask(TaskRef),
@@ -26,7 +26,7 @@ pub enum RemoteCall {
         cycle: u32,
     },
     CancelAlarm(AlarmRef),
-    /// The variable is the caller's, and gets the value there; here it stands in the printed line.
+    /// The variable is one of the caller's, which gets the value. The called core only prints the variable.
     GetAlarm {
         alarm: AlarmRef,
         variable: Variable,
@@ -49,18 +49,18 @@ impl RemoteCall {
     }
 }
 
-/// A request is answered by one reply; an action, of an alarm or a schedule table, by none.
+/// A request is answered by one reply. An action of an alarm or a schedule table has no reply.
 #[derive(Clone, Copy, Debug, PartialEq, Eq)]
 pub enum Message {
     Request(RemoteCall),
     Action(RemoteCall),
     Reply(Status),
-    /// A reply with a value, as GetAlarm has with E_OK.
+    /// A reply with a value: the reply to a GetAlarm that returns E_OK.
     Value(Status, i64),
 }
 
 impl Default for Message {
-    /// A reply: a place of a list that is not in use holds it.
+    /// A reply with E_OK. It fills the unused places of a list.
     fn default() -> Self
         ensures { result ≡ MessageValue.Reply EOk }
     {
@@ -68,19 +68,19 @@ impl Default for Message {
     }
 }
 
-/// A message with its number: each ordered pair of cores counts its letters 0, 1, 2 and so on. What a core sends and takes
-/// is a matter of letters alone.
+/// A message with its number. The letters from one core to another have the numbers 0, 1, 2 and so on. The steps of a
+/// core deal with letters only, not with envelopes.
 #[derive(Clone, Copy, Debug, Default, PartialEq, Eq)]
 pub struct Letter {
     pub number: u64,
     pub message: Message,
 }
 
-/// What goes from one core to another: a letter, and what the way of it needs beside that.
+/// A letter on its way from one core to another, with the clock that its transport needs.
 #[derive(Clone, Copy, Debug, PartialEq, Eq)]
 pub struct Envelope {
     pub letter: Letter,
-    /// The clock of the sender's item while the envelope is on its way between two threads; 0 elsewhere.
+    /// The logical clock of the sender's item, if the envelope goes from one thread to another; otherwise 0.
     pub clock: u64,
 }
 

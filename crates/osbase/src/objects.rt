@@ -9,8 +9,8 @@ use crate::references::{
     AlarmRef, CoreId, CounterRef, IsrRef, ModeId, ResourceRef, SpinlockId, TableRef, TaskRef,
 };
 
-/// The kinds of objects: those that a core has, and those that all cores have in common, the application modes and the
-/// spinlocks. Operations and calls refer to objects of every kind but ISRs.
+/// The kinds of objects. All cores have the application modes and the spinlocks in common; each core has its own
+/// objects of the other kinds. Operations and calls refer to objects of every kind but ISRs.
 #[derive(Clone, Copy, PartialEq, Eq)]
 pub enum ObjectKind {
     Mode,
@@ -24,7 +24,7 @@ pub enum ObjectKind {
 }
 
 impl ObjectKind {
-    /// Whether both are one kind.
+    /// Whether both are the same kind.
     pub fn is(self, other: ObjectKind) -> bool
         ensures { result ≡ same_kind self other }
     {
@@ -32,10 +32,10 @@ impl ObjectKind {
     }
 }
 
-/// The number under which objects stand that all cores have in common. No configured core has it.
+/// The core number of the objects that all cores have in common. No configured core has it.
 pub const NOBODY: CoreId = CoreId { number: 255 };
 
-/// Where an object stands: its core, or `NOBODY`, and its place among the objects of its kind there.
+/// Where an object is: its core, or `NOBODY`, and its place among the objects of its kind there.
 #[derive(Clone, Copy, PartialEq, Eq)]
 pub struct Place {
     pub core: CoreId,
@@ -51,7 +51,7 @@ pub struct Object {
 
 /// A reference to an object of one kind (OSEK/VDX OS 2.2.3, section 13, the types of objects).
 pub trait Reference: Copy {
-    /// The kind of its object.
+    /// The kind of the objects that the reference type names.
     const KIND: ObjectKind;
 
     ghost KIND: { KindValue };
@@ -60,15 +60,15 @@ pub trait Reference: Copy {
 
     ghost ref_of: { PlaceValue → Self };
 
-    /// The reference to the object that stands at this place.
+    /// The reference to the object at this place.
     fn at(place: Place) -> Self
         ensures { result ≡ ref_of place };
 
-    /// Where its object stands.
+    /// The place of the object that the reference names.
     fn place(self) -> Place
         ensures { result ≡ place_of self };
 
-    /// Its object, with its kind.
+    /// The object that the reference names, with its kind.
     fn object(self) -> Object
         ensures { result ≡ object_at KIND (place_of self) }
     {

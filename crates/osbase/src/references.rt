@@ -1,4 +1,4 @@
-//! Names of cores and objects as numbers: an object is known by its core and its place among that
+//! References to cores and objects, as numbers. A reference has the object's core and its index among that
 //! core's objects of its kind, in the order of the configuration.
 
 ghost use Rattle.std.specs.Prelude.{◌≡◌};
@@ -80,7 +80,7 @@ pub enum Runner {
 }
 
 impl Runner {
-    /// Its place among a core's tasks and ISRs: the tasks come first.
+    /// The runner's place among its core's tasks and ISRs: the index of a task, or `TASKS` plus the index of an ISR.
     pub fn slot(self) -> usize
         ensures { result ≡ slot_of self }
     {
@@ -90,7 +90,7 @@ impl Runner {
         }
     }
 
-    /// Whether both are one task, or one ISR.
+    /// Whether both are the same task or the same ISR.
     pub fn is(self, other: Runner) -> bool
         ensures { result ≡ same_runner self other }
     {
@@ -103,7 +103,7 @@ impl Runner {
 }
 
 impl Default for Runner {
-    /// A task: a place of a list that is not in use holds it.
+    /// The first task of core 0. It fills the unused places of a list.
     fn default() -> Self
         ensures { result ≡ RunnerValue.Task (record { core = record { number = 0 }; index = 0 }) }
     {

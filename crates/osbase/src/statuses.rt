@@ -3,7 +3,7 @@
 ghost use Rattle.std.specs.Prelude.{◌≡◌};
 ghost use Rattle.osbase.specs.Words.{service_name, status_name, status_number, status_numbered};
 
-/// What a service answers (OSEK/VDX OS 2.2.3, StatusType; AUTOSAR SWS OS 4.x, StatusType).
+/// The status that a service returns (OSEK/VDX OS 2.2.3, StatusType; AUTOSAR SWS OS 4.x, StatusType).
 /// The numbers 0 to 8 are OSEK's; the others are this project's own.
 #[derive(Clone, Copy, Debug, PartialEq, Eq)]
 pub enum Status {
@@ -55,7 +55,7 @@ impl Status {
         self as u8
     }
 
-    /// The status of this number, if one has it.
+    /// The status with this number, if there is one.
     pub fn numbered(number: u64) -> Option<Status>
         ensures { result ≡ status_numbered number }
     {

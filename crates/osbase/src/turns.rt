@@ -1,4 +1,4 @@
-//! What a listed run is given and gives: stimuli, turns and reports.
+//! The input and the output of a run: stimuli, turns and reports.
 
 ghost use Rattle.std.specs.Prelude.{◌≡◌, find, option_copied};
 ghost use Rattle.osbase.specs.{History.same_core, Runs.stimuli_of};
@@ -19,7 +19,7 @@ pub struct CoreStimuli {
 /// The stimuli of a run. A core that is not listed has none.
 pub type Stimuli = List<CoreStimuli>;
 
-/// The stimuli of this core: those of the first entry for it.
+/// The stimuli of this core, from its first entry; none if the core has no entry.
 pub fn stimuli_for(stimuli: &[CoreStimuli], core: CoreId) -> &[Stimulus]
     ensures { result.now ≡ stimuli_of stimuli.now core }
 {
@@ -29,6 +29,7 @@ pub fn stimuli_for(stimuli: &[CoreStimuli], core: CoreId) -> &[Stimulus]
     }
 }
 
+// The first entry of this core, if there is one.
 fn entry_of(stimuli: &[CoreStimuli], core: CoreId) -> Option<&CoreStimuli>
     ensures { option_copied result ≡ find (λ entry. same_core entry.core core) stimuli.now }
 {
@@ -42,7 +43,7 @@ fn entry_of(stimuli: &[CoreStimuli], core: CoreId) -> Option<&CoreStimuli>
 pub enum Choice {
     /// Goes on with its own work.
     Own,
-    /// Takes the oldest envelope of this core.
+    /// Takes the oldest envelope from this core.
     Serve(CoreId),
     /// Looks at the board.
     Look,
@@ -60,15 +61,15 @@ pub type Schedule = List<Turn>;
 pub struct Report {
     pub core: CoreId,
     pub items: List<Item>,
-    /// The logical clock of each item of a threaded run, from which one order of all cores' items is sought. A listed run
-    /// has an order, and no clocks.
+    /// The logical clock of each item, if each core runs on a thread of its own. One order of all cores' items is
+    /// derived from the clocks. A listed run has an order already, and no clocks.
     pub clocks: List<u64>,
     pub marks: List<Mark>,
     pub ended: bool,
 }
 
 impl fmt::Debug for Report {
-    // How much the core took and printed. The trace shows the lines themselves.
+    // Prints how many items and lines there are. The trace shows the lines themselves.
     fn fmt<W: fmt::Write>(&self, f: &mut fmt::Formatter<W>) -> fmt::Result {
         f.debug_struct("Report")
             .field("core", &self.core.number)

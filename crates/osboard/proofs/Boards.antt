@@ -108,7 +108,7 @@ ready_steps core low = steps 0 core MakeReady _ (λ n. ready_comes n core.number
 pub drain_steps : (core : CoreId) → core.number < 16 → IsStep one_board Stands answer core Drain 2 (λ n. bit_or n (2 ^ (0 + core.number)))
 drain_steps core low = steps 2 core Drain _ (λ n. refl) (λ n told. (refl, told)) (λ n i. record { members = here 16 0 n (0 + core.number) core.number refl low i }) (λ words. refl)
 
--- the mode of a core that enters, if it names one
+-- the mode of a core that enters, if it names a mode
 names_mode : (n : ℕ) (mode : CoreMode) → IsMode mode → view_in (bit_or n (mode_bits mode)) ≡ record (view_in n) { modes = with_mode mode (view_in n).modes }
 names_mode n (Named m) fits = mode_comes n m.index fits
 names_mode n DontCare fits = ap view_in (or_zero_r n)
@@ -152,7 +152,7 @@ pub asks_on : (old new : BoardState) (core : CoreId) (status : Status) (decided 
     → new ≡ board_after core (AskHalt status) old → Continues one_board old (ask_halt_call core status decided) new
 asks_on old new core status decided answer after = goes_on old new (ask_halt_call core status decided) (ap Decided answer) after
 
--- a look leaves the board
+-- a look does not change the board
 pub looks_idle : AreIdle one_board IsLook
 looks_idle board e is reply = ⊎_elim left_by (⊎_elim left_by left_by) is
   where

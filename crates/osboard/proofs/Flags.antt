@@ -5,7 +5,7 @@ use Rattle.std.proofs.lemmas.Nat.Bits.{bit_at_or, bit_at-lt, bit_at-pow_other, b
 use Rattle.std.specs.Int.{bit_at}
 use Rattle.osboard.specs.Words.{has_bit, flags_in}
 
--- the bit at a place comes, and the others stay
+-- the bit at a place is set, and the others stay
 bit_comes : (n p : ℕ) → has_bit (bit_or n (2 ^ p)) p ≡ true
 bit_comes n p = let e : max (bit_at n p) 1 ≡ 1 = omega (arith, bit_at-lt n p) in rw (bit_at_or, bit_at-pow_same, e) refl
 
@@ -23,7 +23,7 @@ module _ (count first : ℕ) where
     same_flag : (i : ℕ) → i < count → first + i ≢ p → get_or (flags_in count first (bit_or n (2 ^ p))) i false ≡ get_or (flags_in count first n) i false
     same_flag i lt ne = at_place (bit_or n (2 ^ p)) i lt ∙ bit_stays n p (first + i) ne ∙ sym (at_place n i lt)
 
-    -- a bit outside of a set leaves it
+    -- a bit outside of a set does not change the set
     pub away : ((i : ℕ) → i < count → first + i ≢ p) → flags_in count first (bit_or n (2 ^ p)) ≡ flags_in count first n
     away ne = ext_get_or false _ _ (many _ ∙ sym (many n)) (λ i lt. let l : i < count = rw (many _) at lt in same_flag i l (ne i l))
 

@@ -26,8 +26,8 @@ const HALT: usize = 1;
 const DRAIN: usize = 2;
 
 /// The board of cores that run at once. A call takes the caller's seat, waits for nothing and takes no memory;
-/// its reply is what one board answers at that point of one history of all calls. Which of two cores called
-/// first is not said where neither saw the other's call.
+/// its reply is what one board answers at that point of one history of all calls. If neither of two cores saw
+/// the other's call, it is not said which of them called first.
 #[derive(Drop)]
 pub struct Board {
     words: SharedWords<BoardWords>,
@@ -68,7 +68,7 @@ impl Board {
         Ok((Board { words }, seats))
     }
 
-    /// Starts a core, or answers E_OS_STATE for one that is started already and changes nothing
+    /// Starts a core. If the core is started already, answers E_OS_STATE and changes nothing
     /// (AUTOSAR SWS OS 4.x, StartCore).
     pub fn start(&self, seat: &mut BoardSeat, core: CoreId) -> Status
         requires place { seat.old.place ≡ self.now }
@@ -82,7 +82,7 @@ impl Board {
         view_in(found).start_answer(core)
     }
 
-    /// The caller has entered StartOS with this mode.
+    /// Records that the caller has entered StartOS with this mode.
     pub fn enter(&self, seat: &mut BoardSeat, mode: CoreMode)
         requires place { seat.old.place ≡ self.now }
         requires core { seat.old.core.number < CORES }
@@ -95,7 +95,7 @@ impl Board {
             .fetch_or::<Brand>(seat, PHASE, bits, BoardCall::Enter(mode));
     }
 
-    /// The caller is ready.
+    /// Records that the caller is ready to pass the second gate.
     pub fn ready(&self, seat: &mut BoardSeat)
         requires place { seat.old.place ≡ self.now }
         requires core { seat.old.core.number < CORES }
@@ -106,7 +106,7 @@ impl Board {
             .fetch_or::<Brand>(seat, PHASE, ready, BoardCall::MakeReady);
     }
 
-    /// The caller has drained.
+    /// Records that the caller has drained.
     pub fn drain(&self, seat: &mut BoardSeat)
         requires place { seat.old.place ≡ self.now }
         requires core { seat.old.core.number < CORES }
@@ -117,7 +117,7 @@ impl Board {
             .fetch_or::<Brand>(seat, DRAIN, drained, BoardCall::Drain);
     }
 
-    /// The sets, but for the drained cores.
+    /// The started, the entered and the ready cores, and the named modes.
     pub fn look(&self, seat: &mut BoardSeat) -> BoardView
         requires { seat.old.place ≡ self.now }
         ensures { Extends one_board seat.old (look_call seat.old.core result) seat.new }
@@ -136,8 +136,8 @@ impl Board {
         cores_in(word, DRAINED)
     }
 
-    /// Asks for a shutdown of all cores with a status, and gives who asked first and with which status, which
-    /// all cores see (AUTOSAR SWS OS 4.x, ShutdownAllCores; that the first decides is this project's own).
+    /// Asks for a shutdown of all cores with a status. Gives who asked first and with which status; all cores see
+    /// the same (AUTOSAR SWS OS 4.x, ShutdownAllCores; that the first decides is this project's own).
     pub fn ask_halt(&self, seat: &mut BoardSeat, status: Status) -> (CoreId, Status)
         requires { seat.old.place ≡ self.now }
         ensures { Extends one_board seat.old (ask_halt_call seat.old.core status result) seat.new }
@@ -150,7 +150,7 @@ impl Board {
         halt_in(found).unwrap_or((core, status))
     }
 
-    /// Who asked first for a shutdown of all cores, and with which status; none where no core has.
+    /// Who asked first for a shutdown of all cores, and with which status; none if no core has asked.
     pub fn look_halt(&self, seat: &mut BoardSeat) -> Option<(CoreId, Status)>
         requires { seat.old.place ≡ self.now }
         ensures { Extends one_board seat.old (look_halt_call seat.old.core result) seat.new }
@@ -158,7 +158,7 @@ impl Board {
         halt_in(self.words.load::<Brand>(seat, HALT, BoardCall::LookHalt))
     }
 
-    /// Any of the eight calls, with its reply.
+    /// Makes any of the eight calls, and gives its reply.
     pub fn call(&self, seat: &mut BoardSeat, call: BoardCall) -> BoardReply
         requires place { seat.old.place ≡ self.now }
         requires core { seat.old.core.number < CORES }
@@ -186,7 +186,7 @@ impl Board {
         }
     }
 
-    /// All seats together show one legal history, with their calls and no others.
+    /// Takes all seats back. Together they show one legal history, with their calls and no others.
     pub fn gather(&self, seats: Vec<BoardSeat>)
         requires places { AllAt self.now seats.items }
         requires cores { cores_of seats.items ≡ self.now.plan.cores }

@@ -18,7 +18,7 @@ pub struct BoardView {
     pub modes: ModeSet,
 }
 
-/// All that stands on the board.
+/// All that is on the board.
 #[derive(Clone, Copy, PartialEq, Eq)]
 pub struct BoardState {
     pub view: BoardView,
@@ -33,23 +33,23 @@ pub struct BoardState {
 pub enum BoardCall {
     /// Starts the core that is named.
     Start(CoreId),
-    /// Has entered StartOS, with this mode.
+    /// Says that it has entered StartOS with this mode.
     Enter(CoreMode),
-    /// Is ready.
+    /// Says that it is ready.
     MakeReady,
-    /// Has drained.
+    /// Says that it has drained.
     Drain,
-    /// Looks at the sets, but for the drained cores.
+    /// Looks at all sets but the set of the drained cores.
     Look,
     /// Looks which cores have drained.
     LookDrained,
     /// Asks for a shutdown of all cores.
     AskHalt(Status),
-    /// Looks who asked for one.
+    /// Looks who asked first for a shutdown of all cores.
     LookHalt,
 }
 
-/// What it is answered.
+/// What a call is answered.
 #[derive(Clone, Copy, PartialEq, Eq)]
 pub enum BoardReply {
     Started(Status),

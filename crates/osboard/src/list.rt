@@ -8,7 +8,7 @@ use crate::calls::{BoardCall, BoardReply, BoardState, BoardView, ModeSet};
 use osbase::{CORES, CoreId, CoreMode, CoreSet, MODES, Status};
 use std::marker::Model;
 
-/// The board by what stands on it. It answers as `Board` does, by the same definition.
+/// The board, by what is on it. The list answers as `Board` does, by the same definition.
 #[derive(Clone, Copy)]
 pub struct BoardList {
     state: BoardState,
@@ -49,7 +49,7 @@ impl BoardList {
         }
     }
 
-    /// Starts a core, or answers E_OS_STATE for one that is started already and changes nothing
+    /// Starts a core. If the core is started already, answers E_OS_STATE and changes nothing
     /// (AUTOSAR SWS OS 4.x, StartCore).
     #[tactic(auto, using(crate::proofs::Boards::goes_on))]
     pub fn start(&mut self, caller: CoreId, core: CoreId) -> Status
@@ -64,7 +64,7 @@ impl BoardList {
         answer
     }
 
-    /// The caller has entered StartOS with this mode.
+    /// Records that the caller has entered StartOS with this mode.
     #[tactic(auto, using(crate::proofs::Boards::goes_on))]
     pub fn enter(&mut self, caller: CoreId, mode: CoreMode)
         ensures after { self.new ≡ board_after caller (BoardCall.Enter mode) self.old }
@@ -75,7 +75,7 @@ impl BoardList {
         view.modes = with_mode(view.modes, mode);
     }
 
-    /// The caller is ready.
+    /// Records that the caller is ready to pass the second gate.
     #[tactic(auto, using(crate::proofs::Boards::goes_on))]
     pub fn ready(&mut self, caller: CoreId)
         ensures after { self.new ≡ board_after caller BoardCall.MakeReady self.old }
@@ -85,7 +85,7 @@ impl BoardList {
         view.ready = with_core(view.ready, caller);
     }
 
-    /// The caller has drained.
+    /// Records that the caller has drained.
     #[tactic(auto, using(crate::proofs::Boards::goes_on))]
     pub fn drain(&mut self, caller: CoreId)
         ensures after { self.new ≡ board_after caller BoardCall.Drain self.old }
@@ -94,7 +94,7 @@ impl BoardList {
         self.state.drained = with_core(self.state.drained, caller);
     }
 
-    /// The sets but for the drained cores, whichever core looks.
+    /// The started, the entered and the ready cores, and the named modes. The answer is the same whichever core looks.
     #[tactic(auto, using(crate::proofs::Boards::goes_on))]
     pub fn look(&self) -> BoardView
         ensures answer { result ≡ self.now.view }
@@ -103,7 +103,7 @@ impl BoardList {
         self.state.view
     }
 
-    /// The cores that have drained, whichever core looks.
+    /// The cores that have drained. The answer is the same whichever core looks.
     #[tactic(auto, using(crate::proofs::Boards::goes_on))]
     pub fn look_drained(&self) -> CoreSet
         ensures answer { result ≡ self.now.drained }
@@ -112,8 +112,8 @@ impl BoardList {
         self.state.drained
     }
 
-    /// Asks for a shutdown of all cores with a status, and gives who asked first and with which status, which
-    /// all cores see (AUTOSAR SWS OS 4.x, ShutdownAllCores; that the first decides is this project's own).
+    /// Asks for a shutdown of all cores with a status. Gives who asked first and with which status; all cores see
+    /// the same (AUTOSAR SWS OS 4.x, ShutdownAllCores; that the first decides is this project's own).
     pub fn ask_halt(&mut self, caller: CoreId, status: Status) -> (CoreId, Status)
         ensures answer { result ≡ first_asked self.old.halt (caller, status) }
         ensures after { self.new ≡ board_after caller (BoardCall.AskHalt status) self.old }
@@ -124,7 +124,7 @@ impl BoardList {
         decided
     }
 
-    /// What a call is answered now. Nothing changes.
+    /// What this call would be answered now. Nothing changes.
     pub fn reply(&self, caller: CoreId, call: BoardCall) -> BoardReply
         ensures { result ≡ board_reply caller call self.now }
     {
@@ -140,7 +140,7 @@ impl BoardList {
         }
     }
 
-    /// Any of the eight calls.
+    /// Makes any of the eight calls, and gives its reply.
     pub fn call(&mut self, caller: CoreId, call: BoardCall) -> BoardReply
         ensures answer { result ≡ board_reply caller call self.old }
         ensures after { self.new ≡ board_after caller call self.old }
@@ -161,8 +161,8 @@ impl BoardList {
         reply
     }
 
-    /// Who asked first for a shutdown of all cores, and with which status; none where no core has. It does not
-    /// matter which core looks.
+    /// Who asked first for a shutdown of all cores, and with which status; none if no core has asked. The answer is the
+    /// same whichever core looks.
     #[tactic(auto, using(crate::proofs::Boards::goes_on))]
     pub fn look_halt(&self) -> Option<(CoreId, Status)>
         ensures answer { result ≡ self.now.halt }
@@ -171,7 +171,7 @@ impl BoardList {
         self.state.halt
     }
 
-    // Who asked first, if this core asks now.
+    // Who asked first for a shutdown of all cores, and with which status, if this core asks now.
     fn decided(&self, caller: CoreId, status: Status) -> (CoreId, Status)
         ensures { result ≡ first_asked self.now.halt (caller, status) }
     {
@@ -179,7 +179,7 @@ impl BoardList {
     }
 }
 
-// The set with one more core.
+// The set with this core added. It stays as it is if it has no place for the core's number.
 fn with_core(mut cores: CoreSet, core: CoreId) -> CoreSet
     ensures { result ≡ with_core core cores }
 {
@@ -189,7 +189,7 @@ fn with_core(mut cores: CoreSet, core: CoreId) -> CoreSet
     cores
 }
 
-// The set with the mode that is named, if one is.
+// The set with the named mode added. It stays as it is for DONOTCARE, and if it has no place for the mode's index.
 fn with_mode(mut modes: ModeSet, mode: CoreMode) -> ModeSet
     ensures { result ≡ with_mode mode modes }
 {

@@ -1,4 +1,4 @@
-//! What the sets of the board come to.
+//! What follows from the sets of the board.
 
 ghost use Rattle.std.specs.Prelude.{◌≡◌, count_by, position, IfSome, ◌<◌};
 ghost use Rattle.osboard.specs.Boards.{agreement_in, have_all, start_answer};
@@ -7,7 +7,7 @@ use crate::calls::{BoardView, ModeSet};
 use osbase::{Agreement, CoreId, CoreSet, ModeId, Status};
 
 impl BoardView {
-    /// What a start of this core is answered: E_OS_STATE where it is started already (AUTOSAR SWS OS 4.x,
+    /// What a start of this core is answered: E_OS_STATE if the core is started already, else E_OK (AUTOSAR SWS OS 4.x,
     /// StartCore).
     pub fn start_answer(&self, core: CoreId) -> Status
         ensures { result ≡ start_answer self.now core }
@@ -54,7 +54,7 @@ fn named_count(modes: &ModeSet) -> usize
     modes.members.iter().filter(|named| **named).count()
 }
 
-// The first mode that is named.
+// The index of the first mode that is named; none if no mode is named.
 fn first_named(modes: &ModeSet) -> Option<usize>
     ensures value { result ≡ position (λ b. b) modes.now.members }
     ensures small { IfSome result (λ index. index < 256) }
@@ -62,7 +62,7 @@ fn first_named(modes: &ModeSet) -> Option<usize>
     modes.members.iter().position(|named| *named)
 }
 
-/// Whether each of the started cores is in the set: what a synchronisation point waits for (AUTOSAR SWS OS 4.x,
+/// Whether each of the started cores is in the set `cores`: what a synchronisation point waits for (AUTOSAR SWS OS 4.x,
 /// SWS_Os_00579 and SWS_Os_00580).
 pub fn have_all(started: &CoreSet, cores: &CoreSet) -> bool
     ensures { result ≡ have_all started.now cores.now }

@@ -9,7 +9,7 @@ use crate::calls::{BoardView, ModeSet};
 use osbase::{CoreId, CoreMode, CoreSet, MODES, Status};
 use std::array;
 
-/// The places of the phase word: of sixteen bits for each of three sets of cores, and of a byte for the modes.
+/// The places in the phase word: sixteen bits for each of three sets of cores, and a byte for the modes.
 pub const STARTED: usize = 0;
 
 pub const ENTERED: usize = 16;
@@ -21,7 +21,7 @@ pub const NAMED: usize = 48;
 /// The place of the sixteen bits of the word of the drained cores.
 pub const DRAINED: usize = 0;
 
-/// The bit at a place.
+/// The number of which only the bit at this place is set.
 pub fn bit(place: usize) -> u64
     requires { place < 64 }
     ensures { result ≡ 2 ^ place }
@@ -29,7 +29,7 @@ pub fn bit(place: usize) -> u64
     1 << place
 }
 
-/// The bit of the mode that is named, if one is.
+/// The bit of the named mode in the phase word, or 0 if no mode is named.
 pub fn mode_bits(mode: CoreMode) -> u64
     requires { IsMode mode }
     ensures { result ≡ mode_bits mode }
@@ -48,7 +48,7 @@ fn has_bit(word: u64, place: usize) -> bool
     (word >> place) & 1 == 1
 }
 
-/// The cores of the sixteen bits at a place.
+/// The set of cores that the sixteen bits from place `first` on encode.
 pub fn cores_in(word: u64, first: usize) -> CoreSet
     requires { first ≤ 48 }
     ensures { result ≡ cores_in first word }
@@ -75,7 +75,7 @@ pub fn cores_in(word: u64, first: usize) -> CoreSet
     }
 }
 
-// The modes of the byte at a place.
+// The set of modes that the bits from place `first` on encode.
 fn modes_in(word: u64, first: usize) -> ModeSet
     requires { first ≤ 48 }
     ensures { result.members ≡ flags_in MODES first word }
@@ -108,7 +108,8 @@ pub fn halt_word(core: CoreId, status: Status) -> u64
     u64::from(core.number) * 256 + u64::from(status.number()) + 1
 }
 
-/// Who asked for a shutdown of all cores, and with which status, as the halt word tells it.
+/// Who asked for a shutdown of all cores, and with which status, as the halt word tells; none if it tells no core or no
+/// status.
 pub fn halt_in(word: u64) -> Option<(CoreId, Status)>
     ensures { result ≡ halt_in word }
 {

@@ -10,7 +10,7 @@ more-since now then few = omega (arith, few)
 abbrev pub IsFew : ℕ → Type 0
 IsFew ticks = ticks < 2 ^ 63
 
--- By one tick more, each time was one tick longer ago.
+-- After one more tick, each time is one tick longer ago.
 pub all-more : (now : ℕ) (taken : List ℕ) → All IsFew (map (ticks_since now) taken)
     → map (ticks_since ((now + 1) % 2 ^ 64)) taken ≡ map suc (map (ticks_since now) taken)
 all-more now [] few = refl
@@ -18,6 +18,6 @@ all-more now (then ∷ taken) few =
     ap (λ (n : ℕ). n ∷ map (ticks_since ((now + 1) % 2 ^ 64)) taken) (more-since now then (All-head IsFew (ticks_since now then) (map (ticks_since now) taken) few))
     ∙ ap (λ (rest : List ℕ). suc (ticks_since now then) ∷ rest) (all-more now taken (All-tail IsFew (ticks_since now then) (map (ticks_since now) taken) few))
 
--- Now is no tick ago.
+-- No tick has passed since now.
 pub none-since : (now : ℕ) → now < 2 ^ 64 → ticks_since now now ≡ 0
 none-since now low = omega (arith, low)

@@ -20,7 +20,7 @@ impl Model for Used {
 }
 
 impl Used {
-    /// No tick.
+    /// No tick is used.
     pub fn new() -> Self
         ensures { result ≡ 0 }
     {
@@ -43,7 +43,7 @@ impl Used {
         self.ticks = 0;
     }
 
-    /// Whether the job has reached this budget, of ticks; 0 is none, which no job reaches (AUTOSAR SWS OS 4.x,
+    /// Whether the job has reached this budget in ticks. A budget of 0 is none: no job reaches it (AUTOSAR SWS OS 4.x,
     /// SWS_Os_00064 and SWS_Os_00210).
     pub fn decide(&self, budget: u32) -> bool
         ensures { result ≡ is_reached budget self.now }

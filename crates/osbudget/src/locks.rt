@@ -8,11 +8,12 @@ ghost use Rattle.osbudget.specs.Budget.{is_reached};
 use osbase::RESOURCES;
 use std::marker::Model;
 
-/// At how many ticks a job of one runner was the running one since one last took a resource, by the resource's index.
+/// For each resource, by its index: the number of ticks at which a job of the runner ran since a job of the runner last
+/// took it.
 #[derive(Drop)]
 pub struct LockUsed {
-    // How many ticks there were in all, and how many there had been when a resource was last taken. Both wrap, and so a tick costs
-    // one addition, however many resources there are.
+    // The number of all ticks, and for each resource that number when the resource was last taken. Both wrap, so a
+    // tick costs one addition, however many resources there are.
     ticks: u64,
     taken: [u64; RESOURCES],
 }
@@ -29,7 +30,7 @@ impl Model for LockUsed {
 }
 
 impl LockUsed {
-    /// No tick.
+    /// No tick is used of any lock budget.
     pub fn new() -> Self
         ensures { result ≡ replicate RESOURCES 0 }
     {
@@ -39,8 +40,8 @@ impl LockUsed {
         }
     }
 
-    /// The runner's job has used one tick more of each lock budget (the project's own). That of a resource which it does not hold
-    /// is looked at by nobody, and begins again when that is taken.
+    /// The runner's job has used one tick more of each lock budget (the project's own). The ticks of a resource that
+    /// the job does not hold are not read; they begin again when the resource is taken.
     pub fn charge(&mut self)
         requires { All (λ ticks. ticks < 2 ^ 63) self.old }
         ensures { self.new ≡ map suc self.old }
@@ -48,7 +49,7 @@ impl LockUsed {
         self.ticks = self.ticks.wrapping_add(1);
     }
 
-    /// The runner's job has taken the resource of this index: its next tick is the first of that again (the project's own).
+    /// The runner's job has taken the resource of this index: the resource's ticks begin again (the project's own).
     pub fn restart(&mut self, index: u8)
         requires { index < RESOURCES }
         ensures { self.new ≡ slice_set self.old index 0 }
@@ -56,8 +57,8 @@ impl LockUsed {
         self.taken[usize::from(index)] = self.ticks;
     }
 
-    /// Whether the ticks since the resource of this index was last taken have reached its lock budget; 0 is none, which
-    /// no job reaches.
+    /// Whether the ticks since the resource of this index was last taken have reached its lock budget, `lock`. A lock
+    /// budget of 0 is none: no job reaches it.
     pub fn decide(&self, index: u8, lock: u32) -> bool
         ensures { result ≡ is_reached lock (slice_index_or self.now index 0) }
     {

@@ -1,5 +1,5 @@
--- Which acts a service that may cross does: it names only objects of cores that marks may name, and asks only cores that may be
--- asked. The check makes the cases of a table itself: the first clause is only there to begin them.
+-- Which acts a service that may cross does: it names only objects of cores that marks may name, and asks only cores
+-- that may be asked. The check makes the cases of a table itself: the first clause is only there to begin them.
 use Rattle.std.proofs.Common.{◌≡◌, ℤ, true, Option, Some, None, IfSome, refl}
 use Rattle.std.proofs.lemmas.Bool.{and_from}
 use Rattle.osbase.specs.{declared.statuses.Status.Status, declared.statuses.ServiceId.ServiceId, declared.references.CoreId.CoreId, declared.references.Runner.Runner, declared.messages.RemoteCall.RemoteCall, declared.objects.Object.Object, Answers.served}
@@ -28,7 +28,7 @@ module _ (l : Leave) where
       let named = l.named (core_of_call call) within in
       assumption (crosses-ok l r id (core_of_call call) call (λ s. serves r id (service_of call s)) n named within (λ s seen. serves-ok l r id (service_of call s) n (service-ok call named s seen)))
 
-  -- Whoever starts or counts cores asks for what they share, and whoever shuts all down asks them all.
+  -- An operation that starts or counts cores asks for what all cores share; one that shuts them all down asks for that.
   pub core_acts-ok : (r : Runner) (op : Op) → IsNamed l r → IsAllowed l.view l.may op → IfSome (core_acts r op) (AreAllowed l)
   core_acts-ok r (Op.StartCore target) n allowed = (allowed.shared refl, λ all. returns-ok l r ServiceId.StartCore (first_failing (starting_checks all target)) None n)
   core_acts-ok r (Op.GetNumberOfActivatedCores x) n allowed = (allowed.shared refl, λ all. (n, (refl, tt)))

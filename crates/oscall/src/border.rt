@@ -1,4 +1,4 @@
-//! Services on objects that may stand on another core, and what a core does for another one.
+//! Services on objects that may be on another core, and what a core does for another one.
 
 ghost use Rattle.std.specs.Prelude.{◌≡◌, ◌<◌, IfSome, IsTrue};
 ghost use Rattle.osbase.specs.{declared.limits.TheConstants.CORES, Answers.reply, Answers.served};
@@ -15,8 +15,8 @@ use osservice_alarms::{ask_left, cancel, set_absolute, set_relative};
 use osservice_tasks::{activate, set_events};
 use osstate::CoreState;
 
-/// The half of a service that the object's core does, for a job of its own and for another core alike: the
-/// remaining checks, and the effect. A service that is refused has none.
+/// The half of a service that the object's core does, for a job of its own and for another core alike: the remaining
+/// checks, and the effect. A service that is refused has no effect.
 pub fn serve<const P: usize, const J: usize, const OUT: usize>(
     state: &mut CoreState<'_, P, J, OUT>,
     call: RemoteCall,
@@ -44,9 +44,9 @@ pub fn serve<const P: usize, const J: usize, const OUT: usize>(
     }
 }
 
-/// A service by a running job of one of the core's tasks, on an object that may stand on another core. The
-/// invalid identifier answers E_OS_ID, an object of a core that was never started E_OS_CORE; neither has
-/// another effect. The service of an own object is done here; another core is asked.
+/// A running job calls a service on an object that may be on another core. The service returns E_OS_ID for the invalid
+/// identifier, and E_OS_CORE for an object of a core that was never started; it has no other effect then. For an own
+/// object the service is done here; else the object's core is asked.
 pub fn call<const P: usize, const J: usize, const OUT: usize>(
     state: &mut CoreState<'_, P, J, OUT>,
     runner: Runner,
@@ -69,7 +69,7 @@ pub fn call<const P: usize, const J: usize, const OUT: usize>(
     }
 }
 
-// Only the object's own core can make the remaining checks.
+// Does the service for an own object; else asks the object's core, which alone can make the remaining checks.
 fn cross<const P: usize, const J: usize, const OUT: usize>(
     state: &mut CoreState<'_, P, J, OUT>,
     runner: Runner,
@@ -90,7 +90,7 @@ fn cross<const P: usize, const J: usize, const OUT: usize>(
     finish(state, runner, service, answer, marks);
 }
 
-// A call of another core is served, and its line is printed.
+// A call of another core is served, and its line is printed. Returns what the service answered.
 fn serve_for<const P: usize, const J: usize, const OUT: usize>(
     state: &mut CoreState<'_, P, J, OUT>,
     from: CoreId,
@@ -107,7 +107,7 @@ fn serve_for<const P: usize, const J: usize, const OUT: usize>(
     answer
 }
 
-// The line of a call that was served.
+// The line of a call that was served for another core: with the value that GetAlarm answered, else with the status.
 fn mark_of(core: CoreId, call: RemoteCall, answer: ServiceResult) -> Mark
     ensures mark { result ≡ served core call answer.status answer.value }
     ensures plain { IsTrue (is_plain result) }
@@ -137,7 +137,7 @@ fn reply_of(answer: ServiceResult) -> Message
     }
 }
 
-/// A request of another core is served, and answered by a reply.
+/// A request of another core is served, and answered by a reply. Its error calls no ErrorHook on this core.
 pub fn serve_request<const P: usize, const J: usize, const OUT: usize>(
     state: &mut CoreState<'_, P, J, OUT>,
     from: CoreId,
@@ -153,7 +153,7 @@ pub fn serve_request<const P: usize, const J: usize, const OUT: usize>(
     state.queue(from, reply_of(answer));
 }
 
-/// An action of another core is served; it has no reply, and its error calls ErrorHook here.
+/// An action of another core is served. It gets no reply; its error calls ErrorHook on this core.
 pub fn serve_action<const P: usize, const J: usize, const OUT: usize>(
     state: &mut CoreState<'_, P, J, OUT>,
     from: CoreId,

@@ -1,4 +1,5 @@
-//! The services of whole cores: StartCore, which a script calls too late; how many cores are started; the shutdown of one core and of all.
+//! The services of whole cores: StartCore, which a script calls too late; how many cores are started; the shutdown of
+//! one core and of all.
 
 ghost use Rattle.std.specs.Prelude.{◌≡◌, ◌≤◌, ◌+◌, ◌^◌, IsTrue};
 ghost use Rattle.osjobs.specs.Priorities.{is_own_runner};
@@ -13,7 +14,7 @@ use oscript::Op;
 use osservice::{Step, refuse};
 use osstate::CoreState;
 
-// No core of this number is configured, or it is the invalid identifier.
+// Whether the identifier is invalid, or no core of its number is configured.
 fn is_unknown<const P: usize, const J: usize, const OUT: usize>(
     state: &CoreState<'_, P, J, OUT>,
     target: Option<CoreId>,
@@ -26,7 +27,7 @@ fn is_unknown<const P: usize, const J: usize, const OUT: usize>(
     }
 }
 
-// The first check of StartCore that fails: one always does.
+// The status of StartCore in a script: E_OS_ID if there is no such core, else E_OS_ACCESS.
 fn status_of_starting<const P: usize, const J: usize, const OUT: usize>(
     state: &CoreState<'_, P, J, OUT>,
     target: Option<CoreId>,
@@ -40,8 +41,9 @@ fn status_of_starting<const P: usize, const J: usize, const OUT: usize>(
     }
 }
 
-// A running job of one of the core's tasks or ISRs would start a core, which is too late once StartOS was called: E_OS_ID of a
-// core that is not configured, else E_OS_ACCESS (AUTOSAR SWS OS 4.x, SWS_Os_00676).
+// A running job of one of the core's tasks or ISRs calls StartCore, which is too late once StartOS was called. It
+// returns E_OS_ID for the invalid identifier and for a core that is not configured, and else E_OS_ACCESS (AUTOSAR SWS
+// OS 4.x, SWS_Os_00676).
 fn start_core<const P: usize, const J: usize, const OUT: usize>(
     state: &mut CoreState<'_, P, J, OUT>,
     runner: Runner,
@@ -55,6 +57,7 @@ fn start_core<const P: usize, const J: usize, const OUT: usize>(
     refuse(state, runner, ServiceId::StartCore, status, marks);
 }
 
+// How many cores are in this set.
 fn core_count(cores: &CoreSet) -> usize
     ensures value { result ≡ core_count cores.now }
     ensures few { result ≤ 16 }
@@ -62,7 +65,8 @@ fn core_count(cores: &CoreSet) -> usize
     cores.members.iter().filter(|is_member| **is_member).count()
 }
 
-// The variable becomes the number of started cores (AUTOSAR SWS OS 4.x, SWS_Os_00672).
+// GetNumberOfActivatedCores: the variable becomes the number of started cores, which is printed (AUTOSAR SWS OS 4.x,
+// SWS_Os_00672).
 fn count_cores<const P: usize, const J: usize, const OUT: usize>(
     state: &mut CoreState<'_, P, J, OUT>,
     runner: Runner,
@@ -76,8 +80,8 @@ fn count_cores<const P: usize, const J: usize, const OUT: usize>(
     set(state, runner, variable, count as i64, marks);
 }
 
-/// ShutdownHook is called at once, and the core goes down: by ShutdownOS, and by a time fault (OSEK/VDX OS 2.2.3, section 11.4;
-/// AUTOSAR SWS OS 4.x, section 7.9.6).
+/// Calls ShutdownHook at once with this status and takes the core down, for ShutdownOS and for a time fault (OSEK/VDX
+/// OS 2.2.3, section 11.4; AUTOSAR SWS OS 4.x, section 7.9.6).
 pub fn go_down<const P: usize, const J: usize, const OUT: usize>(
     state: &mut CoreState<'_, P, J, OUT>,
     status: Status,
@@ -90,8 +94,8 @@ pub fn go_down<const P: usize, const J: usize, const OUT: usize>(
     state.go_down();
 }
 
-// A running job of one of the core's tasks or ISRs asks that all cores shut down, and waits for that (AUTOSAR SWS OS 4.x,
-// SWS_Os_00713).
+// A running job of one of the core's tasks or ISRs asks that all cores shut down, and waits for that. It does nothing
+// more (AUTOSAR SWS OS 4.x, SWS_Os_00713).
 fn shut_down_all<const P: usize, const J: usize, const OUT: usize>(
     state: &mut CoreState<'_, P, J, OUT>,
     runner: Runner,
@@ -107,8 +111,8 @@ fn shut_down_all<const P: usize, const J: usize, const OUT: usize>(
     });
 }
 
-/// An operation of a running job of one of the core's tasks or ISRs, if it is a service of whole cores: it is done, and the answer
-/// is yes. Else nothing changes.
+/// If an operation of a running job of one of the core's tasks or ISRs is a service of whole cores, it is done, and the
+/// answer is yes. Else nothing changes.
 pub fn operate<const P: usize, const J: usize, const OUT: usize>(
     state: &mut CoreState<'_, P, J, OUT>,
     step: Step,
@@ -139,8 +143,8 @@ pub fn operate<const P: usize, const J: usize, const OUT: usize>(
     }
 }
 
-/// Whether the operation is ignored while its caller has suspended interrupts: those of whole cores that answer no status are
-/// (AUTOSAR SWS OS 4.x, SWS_Os_00093).
+/// Whether the operation is ignored while its caller has suspended interrupts: only the services of whole cores that
+/// return no status are ignored (AUTOSAR SWS OS 4.x, SWS_Os_00093).
 pub fn is_ignored(op: Op) -> bool
     ensures { result ≡ is_ignored op }
 {

@@ -11,7 +11,7 @@ use oscript::Op;
 use osservice::Step;
 use osstate::CoreState;
 
-/// A variable of the running job of one of the core's tasks becomes this number, which is printed.
+/// A variable of the running job of one of the core's tasks or ISRs becomes this number, which is printed.
 pub(crate) fn set<const P: usize, const J: usize, const OUT: usize>(
     state: &mut CoreState<'_, P, J, OUT>,
     runner: Runner,
@@ -31,14 +31,14 @@ pub(crate) fn set<const P: usize, const J: usize, const OUT: usize>(
     state.complete(runner, Status::EOk, Some(value));
 }
 
-// The sum of two numbers, which stops at the ends of the type.
+// The sum of two numbers, clamped to the range of `i64`.
 fn sum(number: i64, other: i64) -> i64
     ensures { result ≡ sum_of number other }
 {
     number.saturating_add(other)
 }
 
-// The variable becomes its sum with this number, which stops at the ends of the type.
+// The variable becomes its sum with this number, clamped to the range of `i64`.
 fn add<const P: usize, const J: usize, const OUT: usize>(
     state: &mut CoreState<'_, P, J, OUT>,
     runner: Runner,
@@ -54,7 +54,7 @@ fn add<const P: usize, const J: usize, const OUT: usize>(
     set(state, runner, variable, value, marks);
 }
 
-// The first variable becomes the sum of both, which stops at the ends of the type.
+// The first variable becomes the sum of both, clamped to the range of `i64`.
 fn add_variable<const P: usize, const J: usize, const OUT: usize>(
     state: &mut CoreState<'_, P, J, OUT>,
     runner: Runner,
@@ -70,7 +70,7 @@ fn add_variable<const P: usize, const J: usize, const OUT: usize>(
     set(state, runner, variable, value, marks);
 }
 
-// The variable becomes the number of the job's last status; 0 before any.
+// The variable becomes the number of the job's last status, which is 0 before any service.
 fn store_status<const P: usize, const J: usize, const OUT: usize>(
     state: &mut CoreState<'_, P, J, OUT>,
     runner: Runner,
@@ -85,8 +85,8 @@ fn store_status<const P: usize, const J: usize, const OUT: usize>(
     set(state, runner, variable, number, marks);
 }
 
-/// An operation of a running job of one of the core's tasks, if it is one of the script alone: it is done, and the answer
-/// is yes. Else nothing changes.
+/// If an operation of a running job of one of the core's tasks or ISRs is `work`, a jump, or one on the job's variables
+/// alone, it is done, and the answer is yes. Else nothing changes.
 pub fn operate<const P: usize, const J: usize, const OUT: usize>(
     state: &mut CoreState<'_, P, J, OUT>,
     step: Step,

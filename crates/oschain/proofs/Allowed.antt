@@ -1,5 +1,5 @@
--- Which acts ChainTask does: it names only objects of cores that marks may name, and asks only cores that may be asked. The check
--- makes the cases of a table itself: the first clause is only there to begin them.
+-- Which acts ChainTask does: it names only objects of cores that marks may name, and asks only cores that may be asked.
+-- The check makes the cases of a table itself: the first clause is only there to begin them.
 use Rattle.std.proofs.Common.{◌≡◌, nat_lt, true, Some, IfSome}
 use Rattle.std.proofs.lemmas.Bool.{and_parts}
 use Rattle.osbase.specs.{declared.statuses.ServiceId.ServiceId, declared.references.Runner.Runner, declared.messages.RemoteCall.RemoteCall, declared.limits.TheConstants.CORES}

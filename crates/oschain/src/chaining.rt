@@ -15,11 +15,11 @@ use osservice::{ServiceResult, Step, ask, finish, is_ok, refuse};
 use osservice_tasks::{end, end_task, status_of_holding};
 use osstate::CoreState;
 
-// A running job of one of the core's tasks ends itself, and a job of the task begins (OSEK/VDX OS 2.2.3, section
-// 13.2.3.3). The invalid identifier answers E_OS_ID, a task of a core that was never started E_OS_CORE, a caller
-// that holds a resource E_OS_RESOURCE, one that holds a spinlock E_OS_SPINLOCK, and a task with as many jobs as it may
-// have, if it is not the caller's own, E_OS_LIMIT; then nothing is activated, and the caller runs on. Another core is
-// asked to activate its task, and the caller ends once it answers.
+// A running job ends itself, and a job of the target task begins (OSEK/VDX OS 2.2.3, section 13.2.3.3). If the task is
+// another core's, that core is asked to activate it, and the caller ends once the answer is E_OK. A refused caller runs
+// on. An ISR gets E_OS_CALLEVEL, a caller that holds a resource E_OS_RESOURCE, one that holds a spinlock E_OS_SPINLOCK.
+// E_OS_ID is for the invalid identifier, E_OS_CORE for a task of a core that was never started, and E_OS_LIMIT for a
+// task other than the caller's with as many live jobs as it may have.
 fn chain<const P: usize, const J: usize, const OUT: usize>(
     state: &mut CoreState<'_, P, J, OUT>,
     runner: Runner,
@@ -41,8 +41,8 @@ fn chain<const P: usize, const J: usize, const OUT: usize>(
     }
 }
 
-/// An operation of a running job of one of the core's tasks, if it is ChainTask: it is done, and the answer
-/// is yes. Else nothing changes.
+/// If an operation of a running job of one of the core's tasks or ISRs is ChainTask, it is done, and the answer is yes.
+/// Else nothing changes.
 pub fn operate<const P: usize, const J: usize, const OUT: usize>(
     state: &mut CoreState<'_, P, J, OUT>,
     step: Step,
@@ -61,7 +61,7 @@ pub fn operate<const P: usize, const J: usize, const OUT: usize>(
     }
 }
 
-// Where the task is named.
+// Refuses the invalid identifier. Any other target is checked further, and then chained to.
 fn chain_if<const P: usize, const J: usize, const OUT: usize>(
     state: &mut CoreState<'_, P, J, OUT>,
     caller: TaskRef,
@@ -78,7 +78,8 @@ fn chain_if<const P: usize, const J: usize, const OUT: usize>(
     }
 }
 
-// Where its core was started, and the caller holds nothing.
+// Refuses a task of a core that was never started, and a caller that holds a resource or a spinlock; else chains to the
+// task, whichever core has it.
 fn chain_across<const P: usize, const J: usize, const OUT: usize>(
     state: &mut CoreState<'_, P, J, OUT>,
     caller: TaskRef,
@@ -101,7 +102,7 @@ fn chain_across<const P: usize, const J: usize, const OUT: usize>(
     }
 }
 
-// An own task is activated here, and another core is asked to activate its task.
+// Chains to the task: here, if it is one of the core's own; else its core is asked to activate it.
 fn chain_to<const P: usize, const J: usize, const OUT: usize>(
     state: &mut CoreState<'_, P, J, OUT>,
     caller: TaskRef,
@@ -121,7 +122,8 @@ fn chain_to<const P: usize, const J: usize, const OUT: usize>(
     ask(state, runner, ServiceId::ChainTask, task.core, call, marks);
 }
 
-// An own task is activated once the caller has ended.
+// Refuses a task of the core's own that is at its limit of live jobs, unless it is the caller's; else the caller ends,
+// and then the task is activated.
 fn chain_here<const P: usize, const J: usize, const OUT: usize>(
     state: &mut CoreState<'_, P, J, OUT>,
     caller: TaskRef,
@@ -141,7 +143,8 @@ fn chain_here<const P: usize, const J: usize, const OUT: usize>(
     state.activate(task, marks);
 }
 
-// As many jobs of the task are live as it may have. The caller's own task has one less once the caller has ended.
+// Whether the task is not the caller's own, and is at its limit of live jobs. The caller's own task never exceeds the
+// limit, since the caller ends first.
 fn exceeds_limit<const P: usize, const J: usize, const OUT: usize>(
     state: &CoreState<'_, P, J, OUT>,
     caller: TaskRef,
@@ -153,15 +156,15 @@ fn exceeds_limit<const P: usize, const J: usize, const OUT: usize>(
     !Runner::Task(caller).is(Runner::Task(task)) && state.is_at_limit(task)
 }
 
-// ChainTask that was granted does not return: its caller ends.
+// Whether the service is ChainTask, and its status is E_OK. Then it does not return: its caller ends.
 fn ends_caller(service: ServiceId, status: Status) -> bool
     ensures { result ≡ ends_caller service status }
 {
     matches!((service, status), (ServiceId::ChainTask, Status::EOk))
 }
 
-/// A service of a job of one of the core's tasks gets the reply of another core, and returns; after a ChainTask
-/// that was granted its caller ends (OSEK/VDX OS 2.2.3, section 13.2.3.3).
+/// A service of a job of one of the core's tasks or ISRs gets the reply of another core and returns. If ChainTask was
+/// granted, its caller ends instead (OSEK/VDX OS 2.2.3, section 13.2.3.3).
 pub fn resume<const P: usize, const J: usize, const OUT: usize>(
     state: &mut CoreState<'_, P, J, OUT>,
     runner: Runner,

@@ -1,4 +1,4 @@
--- What is asked of the clocks is what is asked of the history.
+-- A query of the clocks is answered as the same query of the history is.
 use Rattle.std.proofs.Common.{◌≡◌, ℕ, true, Option, Some, None, is_some, option_map, filter, List, [], ◌∷◌, get_or, refl, ap, sym, ◌∙◌}
 use Rattle.std.specs.Option.{option_map_or}
 use Rattle.std.proofs.lemmas.Bool.{false≢true}
@@ -64,7 +64,7 @@ dues-read core c h within set =
     kept-same (is_attached core c) (λ (a : AlarmRef). is_due_in core a (clocks_of core h)) (λ (a : AlarmRef). is_due_by core a h) (alarm_refs core)
     (λ a on. due-read core a h within (attached-own core c a on) set)
 
--- what a look-up finds, in a core's clocks
+-- the alarms that the code finds due are those that are due in the clocks' state
 pub dues-in : (core : Core) (c : CounterRef) (t s : ClockState) (counter : Counter) (list : List AlarmRef) (alarms : List Alarm) → t ≡ s → AreClocks core s → is_own_object core (counter_object c) ≡ true
     → counter ≡ counter_in c s → list ≡ get_or t.attached c.index [] → alarms ≡ t.alarms → filter (λ (a : AlarmRef). is_due_next counter (get_or alarms a.index unset)) list ≡ due_in core c s
 dues-in core c t s counter list alarms same clocks own value own_list are =

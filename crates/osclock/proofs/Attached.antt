@@ -11,7 +11,7 @@ use Rattle.osclock.specs.Clocks.{ClockState, alarm_family, alarm_ref, alarm_refs
 pub attached-own : (core : Core) (c : CounterRef) (a : AlarmRef) → is_attached core c a ≡ true → is_own_object core (alarm_object a) ≡ true
 attached-own core c a on = goes-own (placed core) c a on
 
--- so its counter is this one
+-- the counter of an alarm that is attached to a counter is this counter
 pub attached-counter : (core : Core) (c : CounterRef) (a : AlarmRef) (s : ClockState) → is_attached core c a ≡ true → counter_for core a s ≡ counter_in c s
 attached-counter core c a s on =
     let own = stands (alarm_family core) c a on in
@@ -22,7 +22,7 @@ attached-max core c a on =
     let own = stands (alarm_family core) c a on in
     ap (λ (o : Option AlarmValue). option_map_or (λ (x : AlarmValue). max_of core x.counter) o 0) own.is ∙ ap (max_of core) (sym own.by)
 
--- each of a counter's alarms that are picked out is the core's own
+-- each alarm that is picked out of a counter's alarms is the core's own
 pub picked-own : (core : Core) (c : CounterRef) (f : AlarmRef → Bool) → list_all (λ (a : AlarmRef). is_own_object core (alarm_object a)) (filter f (attached_to core c)) ≡ true
 picked-own core c f =
     all-filter (λ (a : AlarmRef). is_own_object core (alarm_object a)) f (attached_to core c) (kept-passes (is_attached core c) (λ (a : AlarmRef). is_own_object core (alarm_object a)) (alarm_refs core) (λ a on. attached-own core c a on))

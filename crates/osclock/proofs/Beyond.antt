@@ -1,4 +1,4 @@
--- A count that goes over a counter's own alarms is one that goes over all and leaves the others.
+-- A change of only a counter's alarms is the same as a pass over all alarms that leaves the others unchanged.
 use Rattle.std.proofs.Common.{◌≡◌, ℕ, suc, ◌+◌, ◌-◌, ◌<◌, ◌≤◌, nat_eq, nat_le, Bool, true, false, cond, IfSome, Option, Some, None, List, [], ◌++◌, drop, length, length-set, take, refl, ap, sym, ◌∙◌, arith, get_or}
 use Rattle.std.specs.List.{refill, slice_set}
 use Rattle.std.proofs.{Math.Seq.take-append_seam, lemmas.List.get_or-set_other, lemmas.List.get_or-set_same}
@@ -11,9 +11,9 @@ use Rattle.oscount.specs.Clocks.{IsExpiryOf, advanced, alarm_beyond, due_again, 
 use Rattle.osclock.specs.Clocks.{AreClocks, ClockState, IsBounded, alarm_family, all_beyond, all_passed, clocks_by, counted, counter_in, unset}
 use Rattle.osclock.proofs.{Bounds.alarms-length, Bounds.list-at, Law.both}
 
--- ---- one alarm is taken beyond its counter's value
+-- ---- one alarm moves on by one count
 
--- and is bounded as before
+-- the alarm is bounded as before
 pub beyond-bounded : (counter : Counter) (alarm : Alarm) → IsBounded counter.max alarm → IsBounded counter.max (alarm_beyond counter alarm)
 beyond-bounded counter alarm bounded = by alarm.expiry bounded
   where
@@ -33,13 +33,13 @@ beyond-bounded counter alarm bounded = by alarm.expiry bounded
     by None is = tt
     by (Some x) is = at x is (is_next_value counter x)
 
--- what is written back stands there
+-- what is written back is at its place
 pub written : (alarms : List Alarm) (place : ℕ) (alarm : Alarm) → refill (length alarms) alarms (slice_set alarms place alarm) ≡ slice_set alarms place alarm
 written alarms place alarm =
     ap (λ (n : ℕ). take n (slice_set alarms place alarm ++ drop (length (slice_set alarms place alarm)) alarms)) (sym (length-set alarms place alarm))
     ∙ take-append_seam (slice_set alarms place alarm) (drop (length (slice_set alarms place alarm)) alarms)
 
--- what holds of the new alarm holds at each place where it held before
+-- what holds of the new alarm still holds at each place where it held before
 pub set-keeps : (P : Alarm → Type 0) (alarms : List Alarm) (place : ℕ) (alarm : Alarm) → place < length alarms → P alarm → (n : ℕ) → P (get_or alarms n unset) → P (get_or (slice_set alarms place alarm) n unset)
 set-keeps P alarms place alarm known here n before = by (nat_eq n place) refl
   where
@@ -47,7 +47,7 @@ set-keeps P alarms place alarm known here n before = by (nat_eq n place) refl
     by true e = rw (eqb-true n place e, get_or-set_same alarms place alarm unset known) here
     by false e = rw (get_or-set_other alarms place n alarm unset (λ same. false≢true (sym e ∙ eq-eqb n place same))) before
 
--- ---- what a count leaves, of a core's clocks
+-- ---- a core's clocks after a count
 
 pub counted-is : (core : Core) (c : CounterRef) (t s : ClockState) (counter : Counter) (list : List AlarmRef) (counters : List Counter) (alarms : List Alarm) → t ≡ s → AreClocks core s → is_own_object core (counter_object c) ≡ true
     → counter ≡ counter_in c s → list ≡ get_or t.attached c.index [] → counters ≡ slice_set t.counters c.index (advanced counter) → alarms ≡ all_beyond counter list t.alarms

@@ -50,7 +50,7 @@ alarm-inside core s a clocks own = omega (arith, alarms-length core s clocks, ow
 pub counter-few : (core : Core) (s : ClockState) (c : CounterRef) → AreClocks core s → is_own_object core (counter_object c) ≡ true → c.index < COUNTERS
 counter-few core s c clocks own = omega (arith, (counter-place core c own).inside, (clock-parts core clocks.within).counters)
 
--- which of them are the counter's own
+-- the list that is kept for a counter has the alarms that are attached to it
 pub list-at : (core : Core) (s : ClockState) (c : CounterRef) → AreClocks core s → is_own_object core (counter_object c) ≡ true → get_or s.attached c.index [] ≡ attached_to core c
 list-at core s c clocks own =
     ap (λ (t : ClockState). get_or t.attached c.index []) clocks.is ∙ own-list core.id (alarm_family core) (length core.counters) c (counter-place core c own)
@@ -102,11 +102,11 @@ alarm-within core s a clocks own =
     by None = tt
     by (Some x) = bounded-at (max_of core x.counter) (counts_of x.counter clocks.history) (alarm_of x.counter a clocks.history)
 
--- a counter whose value is one of its own stands for so many counts
+-- a counter whose value is at most its greatest is the counter after that many counts
 pub counter-stands : (counter : Counter) → counter.value ≤ counter.max → counter ≡ counter_at counter.max counter.value
 counter-stands counter value = ap (λ v. let k : Counter = record { max = counter.max; value = v } in k) (sym (mod-eq_of_lt (omega (arith, value))))
 
--- what a count and a look-up of those that are due ask of the counter's own alarms
+-- what a count and a query of the due alarms require of the counter's own alarms
 pub attached-inside : (core : Core) (c : CounterRef) (t s : ClockState) (list : List AlarmRef) → t ≡ s → AreClocks core s → is_own_object core (counter_object c) ≡ true → list ≡ get_or t.attached c.index []
     → All (λ (a : AlarmRef). a.index < length t.alarms) list
 attached-inside core c t s list same clocks own own_list =
@@ -122,7 +122,7 @@ attached-bounded core c t s counter list same clocks own value own_list =
     (attached-all core c (λ (a : AlarmRef). IsBounded counter.max (alarm_in a s))
     (λ a on. subst (λ (m : ℕ). IsBounded m (alarm_in a s)) (attached-max core c a on ∙ sym (ap (λ (k : Counter). k.max) value ∙ (counter-within core s c clocks own).max)) (alarm-within core s a clocks (attached-own core c a on)))))
 
--- and of a look-up of how much is left
+-- what a query of the counts that are left requires of the alarm
 pub value-within : (max : ℕ) (alarm : Alarm) → IsBounded max alarm → IfSome alarm.expiry (λ x. x.value ≤ max)
 value-within max alarm bounded = by alarm.expiry bounded
   where

@@ -1,4 +1,4 @@
--- What an entry does to the state is what it does to what is read off the history.
+-- An entry changes the state of the clocks as it changes what is read off the history.
 use Rattle.std.proofs.Common.{◌≡◌, ℕ, suc, ◌<◌, ◌%◌, Bool, true, false, cond, ◌&&◌, Option, Some, None, is_some, option_map, List, ◌∷◌, length, refl, ap, sym, ◌∙◌, arith}
 use Rattle.std.specs.{List.slice_set, Option.option_map_or}
 use Rattle.std.proofs.{Math.Nat.mod-add-mod, lemmas.Bool.cond-false, lemmas.Bool.cond-true, lemmas.Bool.false≢true}
@@ -17,7 +17,7 @@ use Rattle.oscount.proofs.Expiries.{beyond, counted as next}
 use Rattle.osclock.specs.Clocks.{ClockState, alarm_by, alarm_family, alarm_in, alarm_ref, all_passed, clocks_by, clocks_of, counted, counter_by, counter_for, counter_in, counter_ref, due_after, is_attached, max_of, no_counter, unset, with_alarm}
 use Rattle.osclock.proofs.Places.{alarm-some, placed}
 
--- ---- what stands at an own object's place
+-- ---- what is at an own object's place
 
 pub counter-at : (core : Core) (c : CounterRef) (h : History) → is_own_object core (counter_object c) ≡ true → counter_in c (clocks_of core h) ≡ counter_by core c h
 counter-at core c h own =
@@ -94,7 +94,7 @@ count-on core c h own = both (counters-on core c h own) (alarms-on core c h own)
 
 -- ---- an alarm that is set or cancelled
 
--- seen from the counter's value, an alarm is due at the same value
+-- an alarm is the same for the counter's value as for its counts
 seen : (max count : ℕ) (x : AlarmSetting) → alarm_at max (count % suc max) (Some x) ≡ alarm_at max count (Some x)
 seen max count x =
     ap (λ n. let alarm : Alarm = record { expiry = cond (is_in_turn max x && will_be_due x) (Some (record { value = n; cycle = x.cycle })) None } in alarm) (mod-add-mod count (suc max) (counts_left x))
@@ -121,7 +121,7 @@ cancelled-other core a b h apart =
 
 -- ---- each entry
 
--- a count of what is not the core's own
+-- a count of a counter that is not the core's own
 count-off : (core : Core) (c : CounterRef) (h : History) → are_clocks_within core ≡ true → is_own_object core (counter_object c) ≡ false → clocks_of core h ≡ clocks_of core (Noted (CounterIncremented c) ∷ h)
 count-off core c h within other =
     both
@@ -163,7 +163,7 @@ cancel-after core a h = by (is_own_object core (alarm_object a)) refl
     by true own = both refl (one-changed (placed core) (λ b. alarm_by core b h) (λ b. alarm_by core b (Noted (AlarmCancelled a) ∷ h)) a unset own (cancelled-here core a h (own_alarm core a)) others) refl
     by false other = both refl (none-changed (placed core) (λ b. alarm_by core b h) (λ b. alarm_by core b (Noted (AlarmCancelled a) ∷ h)) a other others) refl
 
--- What is read off a longer history is what its newest entry does to what was read.
+-- The clocks of a longer history are those of the history, changed by the newest entry.
 pub after : (core : Core) (e : Entry) (h : History) → are_clocks_within core ≡ true → clocks_by core e (clocks_of core h) ≡ clocks_of core (e ∷ h)
 after core (Noted (CounterIncremented c)) h within = count-after core c h within
 after core (Noted (AlarmSet a first cycle)) h within = set-after core a first cycle h within

@@ -7,7 +7,7 @@ pub use Rattle.osplan.proofs.Counters.{counter-own}
 use Rattle.osattached.proofs.Own.{Placed, own-is, own-some, own-there}
 use Rattle.osclock.specs.Clocks.{alarm_family, alarm_ref}
 
--- They are all of the core's objects of their kind.
+-- The family of alarms has all of the core's alarms, by their places.
 abbrev pub placed : (core : Core) → Placed core.id (length core.counters) (alarm_family core)
 placed core = record { place = alarm_place; plans = core.alarms; ref = (λ a is. ap alarm_of is); at = (λ n. refl); own = (λ a. refl); all = refl }
 

@@ -6,7 +6,7 @@ use Rattle.osplan.specs.declared.plans.Core.{Core}
 use Rattle.osattached.proofs.Members.{portions}
 use Rattle.osclock.specs.Clocks.{alarm_family, alarm_refs, attached_to, counter_ref}
 
--- how many pass is a sum
+-- the number of elements that pass is a sum
 passing : {A : Type 0} (p : A → Bool) (xs : List A) → length (filter p xs) ≡ sum_by (λ (x : A). cond (p x) 1 0) xs
 passing p [] = refl
 passing {A} p (x ∷ xs) = by (p x) (passing p xs) ∙ sym (sum_by-cons (λ (y : A). cond (p y) 1 0) x xs)
@@ -15,7 +15,7 @@ passing {A} p (x ∷ xs) = by (p x) (passing p xs) ∙ sym (sum_by-cons (λ (y :
     by true rest = omega (arith, rest)
     by false rest = omega (arith, rest)
 
--- The alarms of the counters that pass a test are at most those of the core that do.
+-- The alarms that pass a test, added up over the counters, are at most all of the core's that pass it.
 pub attached-portions : (core : Core) (p : AlarmRef → Bool) (count : ℕ) → sum_by (λ (n : ℕ). length (filter p (attached_to core (counter_ref core n)))) (numbers_from 0 count) ≤ length (filter p (alarm_refs core))
 attached-portions core p count =
     omega (

@@ -16,11 +16,11 @@ use Rattle.osclock.proofs.Bounds.{counter-few, counter-inside, list-at, lists-le
 
 -- ---- one alarm
 
--- a count takes at most one off the counts that lead to an alarm, over the turn too
+-- a count lowers the counts until an alarm is due by at most one, also from one turn to the next
 fewer : (counter : Counter) (x : Expiry) → counts_until counter x ≤ suc (counts_until (advanced counter) x)
 fewer counter x = grind (arith, nat_tests)
 
--- and it is one that leads to the next value
+-- if an alarm is due at the next value, at most one count leads to it
 next-one : (counter : Counter) (x : Expiry) → x.value ≡ (advanced counter).value → counts_until counter x ≤ 1
 next-one counter x is = grind (arith, nat_tests)
 
@@ -71,7 +71,7 @@ none-passed alarms counts counter [] some quiet = refl
 none-passed alarms counts counter (a ∷ list) some quiet =
     rw (not-passed counts counter (get_or alarms a.index unset) some (All-head (IsQuietIn alarms counts counter) a list quiet), set-get_or alarms a.index unset) (none-passed alarms counts counter list some (All-tail (IsQuietIn alarms counts counter) a list quiet))
 
--- one alarm more is taken beyond the counter's value
+-- one more alarm moves on by one count
 pub quiet-more : (alarms : List Alarm) (counts more : ℕ) (counter : Counter) (list : List AlarmRef) (i : ℕ) (none : AlarmRef) (alarm : Alarm) → i < length list → (get_or list i none).index < length alarms → All (IsQuietIn alarms counts counter) (take i list) → IsQuiet more counter alarm
     → All (IsQuietIn (slice_set alarms (get_or list i none).index alarm) (min counts more) counter) (take (i + 1) list)
 quiet-more alarms counts more counter list i none alarm inside known before quiet =
@@ -90,7 +90,7 @@ quiet-more alarms counts more counter list i none alarm inside known before quie
 
 -- ---- all alarms
 
--- a counter's value and its number change, and the alarms of the other counters stay as they were
+-- a counter's value and its quiet counts change, and the alarms of the other counters stay the same
 quiet-set : (quiet : List ℕ) (t : ClockState) (place counts : ℕ) (counter : Counter) (counters : List Counter) (alarms : List Alarm) → AreQuiet quiet t → place < length quiet → place < length t.counters → counters ≡ slice_set t.counters place counter
     → ((n : ℕ) → (n ≡ place → ⊥) → All (λ (a : AlarmRef). get_or alarms a.index unset ≡ alarm_in a t) (get_or t.attached n [])) → All (IsQuietIn alarms counts counter) (get_or t.attached place [])
     → AreQuiet (slice_set quiet place counts) (record { counters = counters; alarms = alarms; attached = t.attached })
@@ -102,7 +102,7 @@ quiet-set quiet t place counts counter counters alarms was inside known on other
         let other : n ≡ place → ⊥ = λ same. false≢true (sym e ∙ eq-eqb n place same) in
         rw (on, get_or-set_other quiet place n counts 0 other, get_or-set_other t.counters place n counter no_counter other) (λ k d within. rw (others n other k d within) (was.at n k d within))
 
--- a count of an own counter, which takes the clocks from s, as their fields t have them
+-- a count of an own counter: `s` are the clocks before it, and `t` are their fields
 module _ (core : Core) (c : CounterRef) (t s : ClockState) (same : t ≡ s) (clocks : AreClocks core s) (own : is_own_object core (counter_object c) ≡ true) (quiet : List ℕ) (all : length quiet ≡ COUNTERS) (was : AreQuiet quiet t) where
   abbrev counted : Entry
   counted = Noted (CounterIncremented c)
@@ -119,14 +119,14 @@ module _ (core : Core) (c : CounterRef) (t s : ClockState) (same : t ≡ s) (clo
   known : c.index < length t.counters
   known = subst (λ (u : ClockState). c.index < length u.counters) (sym same) (counter-inside core s c clocks own)
 
-  -- while none is due, no alarm changes
+  -- if the counter has quiet counts left, the count changes no alarm
   pub quiet-counted : (counter : Counter) (counters : List Counter) → counter ≡ counter_in c s → counters ≡ slice_set t.counters c.index (advanced counter) → 0 < number
       → (let u : ClockState = record { counters = counters; alarms = t.alarms; attached = t.attached } in u) ≡ clocks_by core counted s
   quiet-counted counter counters value on some =
       counted-is core c t s counter (get_or t.attached c.index []) counters t.alarms same clocks own value refl on
       (rw (value ∙ sym (ap (counter_in c) same)) (none-passed t.alarms number before (get_or t.attached c.index []) some (was.at c.index)))
 
-  -- and the number goes down by one
+  -- then its quiet counts go down by one
   pub quiet-on : (counter : Counter) (counters : List Counter) → counter ≡ counter_in c s → counters ≡ slice_set t.counters c.index (advanced counter)
       → AreQuiet (slice_set quiet c.index (number - 1)) (record { counters = counters; alarms = t.alarms; attached = t.attached })
   quiet-on counter counters value on =
@@ -155,7 +155,7 @@ module _ (core : Core) (c : CounterRef) (t s : ClockState) (same : t ≡ s) (clo
       by true e = All-same IsKept (get_or s.attached n []) (attached_to core d) (list-at core s d clocks (counter-own core n (ltb-true n (length core.counters) e))) (attached-all core d IsKept each)
       by false e = All-same IsKept (get_or s.attached n []) [] (get_or_past s.attached n [] (omega (arith, ltb-false n (length core.counters) e, lists-length core s clocks))) (All-nil IsKept)
 
-  -- so a number that is right for the counter's own is right for all
+  -- so quiet counts that are right for the counter's own alarms are right for all
   pub quiet-anew : (counts : ℕ) (counter : Counter) (counters : List Counter) (alarms : List Alarm) → counters ≡ slice_set t.counters c.index counter → (let u : ClockState = record { counters = counters; alarms = alarms; attached = t.attached } in u) ≡ clocks_by core counted s
       → All (IsQuietIn alarms counts counter) (get_or t.attached c.index []) → AreQuiet (slice_set quiet c.index counts) (record { counters = counters; alarms = alarms; attached = t.attached })
   quiet-anew counts counter counters alarms on is here = quiet-set quiet t c.index counts counter counters alarms was inside known on (others-kept _ is) here

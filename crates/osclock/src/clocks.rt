@@ -24,7 +24,7 @@ pub struct Clocks {
     counters: ArrayVec<Counter, COUNTERS>,
     alarms: ArrayVec<Alarm, ALARMS>,
     attached: Attached<AlarmRef, ALARMS>,
-    // For so many counts of each counter none of its alarms is due, so that nobody looks at them until then.
+    // For each counter, how many counts come before the next at which one of its alarms can be due.
     quiet: [u32; COUNTERS],
 }
 
@@ -39,7 +39,7 @@ impl Model for Clocks {
 }
 
 impl Clocks {
-    /// No counter was advanced yet, and no alarm set.
+    /// No counter has been advanced yet, and no alarm is set.
     pub fn new(core: &Core) -> Self
         requires { IsTrue (are_clocks_within core.now) }
         ensures { result ≡ clocks_of core.now [] }
@@ -52,8 +52,8 @@ impl Clocks {
         }
     }
 
-    /// A counter of the core is incremented. Each of its alarms that expires by that expires again a cycle later, or is
-    /// no longer in use (OSEK/VDX OS 2.2.3, section 9.1 and 9.2).
+    /// Increments a counter of the core. Each of its alarms that expires at this count is due again a cycle later or,
+    /// without a cycle, is no longer in use (OSEK/VDX OS 2.2.3, section 9.1 and 9.2).
     pub fn count(&mut self, core: &Core, counter: CounterRef)
         requires { AreClocksWith core.now (counter_object counter) self.old }
         ensures { self.new ≡ clocks_by core.now (Noted (CounterIncremented counter)) self.old }
@@ -72,8 +72,8 @@ impl Clocks {
         }
     }
 
-    /// An alarm of the core is due after so many counts of its counter, at most a full turn, and again after each cycle
-    /// (OSEK/VDX OS 2.2.3, section 13.6.3.3 and 13.6.3.4).
+    /// An alarm of the core is due after `first` counts of its counter, at most a full turn. It is due again after each
+    /// cycle, unless `cycle` is 0 (OSEK/VDX OS 2.2.3, section 13.6.3.3 and 13.6.3.4).
     pub fn set_alarm(&mut self, core: &Core, alarm: AlarmRef, first: u32, cycle: u32)
         requires clocks { AreClocksWith core.now (alarm_object alarm) self.old }
         requires granted { IsTrue (is_in_turn (max_for core.now alarm) (setting_of first cycle)) }
@@ -81,7 +81,7 @@ impl Clocks {
     {
         let due = due_after(self.counter_for(core, alarm), first, cycle);
         set_alarm(&mut self.alarms, alarm, due);
-        // It may be due before the others, so the next count of a counter looks at its alarms again.
+        // The alarm may be due before the others, so the next count of a counter looks at its alarms again.
         self.quiet = [0; COUNTERS];
     }
 
@@ -118,7 +118,7 @@ impl Clocks {
         self.alarm(alarm).left(self.counter_for(core, alarm))
     }
 
-    /// After how many counts the counter of an alarm of the core has this value; the value that it has is a full turn away
+    /// After how many counts the counter of an alarm of the core has this value; its present value is a full turn away
     /// (OSEK/VDX OS 2.2.3, section 13.6.3.4).
     pub fn counts_to(&self, core: &Core, alarm: AlarmRef, start: u32) -> u32
         requires clocks { AreClocksWith core.now (alarm_object alarm) self.now }
@@ -129,8 +129,8 @@ impl Clocks {
         oscount::counts_to(self.counter_for(core, alarm), start)
     }
 
-    /// After how many counts a counter of the core has this value; the value that it has is a full turn away (AUTOSAR SWS
-    /// OS 4.x, SWS_Os_00351).
+    /// After how many counts a counter of the core has this value; its
+    /// present value is a full turn away (AUTOSAR SWS OS 4.x, SWS_Os_00351).
     pub fn counts_to_value(&self, core: &Core, counter: CounterRef, start: u32) -> u32
         requires clocks { AreClocksWith core.now (counter_object counter) self.now }
         requires turn { start ≤ max_of core.now counter }
@@ -204,6 +204,7 @@ fn new_alarms(count: usize) -> ArrayVec<Alarm, ALARMS>
     alarms
 }
 
+// The alarms of each counter of the core, in index order.
 fn new_attached(core: &Core) -> Attached<AlarmRef, ALARMS>
     requires { IsTrue (are_clocks_within core.now) }
     ensures { result ≡ each_by core.now (alarm_family core.now) (alarm_refs core.now) }
@@ -212,7 +213,7 @@ fn new_attached(core: &Core) -> Attached<AlarmRef, ALARMS>
     Attached::new(counters, core.alarms.len(), |index| object_at(core, index))
 }
 
-// The counter of the alarm of this index, and its reference.
+// The core's alarm of this index: its counter, and a reference to the alarm.
 fn object_at(core: &Core, index: usize) -> (CounterRef, AlarmRef)
     requires within { IsTrue (are_clocks_within core.now) }
     requires inside { index < length core.now.alarms }
@@ -231,8 +232,8 @@ fn set_counter(counters: &mut ArrayVec<Counter, COUNTERS>, counter: CounterRef, 
     counters.as_mut_slice()[usize::from(counter.index)] = value;
 }
 
-// Takes each of a counter's alarms beyond its value, and finds for how many counts none of them is due then. A function of
-// its own has registers for all that this loop needs.
+// Moves each of a counter's alarms on by one count, and returns for how many more counts none of them is due. It is a
+// separate function so that this loop has enough registers.
 #[inline(never)]
 fn pass_alarms(
     alarms: &mut ArrayVec<Alarm, ALARMS>,
@@ -255,7 +256,7 @@ fn pass_alarms(
     quiet
 }
 
-// For how many counts of its counter an alarm is not due.
+// For how many further counts of its counter an alarm is not due; `u32::MAX` if it is not in use.
 fn counts_before(alarm: Alarm, counter: Counter) -> u32
     requires counter { IsCounter counter }
     requires bounded { IsBounded counter.max alarm }
@@ -283,7 +284,8 @@ fn due_alarms(alarms: &[Alarm], attached: &[AlarmRef], counter: Counter) -> Alar
     due
 }
 
-// An alarm that is due after so many counts from the counter's value.
+// An alarm that is due `first` counts after the counter's present value, and again after each cycle, unless `cycle` is
+// 0.
 fn due_after(counter: Counter, first: u32, cycle: u32) -> Alarm
     requires counter { IsCounter counter }
     requires granted { IsTrue (is_in_turn counter.max (setting_of first cycle)) }

@@ -1,5 +1,5 @@
--- What the words of a command line give, where no word has a fault: what is found of an argument has a first value, which an argument of
--- its id takes.
+-- What the words of a command line give, if no word has a fault. If an argument is found, it has a first value, and a
+-- rule with the argument's id takes that value.
 use Rattle.std.proofs.Common.{◌≡◌, ◌∙◌, ◌&&◌, ◌||◌, ℕ, zero, suc, Bool, cond, not, true, false, true≢false, refl, sym, subst, arith, codes, get_or, nat_lt, List, [], ◌∷◌, ◌++◌, drop, length, Option, Some, None, is_some}
 use Rattle.std.proofs.lemmas.Bool.{and_from, and_parts, cond_both, false≢true, ne_eqb, true_from_ne_false}
 use Rattle.std.proofs.{lemmas.List.Elements.recursion_from_All, lemmas.List.Folds.Any-from_list_any, lemmas.List.Folds.list_any_at, lemmas.List.Sums.AllPass-from_list_all, lemmas.Slice.Eq.bytes_eq-Decides}
@@ -14,12 +14,12 @@ use Rattle.clap.specs.Walk.{Held, Names, Outcome, Row, Rule, Step, Text, Waiting
 some_kind : (k : ErrorKind) (ks : Kinds) → k ∷ ks ≡ [] → ⊥
 some_kind k ks e = cc
 
--- neither step has a fault
+-- if two steps together have no fault, neither step has one
 none_of_both : (a b : Kinds) → or_else a b ≡ [] → (a ≡ []) × (b ≡ [])
 none_of_both [] b e = (refl, e)
 none_of_both (k ∷ ks) b e = absurd (some_kind k ks e)
 
--- the step that a test chooses has none
+-- if the step that a test chooses has no fault, its result has the property
 cond_fault : {X : Type 0} (P : X → Type 0) (b : Bool) (x y : X) (ks js : Kinds) → (ks ≡ [] → P x) → (js ≡ [] → P y) → cond b ks js ≡ [] → P (cond b x y)
 cond_fault P true x y ks js f g e = f e
 cond_fault P false x y ks js f g e = g e
@@ -60,7 +60,7 @@ module _ (rules : List Rule) where
       cond_both (bytes_eq r.id id) (more_values source values r ++ rs) (r ∷ with_values id how source values rs) RowsFit
       (λ _. (first_stays r.id r.values values h.0, h.1)) (λ _. (h.0, values_fit id how source values rs new h.1))
 
-  -- what is found of an id has its first value, and one that was given is found
+  -- if an id has a first value, a rule takes that value; an id that was given has a first value
   abbrev HasFirst : Text → Option Row → Type 0
   HasFirst id o =
       IfSome (option_and_then (λ (r : Row). slice_get r.values 0) o) (Taken id)
@@ -120,7 +120,7 @@ module _ (rules : List Rule) where
   given_or_missing a [] some = some
   given_or_missing a (v ∷ vs) some = refl
 
-  -- a use with no fault keeps them
+  -- rows that fit still fit after a use with no fault
   use_fits : (again : Bool) (a : Rule) → Filled a → (values : List Text) (rows : List Row) → use_fault again a values rows ≡ [] → RowsFit rows → RowsFit (used a values rows)
   use_fits again a fills values rows e h = by (action_of a) fills.leaves both.1
     where
@@ -140,7 +140,7 @@ module _ (rules : List Rule) where
       by Version leaves e = h
       by other leaves e = absurd (false≢true leaves)
 
-  -- and so do the values that an argument has where it is not used
+  -- rows that fit still fit after an unused argument gets its default values
   default_fits : (a : Rule) → Filled a → (rows : List Row) → default_fault rows a ≡ [] → RowsFit rows → RowsFit (with_default rows a)
   default_fits a fills rows e h = by (has_row a.id rows) a.defaults e
     where
@@ -283,7 +283,7 @@ module _ (s : Shape) (all : AllByRecursion (Filled s.rules) s.rules) where
   met_word names true waiting position word h e fit = fit
   met_word names false waiting position word h e fit = other_met (subcommand_met names waiting word) waiting position word h e fit
 
-  -- ---- where the walk stands after it
+  -- ---- the state of the walk after a word
 
   abbrev Well : Walk → Type 0
   Well w = Fit w.held × Stops s w.stopped
@@ -333,7 +333,7 @@ no_check false true d e = absurd (some_kind _ _ e)
 no_check false false true e = absurd (some_kind _ _ e)
 no_check false false false e = (refl, refl)
 
--- the rows fit, and all that the checks at the end want is there
+-- the rows fit, and all that the checks at the end require is present
 record LevelFits (s : Shape) (names : Names) (words : List Text) (has_subcommand : Bool) (below : Kinds) : Type 0 where
   rows : RowsFit s.rules (rows_after s.rules names words)
   stops : Stops s (stop_after s.rules names words)
@@ -363,11 +363,11 @@ module _ (id : Text) (s : Shape) (words : List Text) (e : level_fault s [] nothi
   fits : LevelFits s [] words false []
   fits = level_fits s fills [] words false [] e
 
-  -- an id that may be left out has its first value where it is given
+  -- if an id that may be left out is given, it has its first value
   pub leaf_any : IfSome (first_of id (rows_after s.rules [] words)) (Taken s.rules id)
   leaf_any = (has_first s.rules id (rows_after s.rules [] words) fits.rows).0
 
-  -- one that is required has it
+  -- an id that is required has its first value
   pub leaf_first : list_any (λ (a : Rule). a.required && bytes_eq a.id id) s.rules ≡ true → IsSomeAnd (first_of id (rows_after s.rules [] words)) (Taken s.rules id)
   leaf_first required = (has_first s.rules id (rows_after s.rules [] words) fits.rows).1 (true_from_ne_false _ (λ none.
       let one = Any-from_list_any _ s.rules required in
@@ -383,7 +383,7 @@ module _ (id : Text) (s : Shape) (words : List Text) (e : level_fault s [] nothi
 -- ---- a command with subcommands
 
 module _ (P : Text × List Row → Type 0) where
-  -- what the subcommand gives, where a word other than `help` names it
+  -- if a word other than `help` names the subcommand and its words have no fault, its rows have the property `P`
   abbrev pub LeafGives : Shape → Type 0
   LeafGives s = (name : Text) → bytes_eq name (codes "help") ≡ false → answers_to name (label_of s) ≡ true → (words : List Text) → level_fault s [] nothing_held words false [] ≡ []
       → P (rows_at s words)

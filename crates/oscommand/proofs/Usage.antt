@@ -12,14 +12,14 @@ use Rattle.oscommand.specs.declared.jobs.TheConstants.{MOST_TURNS}
 use Rattle.oscommand.specs.Entries.{AreChecked, HasConfig, HasConfigAndCore, HasReplay, HasRun, HasThreads}
 use Rattle.oscommand.proofs.{Parsed.LeafGives, Parsed.leaf_any, Parsed.leaf_first, Parsed.subcommand_gives}
 
--- the last of some tests is the only one
+-- a disjunction with `false` holds only if its first part holds
 alone : (b : Bool) → (b || false) ≡ true → b ≡ true
 alone true e = refl
 alone false e = e
 
 -- ---- the kinds of mail
 
--- the value of a parser of these names is one of them
+-- a text equals one of the borrowed names exactly if it equals one of their texts
 named : (names : List (Bor Text)) (text : Text)
     → list_any (λ (name : Bor Text). same_text false name.now text) names ≡ list_any (λ t. bytes_eq t text) (map (λ (name : Bor Text). name.now) names)
 named [] text = refl
@@ -39,7 +39,7 @@ names_kind kinds are text e = one_of_two text _ _ refl refl (ap (list_any (λ t.
 abbrev IsAccepted : Shape → List Text → Type 0
 IsAccepted leaf words = level_fault leaf [] nothing_held words false [] ≡ []
 
--- a text that is there is a text
+-- if some text passes, there is a text
 is_there : (P : Text → Type 0) (o : Option Text) → IsSomeAnd o P → IsSome o
 is_there P None h = absurd h
 is_there P (Some v) h = refl
@@ -52,7 +52,7 @@ strengthened : {P Q : Text → Type 0} → ((v : Text) → P v → Q v) → (o :
 strengthened f None h = absurd h
 strengthened f (Some v) h = f v h
 
--- a text that such a parser takes is a number of the range
+-- a text that a parser of unsigned numbers takes is a number in the parser's range
 in_range : (low high : _) (text : Text) → (accepts false (Unsigned low high) text || false) ≡ true → IsUnsignedIn low high text
 in_range low high text e = accepts-Accepts false (Unsigned low high) text (alone _ e)
 

@@ -13,7 +13,7 @@ config_path (Group config core) = config.now
 config_path (Replay config core log) = config.now
 config_path (Threads config stimuli turns mail print) = config.now
 
--- The stimuli of a run, or the log of a replay.
+-- The path of the stimuli of `run` and `threads`, or of the log of `replay`. Other jobs have none.
 abbrev pub stimuli_path : Job → Option (List ℕ)
 stimuli_path (Run config stimuli schedule items) = Some stimuli.now
 stimuli_path (Check config) = None
@@ -23,9 +23,11 @@ stimuli_path (Group config core) = None
 stimuli_path (Replay config core log) = Some log.now
 stimuli_path (Threads config stimuli turns mail print) = Some stimuli.now
 
+-- The text of a borrowed path, if there is one.
 abbrev pub path_in : Option (Bor (List ℕ)) → Option (List ℕ)
 path_in path = option_map (λ (p : Bor (List ℕ)). p.now) path
 
+-- The path of the schedule of `run`, if one is given. Other jobs have none.
 abbrev pub schedule_path : Job → Option (List ℕ)
 schedule_path (Run config stimuli schedule items) = path_in schedule
 schedule_path (Check config) = None
@@ -35,11 +37,11 @@ schedule_path (Group config core) = None
 schedule_path (Replay config core log) = None
 schedule_path (Threads config stimuli turns mail print) = None
 
--- A path that is there.
+-- The list of the path alone, or the empty list if there is no path.
 abbrev pub listed : Option (List ℕ) → List (List ℕ)
 listed None = []
 listed (Some path) = path ∷ []
 
--- The files in the order in which they are read and judged.
+-- The paths of the job's files, in the order in which the files are read and judged.
 abbrev pub paths_of : Job → List (List ℕ)
 paths_of job = config_path job ∷ (listed (stimuli_path job) ++ listed (schedule_path job))

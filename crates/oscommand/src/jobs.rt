@@ -19,7 +19,7 @@ use std::convert::AsStr;
 /// What `mcos --version` prints behind the name.
 const VERSION: &str = "0.2.0";
 
-/// How many turns in a row may change nothing in a run by threads, where the words do not say it.
+/// How many turns of a core in a row may change nothing, if `--turns` is not given.
 pub const DEFAULT_TURNS: u64 = 1_000_000;
 
 /// The greatest number that `--turns` takes.
@@ -28,7 +28,7 @@ pub const MOST_TURNS: u64 = 1_000_000_000;
 /// The names of the kinds of mail between threads.
 const MAIL_KINDS: &[&str] = &["ring", "locked"];
 
-// As clap's own text.
+// This error has the wording of `clap`'s own errors.
 const ORDER_AND_ITEMS: &str = "the argument '--order' cannot be used with '--items <CORE>'";
 
 const RUN_HELP: &str = "\
@@ -144,8 +144,8 @@ pub enum Job<'a> {
         core: CoreId,
         log: &'a str,
     },
-    /// Runs each core on a thread of its own, and prints what the job names. A core whose turns change nothing so many
-    /// times in a row gives up.
+    /// Runs each core on a thread of its own, and prints what `print` names. A core gives up after `turns` turns in a
+    /// row that change nothing.
     Threads {
         config: &'a str,
         stimuli: &'a str,
@@ -167,7 +167,7 @@ pub enum Print {
 }
 
 impl<'a> Job<'a> {
-    /// The paths of its files, in the order in which they are read and judged.
+    /// The paths of the job's files, in the order in which they are read and judged.
     pub fn paths(&self, alloc: Global) -> Result<Vec<&'a str>, AllocError>
         ensures { IfOk result (λ paths. map (λ path. path.now) paths.items ≡ paths_of self.now) }
     {
@@ -206,8 +206,8 @@ impl<'a> Job<'a> {
     }
 }
 
-/// The job that the words ask for, the program's name first. Usage and help are `clap`'s errors; want
-/// of memory is its `OutOfMemory`.
+/// The job that the words ask for. The first word is the program's name. Wrong usage, help and the version are
+/// errors of `clap`; a failed allocation is its error `OutOfMemory`.
 pub fn job_of<'a, S: AsStr>(alloc: Global, words: &'a [S]) -> Result<Job<'a>, Error>
     ensures job { IfOk result (AsksFor (map S.text words.entry.now)) }
     ensures fault { FailsByWords (map S.text words.entry.now) result }
@@ -219,7 +219,7 @@ pub fn job_of<'a, S: AsStr>(alloc: Global, words: &'a [S]) -> Result<Job<'a>, Er
     }
 }
 
-// The job of the subcommand that is entered; None where two of its entries exclude each other.
+// The job of the subcommand that is entered; `None` if two of its entries exclude each other.
 fn job_in<'a>(matches: &ArgMatches<'a>) -> Option<Job<'a>>
     requires { IsSomeAnd (subcommand_rows_of matches.now) AreChecked }
     ensures { SaysJob (subcommand_rows_of matches.now) result }
@@ -233,7 +233,7 @@ fn job_in<'a>(matches: &ArgMatches<'a>) -> Option<Job<'a>>
     }
 }
 
-// The job of a subcommand other than `threads`, with its entries.
+// The job of a subcommand other than `threads`, made from the subcommand's entries.
 fn job_named<'a>(name: &str, entries: &ArgMatches<'a>) -> Job<'a>
     requires checked { AreChecked (name.now, rows_of (found_of entries.now)) }
     requires other { bytes_eq name.now (codes "threads") ≡ false }
@@ -268,7 +268,7 @@ fn job_named<'a>(name: &str, entries: &ArgMatches<'a>) -> Job<'a>
     }
 }
 
-// The core of a number that a byte can hold.
+// The core whose number the word says. The number fits in a byte.
 fn core_in(word: &str) -> CoreId
     requires { IsUnsignedIn 0 255 word.now }
     ensures { result.number ≡ digits_value 10 (without_leading_plus word.now) }
@@ -279,14 +279,14 @@ fn core_in(word: &str) -> CoreId
     CoreId { number }
 }
 
-// The text of an argument, if that is there.
+// The text of the argument with this name, if it is given.
 fn entry_of<'a>(entries: &ArgMatches<'a>, id: &'static str) -> Option<&'a str>
     ensures { option_map (λ text. text.now) result ≡ first_of id.now (rows_of (found_of entries.now)) }
 {
     entries.get_str(id)
 }
 
-// The text of a required argument.
+// The text of the required argument with this name.
 fn text_in<'a>(entries: &ArgMatches<'a>, id: &'static str) -> &'a str
     requires { IsSome (first_of id.now (rows_of (found_of entries.now))) }
     ensures { first_of id.now (rows_of (found_of entries.now)) ≡ Some result.now }
@@ -313,7 +313,7 @@ fn stimuli_of<'a>(entries: &ArgMatches<'a>) -> &'a str
     text_in(entries, "STIM")
 }
 
-// The core of a required argument.
+// The core that the required argument `CORE` names.
 fn core_of(entries: &ArgMatches) -> CoreId
     requires { IsSomeAnd (first_of (codes "CORE") (rows_of (found_of entries.now))) (IsUnsignedIn 0 255) }
     ensures { SaysNumber (first_of (codes "CORE") (rows_of (found_of entries.now))) result.number }
@@ -321,18 +321,18 @@ fn core_of(entries: &ArgMatches) -> CoreId
     core_in(text_in(entries, "CORE"))
 }
 
-// The core of `--items`, if that is there.
-fn items_core(run: &ArgMatches) -> Option<CoreId>
-    requires { IfSome (first_of (codes "items") (rows_of (found_of run.now))) (IsUnsignedIn 0 255) }
-    ensures { SaysCore (first_of (codes "items") (rows_of (found_of run.now))) result }
+// The core that `--items` names, if it is given.
+fn items_core(entries: &ArgMatches) -> Option<CoreId>
+    requires { IfSome (first_of (codes "items") (rows_of (found_of entries.now))) (IsUnsignedIn 0 255) }
+    ensures { SaysCore (first_of (codes "items") (rows_of (found_of entries.now))) result }
 {
-    match entry_of(run, "items") {
+    match entry_of(entries, "items") {
         Some(core) => Some(core_in(core)),
         None => None,
     }
 }
 
-// The error of `--order` beside `--items`.
+// The error that `--order` is given beside `--items`.
 fn conflict(alloc: Global) -> Result<Error, AllocError>
     ensures { IfOk result (λ error. kind_of error ≡ ArgumentConflict) }
 {
@@ -341,7 +341,7 @@ fn conflict(alloc: Global) -> Result<Error, AllocError>
         .error(ErrorKind::ArgumentConflict, ORDER_AND_ITEMS)
 }
 
-// The job of `threads`; None where two of its entries exclude each other.
+// The job of `threads`; `None` if two of its entries exclude each other.
 fn threads_job<'a>(threads: &ArgMatches<'a>) -> Option<Job<'a>>
     requires { HasThreads (rows_of (found_of threads.now)) }
     ensures entries { IfSome result (λ job. HasEntries (rows_of (found_of threads.now)) job × (subcommand_name job ≡ codes "threads")) }
@@ -359,7 +359,7 @@ fn threads_job<'a>(threads: &ArgMatches<'a>) -> Option<Job<'a>>
     }
 }
 
-// What `--items` and `--order` ask for; None where both are there.
+// What `--items` and `--order` ask for; `None` if both are given.
 fn print_of(threads: &ArgMatches) -> Option<Print>
     requires { IfSome (first_of (codes "items") (rows_of (found_of threads.now))) (IsUnsignedIn 0 255) }
     ensures says { IfSome result (SaysPrint (rows_of (found_of threads.now))) }
@@ -373,7 +373,7 @@ fn print_of(threads: &ArgMatches) -> Option<Print>
     }
 }
 
-// Whether `--order` is there: its text is `true` then, and else `false`.
+// Whether `--order` is given. The argument's text is `true` if it is given, and `false` otherwise.
 fn has_order(threads: &ArgMatches) -> bool
     ensures { result ≡ is_set (first_of (codes "order") (rows_of (found_of threads.now))) }
 {
@@ -394,6 +394,7 @@ fn turns_of(threads: &ArgMatches) -> u64
     }
 }
 
+// The number of turns that the word says. The number is in the range of `--turns`.
 fn turns_in(word: &str) -> u64
     requires { IsUnsignedIn 1 MOST_TURNS word.now }
     ensures { result ≡ digits_value 10 (without_leading_plus word.now) }
@@ -404,7 +405,7 @@ fn turns_in(word: &str) -> u64
     turns
 }
 
-// The kind of `--mail`, or else rings.
+// The kind of mail that `--mail` names, or else rings.
 fn mail_of(threads: &ArgMatches) -> MailKind
     requires { IfSome (first_of (codes "mail") (rows_of (found_of threads.now))) IsMailName }
     ensures { SaysMail (first_of (codes "mail") (rows_of (found_of threads.now))) result }
@@ -415,6 +416,7 @@ fn mail_of(threads: &ArgMatches) -> MailKind
     }
 }
 
+// The kind of mail that the word names.
 fn mail_in(word: &str) -> MailKind
     requires { IsMailName word.now }
     ensures { word.now ≡ mail_name result }
@@ -440,7 +442,7 @@ fn command<'a>(alloc: Global, kinds: &'a [&'a str]) -> Result<Command<'a>, Alloc
         .subcommand(threads_command(alloc, kinds)?)
 }
 
-// With the subcommands that read no file but a configuration.
+// Adds the subcommands that read only a configuration.
 fn with_config_commands<'a>(alloc: Global, command: Command<'a>) -> Result<Command<'a>, AllocError>
     ensures { IfOk result (λ new. app_of new ≡ with_config_commands (app_of command.entry)) }
 {
@@ -467,7 +469,7 @@ fn config_command<'a>(
         .arg(config)
 }
 
-// And one that names a core.
+// A subcommand that reads a configuration and names a core.
 fn core_command<'a>(
     alloc: Global,
     name: &'a str,
@@ -489,7 +491,7 @@ fn core_arg<'a>(alloc: Global) -> Arg<'a>
         .help("the core's number")
 }
 
-// An argument that each call names.
+// A required argument.
 fn required_arg<'a>(alloc: Global, name: &'a str, help: &'a str) -> Arg<'a>
     ensures rule { rule_of result ≡ required_rule name.now }
     ensures own { result.global ≡ false }
@@ -497,7 +499,7 @@ fn required_arg<'a>(alloc: Global, name: &'a str, help: &'a str) -> Arg<'a>
     Arg::new(alloc, name).required(true).help(help)
 }
 
-// An option with a value, of the same name.
+// An option that takes a value. The option has the name of the argument.
 fn option_arg<'a>(
     alloc: Global,
     name: &'a str,

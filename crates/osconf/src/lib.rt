@@ -1,6 +1,6 @@
 //! The texts of configurations, stimuli and schedules: reading and writing them.
 //!
-//! This is the one name by which the crates above know the readers and the writer, and a configuration's types.
+//! The crates above use only this crate for the readers, the writer and the types of a configuration.
 #![tactic(auto)]
 
 #[cfg(test)]

@@ -28,8 +28,8 @@ use std::test::Fail;
 const TWO_CORES: &str =
     r#"{"cores":[{"id":0,"start":[1],"tasks":[{"name":"A","prio":1,"auto":["M"],"script":"ActivateTask B;TerminateTask"}]},{"id":1,"tasks":[{"name":"B","prio":1,"script":"TerminateTask"}]}]}"#;
 
-// What a text is read as: a configuration, one that is written, or one of which the core of this number is cut out; stimuli or
-// a schedule of `TWO_CORES`; stimuli of `isrs::TWO_CORES`; or stimuli or a schedule of `given::SECOND`.
+// What a text is read as: a configuration; one that is written again; the core of this number, cut out of one; stimuli
+// or a schedule of `TWO_CORES`; stimuli of `isrs::TWO_CORES`; or stimuli or a schedule of `given::SECOND`.
 #[derive(Clone, Copy)]
 enum Reader {
     Configuration,
@@ -42,7 +42,7 @@ enum Reader {
     SecondSchedule,
 }
 
-// The text with a value in place of its `@`.
+// The text with the value in place of its first `@`.
 fn filled(alloc: Global, text: &str, value: &str) -> Result<String, Fail> {
     let (before, after) = text.split_once('@').ok_or("a place to fill")?;
     let mut filled = String::from_str(alloc, before)?;
@@ -51,57 +51,57 @@ fn filled(alloc: Global, text: &str, value: &str) -> Result<String, Fail> {
     Ok(filled)
 }
 
-// The configuration of the text with a value in place of its `@`.
+// The configuration of the text with the value in place of its first `@`.
 fn configured(alloc: Global, text: &str, value: &str) -> Result<Config, Fail> {
     Ok(read_config(alloc, filled(alloc, text, value)?.as_str())?)
 }
 
-// So many words, each with its index in place of its `@`, if it has one.
-fn listed(alloc: Global, word: &str, between: &str, count: u32) -> Result<String, Fail> {
+// `count` copies of the word, with `separator` between them. If the word has an `@`, each copy has its index there.
+fn listed(alloc: Global, word: &str, separator: &str, count: u32) -> Result<String, Fail> {
     let Some((before, after)) = word.split_once('@') else {
-        return repeated(alloc, word, between, count);
+        return repeated(alloc, word, separator, count);
     };
     let mut all = String::new(alloc);
     for index in 0..count {
-        let between = if index == 0 { "" } else { between };
-        push_word(alloc, &mut all, between, (before, after), index)?;
+        let separator = if index == 0 { "" } else { separator };
+        push_word(alloc, &mut all, separator, (before, after), index)?;
     }
     Ok(all)
 }
 
-// Appends a word, of which `parts` stand before and behind its index.
+// Appends the separator, and then one word: its first part, the index, and its second part.
 fn push_word(
     alloc: Global,
     all: &mut String,
-    between: &str,
+    separator: &str,
     parts: (&str, &str),
     index: u32,
 ) -> Result<(), Fail> {
     let (before, after) = parts;
-    let word = format!(in alloc; "{between}{before}{index}{after}")?;
+    let word = format!(in alloc; "{separator}{before}{index}{after}")?;
     all.push_str(word.as_str())?;
     Ok(())
 }
 
-// So many times the same word.
-fn repeated(alloc: Global, word: &str, between: &str, count: u32) -> Result<String, Fail> {
+// The word `count` times, with `separator` between its copies.
+fn repeated(alloc: Global, word: &str, separator: &str, count: u32) -> Result<String, Fail> {
     let Some(others) = count.checked_sub(1) else {
         return Ok(String::new(alloc));
     };
-    let mut all = repeated_both(alloc, word, between, others)?;
+    let mut all = repeated_both(alloc, word, separator, others)?;
     all.push_str(word)?;
     Ok(all)
 }
 
-// So many times the word and what is behind it.
+// The word with `behind` after it, `count` times.
 fn repeated_both(alloc: Global, word: &str, behind: &str, count: u32) -> Result<String, Fail> {
     let mut both = String::from_str(alloc, word)?;
     both.push_str(behind)?;
     Ok(both.as_str().repeat(alloc, count as usize)?)
 }
 
-// The configuration in which stimuli and turns find their cores and ISRs.
-fn named_in(alloc: Global, reader: Reader) -> Result<Config, Fail> {
+// The configuration that has the cores and ISRs of the reader's stimuli or schedule.
+fn config_for(alloc: Global, reader: Reader) -> Result<Config, Fail> {
     match reader {
         Reader::Interrupts => configured(alloc, isrs::TWO_CORES, ""),
         Reader::SecondStimuli | Reader::SecondSchedule => Ok(read_config(alloc, given::SECOND)?),
@@ -109,6 +109,7 @@ fn named_in(alloc: Global, reader: Reader) -> Result<Config, Fail> {
     }
 }
 
+// The fault with which this reader refuses the text, or none if it reads the text.
 fn fault_of(alloc: Global, reader: Reader, text: &str) -> Result<Option<ConfFault>, Fail> {
     match reader {
         Reader::Configuration | Reader::Written => Ok(read_config(alloc, text).err()),
@@ -120,12 +121,13 @@ fn fault_of(alloc: Global, reader: Reader, text: &str) -> Result<Option<ConfFaul
     }
 }
 
+// The fault of cutting the core out of the text's configuration, or none if that succeeds.
 fn cut_fault(alloc: Global, text: &str, core: CoreId) -> Result<Option<ConfFault>, Fail> {
     let config = read_config(alloc, text)?;
     fault_of_core(alloc, &config, core)
 }
 
-// Why the core is not cut out of the configuration, if it is not.
+// The fault of cutting the core out of the configuration, or none if that succeeds. Checks that `is_separate` agrees.
 fn fault_of_core(alloc: Global, config: &Config, core: CoreId) -> Result<Option<ConfFault>, Fail> {
     let refused = cut(alloc, config, core).err();
     let is_told = is_separate(config, core) == refused.is_none();
@@ -133,16 +135,16 @@ fn fault_of_core(alloc: Global, config: &Config, core: CoreId) -> Result<Option<
 }
 
 fn stimuli_fault(alloc: Global, reader: Reader, text: &str) -> Result<Option<ConfFault>, Fail> {
-    let config = named_in(alloc, reader)?;
+    let config = config_for(alloc, reader)?;
     Ok(read_stimuli(alloc, &config, text).err())
 }
 
 fn schedule_fault(alloc: Global, reader: Reader, text: &str) -> Result<Option<ConfFault>, Fail> {
-    let config = named_in(alloc, reader)?;
+    let config = config_for(alloc, reader)?;
     Ok(read_schedule(alloc, &config, text).err())
 }
 
-// The fault of the text with a value in place of its `@`.
+// The reader's fault of the text with the value in place of its first `@`, or none.
 fn fault_with(
     alloc: Global,
     reader: Reader,
@@ -153,7 +155,8 @@ fn fault_with(
     fault_of(alloc, reader, whole.as_str())
 }
 
-// What is read, as it is printed for debugging; or the configuration's text.
+// What this reader reads of the text, as it is printed for debugging. For `Written` and `Alone`: the text that the
+// configuration is written as.
 fn shown(alloc: Global, reader: Reader, text: &str) -> Result<String, Fail> {
     match reader {
         Reader::Configuration => shown_plan(alloc, text),
@@ -171,41 +174,43 @@ fn shown_plan(alloc: Global, text: &str) -> Result<String, Fail> {
     Ok(format!(in alloc; "{:?}", config.plan())?)
 }
 
+// The text that the text's configuration is written as. Checks that this text stays the same if read and written again.
 fn written_text(alloc: Global, text: &str) -> Result<String, Fail> {
     text_of(alloc, &read_config(alloc, text)?)
 }
 
+// The text of the core's own configuration, which is cut out of the text's configuration.
 fn cut_text(alloc: Global, text: &str, core: CoreId) -> Result<String, Fail> {
     let config = read_config(alloc, text)?;
     text_of_core(alloc, &config, core)
 }
 
-// The text of the core's configuration, cut out of the whole.
+// The text of the core's own configuration, which is cut out of `config`.
 fn text_of_core(alloc: Global, config: &Config, core: CoreId) -> Result<String, Fail> {
     let alone = cut(alloc, config, core)?;
     text_of(alloc, &alone)
 }
 
 fn shown_stimuli(alloc: Global, reader: Reader, text: &str) -> Result<String, Fail> {
-    let config = named_in(alloc, reader)?;
+    let config = config_for(alloc, reader)?;
     let stimuli = read_stimuli(alloc, &config, text)?;
     Ok(format!(in alloc; "{:?}", stimuli.as_slice())?)
 }
 
 fn shown_schedule(alloc: Global, reader: Reader, text: &str) -> Result<String, Fail> {
-    let config = named_in(alloc, reader)?;
+    let config = config_for(alloc, reader)?;
     let turns = read_schedule(alloc, &config, text)?;
     Ok(format!(in alloc; "{:?}", turns.as_slice())?)
 }
 
-// The configuration's text, which is read and written again as it stands.
+// The configuration's text. Checks that it is read and written again unchanged.
 fn text_of(alloc: Global, config: &Config) -> Result<String, Fail> {
     let text = config_text(alloc, config)?;
     stays(alloc, text.as_str())?;
     Ok(text)
 }
 
-// The text is read and written again as it stands.
+// Checks that the text is read and written again unchanged.
 fn stays(alloc: Global, text: &str) -> Result<(), Fail> {
     let again = rewritten(alloc, text)?;
     let is_same = again.as_str() == text;
@@ -218,13 +223,13 @@ fn rewritten(alloc: Global, text: &str) -> Result<String, Fail> {
     Ok(config_text(alloc, &config)?)
 }
 
-// Plays a table of texts and their faults, which has so many cases. The texts stand in the frame, in place of its `@`. The lines are,
-// in this order for each group of texts:
-// `text T|T|..`: texts with an `@`; those of neighbouring lines are one group. Without any the frame is the text.
-// `each [B] W`: behind this line a value is a count, and stands for so many words W with B between them.
-// `is R`: each text of the group, which has no `@` then, is read as R, or as it stands where there is no R.
-// `F V|V|..`: each text of the group with each of the values in place of its `@` has the fault F, or none if F is `fine`.
-// A line that is empty or begins with `//` says nothing.
+// Plays the table `lines` of texts and their faults, and checks that it has `cases` cases. The texts replace the `@` of
+// the frame. For each group of texts there are these lines, in this order:
+// `text T|T|..`: texts with an `@`; those of neighbouring lines are one group. Without one, the frame is the text.
+// `each [B] W`: after this line a value is a count, and stands for that many words W with B between them.
+// `is R`: each text of the group, which then has no `@`, is read as R, or unchanged if there is no R.
+// `F V|V|..`: each text of the group, with each value in place of its `@`, has the fault F, or none if F is `fine`.
+// A line that is empty or begins with `//` is ignored.
 fn play(
     rt: &impl Abort,
     alloc: Global,
@@ -250,7 +255,7 @@ fn play_configurations(
     play(rt, alloc, Reader::Configuration, frame, lines, cases)
 }
 
-// Plays a table's lines, and counts their cases. `texts` has the group's, and before the first group the frame.
+// Plays a table's lines, and counts their cases. `texts` has the texts of the group, at first the frame alone.
 fn play_lines(
     rt: &impl Abort,
     alloc: Global,
@@ -290,7 +295,7 @@ fn play_lines(
     Ok(cases)
 }
 
-// Adds the frame with each of the words in place of its `@`.
+// Adds, for each of the words that `|` separates, the frame with this word in place of its first `@`.
 fn add_texts(alloc: Global, texts: &mut Vec<String>, frame: &str, words: &str) -> Result<(), Fail> {
     for word in words.split('|') {
         texts.push(filled(alloc, frame, word)?)?;
@@ -298,14 +303,14 @@ fn add_texts(alloc: Global, texts: &mut Vec<String>, frame: &str, words: &str) -
     Ok(())
 }
 
-// Of `[B] W` the word W and what is between two of it.
+// The word W of `[B] W`, and the text B between two words.
 fn word_of(rest: &str) -> Result<(&str, &str), Fail> {
     let (between, word) = rest.split_once(']').ok_or("what is between words")?;
     let between = between.strip_prefix('[').ok_or("what is between words")?;
     Ok((word.strip_prefix(' ').unwrap_or(""), between))
 }
 
-// The value, or so many words.
+// The value; or, if `each` is a word and what is between words, as many of these words as the value says.
 fn worded(alloc: Global, each: Option<(&str, &str)>, value: &str) -> Result<String, Fail> {
     let Some((word, between)) = each else {
         return Ok(String::from_str(alloc, value)?);
@@ -314,7 +319,7 @@ fn worded(alloc: Global, each: Option<(&str, &str)>, value: &str) -> Result<Stri
     listed(alloc, word, between, count)
 }
 
-// Each of the texts is read as this, or as it stands.
+// Checks that each of the texts is read as `read`, or unchanged if `read` is empty.
 fn compare(
     rt: &impl Abort,
     alloc: Global,
@@ -330,7 +335,8 @@ fn compare(
     Ok(())
 }
 
-// Each of the texts with each of the values has the fault. Counts these cases.
+// For each of the values that `|` separates: checks that each of the texts has this fault with what `worded` makes of
+// the value. Counts these cases.
 fn judge_all(
     rt: &impl Abort,
     alloc: Global,
@@ -349,7 +355,7 @@ fn judge_all(
     Ok(cases)
 }
 
-// Each of the texts with the value has the fault.
+// Checks that each of the texts with the value has the fault of this name, or none if the name is `fine`.
 fn judge(
     rt: &impl Abort,
     alloc: Global,

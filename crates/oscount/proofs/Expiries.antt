@@ -1,4 +1,4 @@
--- The value at which an alarm is due, for what was counted.
+-- The value at which an alarm is due, as a function of the counts so far.
 use Rattle.std.proofs.Common.{◌≡◌, ℕ, zero, suc, ◌+◌, ◌-◌, ◌<◌, ◌≤◌, ◌%◌, nat_eq, nat_le, nat_lt, Bool, true, false, true≢false, cond, ◌&&◌, ◌||◌, Option, Some, None, is_some, option_map, refl, sym, ap, ◌∙◌, arith}
 use Rattle.std.specs.Option.{option_map_or}
 use Rattle.std.proofs.Math.Nat.{mod-lt}
@@ -9,7 +9,7 @@ use Rattle.oscount.specs.Clocks.{advanced, alarm_at, counter_at, counts_until, d
 use Rattle.oscount.proofs.Turns.{further-mod, next-alone, wrapped-mod}
 use Rattle.oscount.proofs.Settings.{cycle-then, due-then, left-least, left-most, left-then, over-then, spent}
 
--- the next value
+-- the counter one count later
 pub counted : (max count : ℕ) → advanced (counter_at max count) ≡ counter_at max (suc count)
 counted max count = ap (λ v. record { max = max; value = v }) (whole ∙ ap (λ n. n % suc max) one)
   where
@@ -44,7 +44,7 @@ value-of max count x = Some (record { value = (count + counts_left x) % suc max;
 abbrev kept-of : (max count : ℕ) (x : AlarmSetting) → Bool → Bool → Option Expiry
 kept-of max count x turn due = cond (turn && due) (value-of max count x) None
 
--- an alarm that is due at the next value, or is not
+-- an alarm's value is the counter's next value exactly if one count is left
 next-is : (max count : ℕ) (x : AlarmSetting) → InTurn max x → will_be_due x ≡ true → nat_eq ((count + counts_left x) % suc max) (wrapped max (suc (count % suc max))) ≡ nat_eq (counts_left x) 1
 next-is max count x turn due =
     let below : count % suc max < suc max = mod-lt count (omega arith) in
@@ -87,7 +87,7 @@ beyond max count (Some x) = by (is_in_turn max x) (will_be_due x) refl refl
     by true false e f = ap (kept-of max (suc count) (one_count_more x) true) (sym (spent x f).0)
     by true true e f = ap (λ b. cond b (due_again (counter_at max count) (record { value = (count + counts_left x) % suc max; cycle = x.cycle })) (value-of max count x)) (next-is max count x (turn-of max x e) f) ∙ of (turn-of max x e) f (nat_eq (counts_left x) 1) refl
 
--- whether it is due at the next value
+-- whether the alarm is due at the next value
 pub next-due : (max count : ℕ) (x : Option AlarmSetting) → is_granted max x ≡ true → is_due_next (counter_at max count) (alarm_at max count x) ≡ is_due (option_map one_count_more x)
 next-due max count None granted = refl
 next-due max count (Some x) granted = by (is_in_turn max x) (will_be_due x) granted refl
@@ -98,7 +98,7 @@ next-due max count (Some x) granted = by (is_in_turn max x) (will_be_due x) gran
     by true false e f = sym (spent x f).1
     by true true e f = next-is max count x (turn-of max x granted) f ∙ sym (due-then x f)
 
--- whether it is in use
+-- whether the alarm is in use
 pub in-use : (max count : ℕ) (x : Option AlarmSetting) → is_granted max x ≡ true → is_some (expiry_at max count x) ≡ is_in_use x
 in-use max count None granted = refl
 in-use max count (Some x) granted = by (is_in_turn max x) (will_be_due x) granted
@@ -139,7 +139,7 @@ left-is max count (Some x) granted = by (is_in_turn max x) (will_be_due x) grant
         ap (λ v. Some (cond (nat_lt (count % suc max) v) (v - count % suc max) (suc max + v - count % suc max))) (sym (further-mod max count (counts_left x) most))
         ∙ ap Some (until (count % suc max) (counts_left x) (omega (arith, below)) (left-least x f) most)
 
--- an alarm that is set
+-- the expiry of an alarm that is set
 pub as-set : (max count first cycle : ℕ) → is_in_turn max (setting_of first cycle) ≡ true → expiry_at max count (Some (setting_of first cycle)) ≡ Some (record { value = (count + first) % suc max; cycle = cycle })
 as-set max count first cycle granted =
     ap (λ b. cond (b && will_be_due (setting_of first cycle)) (value-of max count (setting_of first cycle)) None) granted
@@ -157,7 +157,7 @@ as-set max count first cycle granted =
     left : counts_left (setting_of first cycle) ≡ first
     left = ap (λ b. cond b (first - 0) (cycle - (0 - first) % cycle)) less ∙ whole
 
--- as many counts as lead to a value lead there
+-- the counts that lead to a value reach it
 pub led-to : (max count start : ℕ) → start ≤ max → (count + counts_to max (count % suc max) start) % suc max ≡ start
 led-to max count start within =
     sym (further-mod max count (counts_to max (count % suc max) start) (omega (arith, rest)))
@@ -185,7 +185,7 @@ led-to max count start within =
         by true e = behind (leb-true (start + max - v) max e) (nat_le (v + (start + max - v + 1)) max) refl
         by false e = ahead (omega (arith, leb-false (start + max - v) max e)) (nat_le (v + (start + max - v - suc max + 1)) max) refl
 
--- ---- of a counter and an alarm that stand for what was counted
+-- ---- a counter and an alarm that agree with the counts so far
 
 value-is : (counter : Counter) (count : ℕ) → counter ≡ counter_at counter.max count → counter.value ≡ count % suc counter.max
 value-is counter count is = ap (λ (c : Counter). c.value) is
@@ -223,7 +223,7 @@ relative-by counter count first cycle value is granted same =
     (same ∙ (ap (λ v. wrapped counter.max (v + first)) (value-is counter count is) ∙ further-mod counter.max count first (turn-of counter.max (setting_of first cycle) granted).first))
     ∙ ap (λ e. record { expiry = e }) (sym (as-set counter.max count first cycle granted))
 
--- so many counts lead to the value
+-- after this many counts the value is reached
 pub reached-by : (counter : Counter) (count start left : ℕ) → counter ≡ counter_at counter.max count → start ≤ counter.max → left ≡ counts_to counter.max counter.value start
     → (count + left) % suc counter.max ≡ start
 reached-by counter count start left is most same =

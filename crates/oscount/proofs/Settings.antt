@@ -9,7 +9,7 @@ use Rattle.oscount.proofs.Turns.{same-test}
 clash : {b : Bool} → b ≡ false → b ≡ true → ⊥
 clash a b = true≢false (sym b ∙ a)
 
--- what is left of a cycle, one count later
+-- before the end of a cycle, one count more adds one to what has passed of the cycle
 pub rest-on : (d y : ℕ) → 0 < y → nat_eq (y - d % y) 1 ≡ false → suc d % y ≡ suc (d % y)
 rest-on d y some e =
     let below : d % y < y = mod-lt d some in
@@ -77,7 +77,7 @@ not-same a b h = by (nat_eq a b) refl
     by false e = refl
     by true e = let same : a ≡ b = eqb-true a b e in absurd (omega (arith, h, same))
 
--- one count later it is due exactly if one count was left
+-- one count later, the alarm is due exactly if one count was left
 pub due-then : (x : AlarmSetting) → will_be_due x ≡ true → is_due_count (one_count_more x) ≡ nat_eq (counts_left x) 1
 due-then x due = by (nat_lt x.counts x.first) refl
   where
@@ -97,7 +97,7 @@ due-then x due = by (nat_lt x.counts x.first) refl
         (not-same (suc x.counts) x.first (omega (arith, beyond))) (lt-ltb 0 x.cycle (has-cycle x due e)) (lt-ltb x.first (suc x.counts) (omega (arith, beyond)))
         ∙ (ap (λ n. nat_eq (n % x.cycle) 0) whole ∙ of (nat_eq (x.cycle - (x.counts - x.first) % x.cycle) 1) e refl)
 
--- where more than one count was left, one less is left
+-- if more than one count was left, one fewer is left after the next count
 pub left-then : (x : AlarmSetting) → will_be_due x ≡ true → nat_eq (counts_left x) 1 ≡ false → (will_be_due (one_count_more x) ≡ true) × (counts_left x ≡ suc (counts_left (one_count_more x)))
 left-then x due more = by (nat_lt x.counts x.first) refl more
   where
@@ -128,7 +128,7 @@ left-then x due more = by (nat_lt x.counts x.first) refl more
               ∙ ap (λ b. suc (cond b (x.first - suc x.counts) (x.cycle - (suc x.counts - x.first) % x.cycle))) (sym (not-less (suc x.counts) x.first (omega (arith, beyond))))),
         )
 
--- where one count was left, a cycle is left
+-- if one count was left, a cycle is left after the next count
 pub cycle-then : (x : AlarmSetting) → will_be_due x ≡ true → nat_eq (counts_left x) 1 ≡ true → 0 < x.cycle → counts_left (one_count_more x) ≡ x.cycle
 cycle-then x due last some = by (nat_lt x.counts x.first) refl last
   where
@@ -147,7 +147,7 @@ cycle-then x due last some = by (nat_lt x.counts x.first) refl last
         ap (λ b. cond b (x.first - suc x.counts) (x.cycle - (suc x.counts - x.first) % x.cycle)) (not-less (suc x.counts) x.first (omega (arith, beyond)))
         ∙ (ap (λ n. x.cycle - n) (ap (λ n. n % x.cycle) whole ∙ rest-over (x.counts - x.first) x.cycle some f) ∙ all)
 
--- without a cycle it is due once alone
+-- without a cycle, an alarm is due only once
 none-of : (a b : Bool) → (a || b) ≡ false → (a ≡ false) × (b ≡ false)
 none-of false b e = (refl, e)
 none-of true b e = absurd (true≢false e)
@@ -173,7 +173,7 @@ spent x e =
           (not-same (suc x.counts) x.first (omega (arith, beyond))) (ap (λ b. b && nat_lt x.first (suc x.counts) && nat_eq ((suc x.counts - x.first) % x.cycle) 0) parts.0),
     )
 
--- ---- the counts that are left are the least to a due one
+-- ---- the counts that are left are the fewest until the alarm is due
 
 pub due-at-last : (x : AlarmSetting) → will_be_due x ≡ true → is_due_count (counts_later (counts_left x) x) ≡ true
 due-at-last x due = by (nat_lt x.counts x.first) refl

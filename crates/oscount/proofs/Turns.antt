@@ -4,7 +4,7 @@ use Rattle.std.proofs.Math.Nat.{add-mod_left, mod-add-mod, mod-eq_of_lt, mod-lt}
 use Rattle.std.proofs.lemmas.Bool.{eq-eqb, eqb-true, leb-false, leb-true}
 use Rattle.oscount.specs.Clocks.{wrapped}
 
--- less than a turn beyond the greatest value, a value is wrapped to what the division leaves
+-- if a value is less than a turn beyond the greatest, wrapping it gives its remainder
 pub wrapped-mod : (max v : ℕ) → v < suc max + suc max → wrapped max v ≡ v % suc max
 wrapped-mod max v below = by (nat_le v max) refl
   where
@@ -15,7 +15,7 @@ wrapped-mod max v below = by (nat_le v max) refl
         let small : v - suc max < suc max = omega (arith, leb-false v max e, below) in
         sym (ap (λ n. n % suc max) whole ∙ (add-mod_left (suc max) (v - suc max) ∙ mod-eq_of_lt small))
 
--- the value that is so many counts, at most a turn, further on
+-- the value that is this many counts, at most a turn, further on
 pub further-mod : (max count left : ℕ) → left ≤ suc max → wrapped max (count % suc max + left) ≡ (count + left) % suc max
 further-mod max count left within =
     let below : count % suc max < suc max = mod-lt count (omega arith) in
@@ -31,7 +31,7 @@ same-test a b c d there back = by (nat_eq a b) (nat_eq c d) refl refl
     by true false e f = sym (eq-eqb c d (there (eqb-true a b e))) ∙ f
     by false true e f = sym e ∙ eq-eqb a b (back (eqb-true c d f))
 
--- the next value is reached by one count alone
+-- of the counts up to a turn, only one count leads to the next value
 pub next-alone : (max v left : ℕ) → v ≤ max → 1 ≤ left → left ≤ suc max → nat_eq (wrapped max (v + left)) (wrapped max (suc v)) ≡ nat_eq left 1
 next-alone max v left value least most = by (nat_le (v + left) max) (nat_le (suc v) max) refl refl
   where

@@ -6,15 +6,15 @@ ghost use Rattle.oscount.specs.Clocks.{IsCounter, IsExpiryOf, advanced, alarm_at
 
 use crate::counters::{self, Counter};
 
-/// The value of its counter at which an alarm in use is due next, and after how many counts it is due again; 0
-/// for an alarm that is not (OSEK/VDX OS 2.2.3, section 9.2).
+/// When an alarm in use is due: the value of its counter at which it is due next, and the cycle, in counts, after which
+/// it is due again. The cycle is 0 if the alarm is due only once (OSEK/VDX OS 2.2.3, section 9.2).
 #[derive(Clone, Copy, PartialEq, Eq)]
 pub struct Expiry {
     pub value: u32,
     pub cycle: u32,
 }
 
-/// An alarm; in use, where it has a value at which it is due (OSEK/VDX OS 2.2.3, section 9.2).
+/// An alarm. It is in use if it has a value at which it is due (OSEK/VDX OS 2.2.3, section 9.2).
 #[derive(Clone, Copy, PartialEq, Eq)]
 pub struct Alarm {
     pub expiry: Option<Expiry>,
@@ -29,8 +29,8 @@ impl Alarm {
         Alarm { expiry: None }
     }
 
-    /// The alarm is due after so many counts, at most a full turn, and again after each cycle (OSEK/VDX OS 2.2.3,
-    /// section 13.6.3.3; the full turn: own).
+    /// The alarm is due after `increment` counts, at most a full turn of its counter. It is due again after each cycle,
+    /// unless `cycle` is 0 (OSEK/VDX OS 2.2.3, section 13.6.3.3; the full turn: own).
     pub fn set_rel(&mut self, counter: Counter, increment: u32, cycle: u32)
         requires counter { IsCounter counter }
         requires granted { IsTrue (is_in_turn counter.max (setting_of increment cycle)) }
@@ -59,7 +59,7 @@ impl Alarm {
         self.expiry.is_some()
     }
 
-    /// Whether it is due at the next count of its counter.
+    /// Whether the alarm is due at the next count of its counter.
     pub fn is_due_next(self, counter: Counter) -> bool
         requires counter { IsCounter counter }
         ensures state { result ≡ is_due_next counter self }
@@ -71,7 +71,7 @@ impl Alarm {
         }
     }
 
-    /// How many counts are left until it is due; none for an alarm that is not in use (OSEK/VDX OS 2.2.3, section 13.6.3.2).
+    /// The counts left until the alarm is due; `None` if it is not in use (OSEK/VDX OS 2.2.3, section 13.6.3.2).
     pub fn left(self, counter: Counter) -> Option<u32>
         requires counter { IsCounter counter }
         requires expiry { IfSome self.expiry (λ x. x.value ≤ counter.max) }
@@ -84,8 +84,8 @@ impl Alarm {
         }
     }
 
-    /// Its counter is about to be incremented. If the alarm expires by that, it expires again a cycle later; without a
-    /// cycle it is no longer in use (OSEK/VDX OS 2.2.3, section 9.2).
+    /// Moves the alarm on by one count of its counter. If the alarm expires at this count, it is due again a cycle
+    /// later. Without a cycle, it is no longer in use (OSEK/VDX OS 2.2.3, section 9.2).
     pub fn advance(&mut self, counter: Counter)
         requires counter { IsCounter counter }
         requires expiry { IfSome self.old.expiry (IsExpiryOf counter.max) }
@@ -116,7 +116,7 @@ fn next_value(counter: Counter) -> u32
     next.value
 }
 
-// How many counts lead from the counter's value to the alarm's.
+// How many counts lead from the counter's value to that of the expiry. If both are equal, this is a full turn.
 fn until(counter: Counter, expiry: Expiry) -> u32
     requires counter { IsCounter counter }
     requires expiry { expiry.value ≤ counter.max }
@@ -129,7 +129,7 @@ fn until(counter: Counter, expiry: Expiry) -> u32
     }
 }
 
-// When an alarm is due that was due at this value, once the counter has gone on.
+// The expiry after the next count of the counter; `None` if the alarm is then no longer in use.
 fn beyond(counter: Counter, expiry: Expiry) -> Option<Expiry>
     requires counter { IsCounter counter }
     requires expiry { IsExpiryOf counter.max expiry }
@@ -142,6 +142,7 @@ fn beyond(counter: Counter, expiry: Expiry) -> Option<Expiry>
     }
 }
 
+// The expiry of an alarm after the count at which it is due: a cycle later or, without a cycle, `None`.
 fn again(counter: Counter, expiry: Expiry) -> Option<Expiry>
     requires max { counter.max < 2 ^ 31 }
     requires expiry { IsExpiryOf counter.max expiry }

@@ -12,7 +12,7 @@ pub struct Counter {
     pub value: u32,
 }
 
-/// A value of a counter, where it may be less than a turn beyond the greatest.
+/// A value, less a full turn, `max + 1`, if it is beyond `max`, the greatest value of its counter.
 pub fn wrapped(max: u32, value: u32) -> u32
     requires { max < 2 ^ 31 }
     ensures { result ≡ wrapped max value }
@@ -24,7 +24,7 @@ pub fn wrapped(max: u32, value: u32) -> u32
     }
 }
 
-/// From a counter's value, how many counts lead to this one; the value that it has is a full turn away (OSEK/VDX OS 2.2.3,
+/// How many counts lead from the counter's value to `start`. If both are equal, this is a full turn (OSEK/VDX OS 2.2.3,
 /// section 13.6.3.4).
 pub fn counts_to(counter: Counter, start: u32) -> u32
     requires counter { IsCounter counter }

@@ -4,8 +4,8 @@ ghost use Rattle.osbase.specs.Counting.{AlarmSetting, will_be_due};
 ghost use Rattle.std.specs.Prelude.{IsTrue};
 ghost use Rattle.oscount.specs.Laws.{IsLeft};
 
-/// The counts that are left of an alarm are the least number of at least 1 after which it is due (OSEK/VDX OS 2.2.3, section
-/// 13.6.3.2).
+/// If an alarm is in use, the counts that are left are the least number, 1 or more, after which the alarm is due
+/// (OSEK/VDX OS 2.2.3, section 13.6.3.2).
 pub fn counts_left_are_the_least_to_a_due_one()
     ensures { (setting : AlarmSetting) → IsTrue (will_be_due setting) → IsLeft setting }
 {}

@@ -1,4 +1,4 @@
--- Where the objects of arguments stand. What all cores have in common stands under nobody, whatever place it was found at.
+-- The places of the objects of arguments. What all cores have in common is on `NOBODY`, wherever it was found.
 use Rattle.std.proofs.Common.{◌≡◌, Bool, true, Some, None, option_map, List, [], ◌∷◌, map, refl}
 use Rattle.std.specs.List.{list_all}
 use Rattle.std.proofs.lemmas.Bool.{and_parts}
@@ -7,7 +7,7 @@ use Rattle.osbase.specs.{declared.objects.Object.Object as Named, declared.objec
 use Rattle.oscript.specs.{declared.rows.Arg.Arg, declared.rows.Arg.TheVariants.Object, Rows.objects_in}
 use Rattle.oscript.proofs.Arguments.{rest-pass}
 
--- The place of the reference to the object of a kind at a place.
+-- The place that a reference has if it is made for an object of this kind at this place.
 abbrev pub home : ObjectKind → Place → Place
 home Mode place = mode_place (mode_of place)
 home Spinlock place = spinlock_place (spinlock_of place)
@@ -17,7 +17,7 @@ abbrev pub at_home : Arg Place → Arg Place
 at_home (Object kind target) = Object kind (option_map (home kind) target)
 at_home arg = arg
 
--- Objects that stand there stay where they are.
+-- If each object is at the place of its reference, the arguments stay as they are.
 module _ (p : Named → Bool) (stays : (object : Named) → p object ≡ true → home object.kind object.place ≡ object.place) where
   arg-home : (arg : Arg Place) (args : List (Arg Place)) → list_all p (objects_in (arg ∷ args)) ≡ true → at_home arg ≡ arg
   arg-home (Object kind None) args all = refl

@@ -1,4 +1,4 @@
--- Tests of the objects that there are, in a list with gaps.
+-- A test of the elements that are present in a list with gaps.
 use Rattle.std.proofs.Common.{◌≡◌, Bool, true, false, ◌&&◌, ◌||◌, List, [], ◌∷◌, Option, Some, None, refl, ap}
 use Rattle.std.specs.{List.list_all, List.list_any, List.filter_map, Option.option_map_or}
 

@@ -1,12 +1,13 @@
--- The operations that call a service for an object of any core, beside the calls that cross between cores. This table is the one place
--- where both are known together. And which calls an alarm or a schedule table may make.
+-- The operations that call a service for an object of any core, and the calls across cores that belong to them. No
+-- other table has both. Below them: the calls that an alarm or a schedule table may make.
 use Rattle.std.specs.Prelude.{Bool, true, false, if◌then◌else◌, Option, Some, None, option_and_then, option_map}
 use Rattle.osbase.specs.{Objects.place_on, Objects.task_of, declared.messages.RemoteCall.RemoteCall, declared.references.AlarmRef.AlarmRef, declared.references.TaskRef.TaskRef, declared.statuses.ServiceId.ServiceId}
 use Rattle.osbase.specs.declared.messages.RemoteCall.TheVariants as Call
 use Rattle.osbase.specs.declared.statuses.ServiceId.TheVariants as Service
 use Rattle.oscript.specs.declared.Op.{Op}
 
--- The service of such an operation, and the call that is made for its object: none for the invalid identifier.
+-- The service that an operation calls for an object of any core, and the call for that object; no call for the invalid
+-- identifier. None for an operation of another kind.
 -- [AUTOSAR SWS OS 4.x, SWS_Os_00596 and SWS_Os_00602; which services: own]
 abbrev pub call_of_op : Op → Option (ServiceId × Option RemoteCall)
 call_of_op (Op.ActivateTask target) = Some (Service.ActivateTask, option_map Call.ActivateTask target)
@@ -26,29 +27,30 @@ op_of_call (Call.SetAbsAlarm a start cycle) = Op.SetAbsAlarm (Some a) start cycl
 op_of_call (Call.CancelAlarm a) = Op.CancelAlarm (Some a)
 op_of_call (Call.GetAlarm a x) = Op.GetAlarm (Some a) x
 
--- The calls that an alarm or a point of a schedule table may make: it activates a task, or sets events of one.
+-- The calls that an alarm or an expiry point may make: each activates a task or sets events of one.
 -- [AUTOSAR SWS OS 4.x, OsAlarmAction and OsScheduleTableExpiryPoint]
 abbrev pub is_action : RemoteCall → Bool
 is_action (Call.ActivateTask t) = true
 is_action (Call.SetEvent t mask) = true
 is_action call = false
 
--- Of these actions the one that activates a task. The others set events.
+-- The action activates a task. The other actions set events.
 abbrev pub is_activation : RemoteCall → Bool
 is_activation (Call.ActivateTask t) = true
 is_activation call = false
 
--- An action like any other. It stands where none is meant, and is never done. [own]
+-- An action that fills places where no action is meant. It is never done. [own]
 abbrev pub any_action : RemoteCall
 any_action = Call.ActivateTask (task_of (place_on (record { number = 0 }) 0))
 
--- The call of an operation that names its object.
+-- The call of an operation, if the operation has one and names the object of the call, not the invalid identifier.
 abbrev pub named_call : Op → Option RemoteCall
 named_call op = option_and_then (λ (entry : ServiceId × Option RemoteCall). entry.1) (call_of_op op)
 
+-- The call, if it is an action.
 abbrev pub if_action : RemoteCall → Option RemoteCall
 if_action call = if is_action call then Some call else None
 
--- The action that an operation is, if it is one: its call, where an alarm may make that.
+-- The call of an operation, if the call is an action, which an alarm or an expiry point may make.
 abbrev pub action_of_op : Op → Option RemoteCall
 action_of_op op = option_and_then if_action (named_call op)

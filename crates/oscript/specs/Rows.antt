@@ -1,4 +1,4 @@
--- The grammar of operations: a row for each. An operation as its verb and its arguments, and the objects that it names.
+-- The grammar of operations: a row for each verb, operations as verbs with arguments, and the objects that they name.
 use Rattle.std.specs.Prelude.{ℕ, ◌&&◌, nat_le, ℤ, pos, negsuc, Bool, true, false, if◌then◌else◌, Option, Some, None, is_some, List, [], ◌∷◌, codes, option_map, filter_map, slice_get, unwrap_or}
 use Rattle.std.specs.{List.list_all, Option.option_map_or}
 use Rattle.osbase.specs.Objects.{alarm_of, alarm_place, counter_of, counter_place, resource_of, resource_place, same_kind, spinlock_of, spinlock_place, table_of, table_place, task_of, task_place}
@@ -10,21 +10,23 @@ use Rattle.oscript.specs.declared.rows.Arg.TheVariants.{Core, Object, Mask, Numb
 use Rattle.oscript.specs.declared.rows.Args.TheVariants.{Zero, One, Two, Three}
 use Rattle.oscript.specs.declared.rows.TheConstants.{ALARM, COUNTER, POSITION, RESOURCE, SPINLOCK, STATUS, TABLE, TASK, TICKS}
 
--- The arguments, from the left.
+-- The arguments as a list, from the left.
 abbrev pub items : {A : Type 0} → Args A → List A
 items Zero = []
 items (One a) = a ∷ []
 items (Two a b) = a ∷ b ∷ []
 items (Three a b c) = a ∷ b ∷ c ∷ []
 
--- A row by its parts: the word, the kinds of the arguments, and the service, if the operation calls one.
+-- A row by its parts: the word, the kinds of the arguments, and the service, if the operation calls one that returns a
+-- status.
 abbrev pub row_view : Row → List ℕ × Args Kind × Option ServiceId
 row_view row = (row.word.now, row.kinds, row.service)
 
+-- The row of an operation without a service that returns a status.
 abbrev pub plain_row : List ℕ → Args Kind → List ℕ × Args Kind × Option ServiceId
 plain_row word kinds = (word, kinds, None)
 
--- A service's operation has the service's word.
+-- The row of an operation whose service returns a status: its word is the service's.
 abbrev pub service_row : ServiceId → Args Kind → List ℕ × Args Kind × Option ServiceId
 service_row service kinds = (service_name service, kinds, Some service)
 
@@ -68,94 +70,115 @@ row_of Verb.GetSpinlock = service_row Service.GetSpinlock (One SPINLOCK)
 row_of Verb.TryToGetSpinlock = service_row Service.TryToGetSpinlock (Two SPINLOCK Kind.Variable)
 row_of Verb.ReleaseSpinlock = service_row Service.ReleaseSpinlock (One SPINLOCK)
 
+-- The word in the verb's row.
 abbrev pub word_of : Verb → List ℕ
 word_of verb = (row_of verb).0
 
+-- The kinds of the arguments in the verb's row, from the left.
 abbrev pub kinds_of : Verb → List Kind
 kinds_of verb = items (row_of verb).1
 
+-- The service in the verb's row, if the operation calls one that returns a status.
 abbrev pub service_of : Verb → Option ServiceId
 service_of verb = (row_of verb).2
 
 -- ---- operations as forms
 
+-- A form as its two parts: the verb of an operation and its arguments, from the left.
 abbrev pub form_view : ParsedOp Place → Verb × List (Arg Place)
 form_view form = (form.verb, items form.args)
 
--- ---- arguments by their places. One that is not of its kind is taken as the invalid identifier, as 0 or as v0.
+-- ---- arguments by their places. An argument that is not of its kind is taken as the invalid identifier, as 0 or as v0.
 
--- Where the object of a kind stands that an argument names.
+-- The place of the object that an argument names, if the object is of this kind.
 abbrev pub place_in : ObjectKind → Option (Arg Place) → Option Place
 place_in kind (Some (Object other target)) = if same_kind kind other then target else None
 place_in kind arg = None
 
+-- The place of the object that the argument at index `i` names, if the object is of this kind.
 abbrev pub place_at : ObjectKind → List (Arg Place) → ℕ → Option Place
 place_at kind args i = place_in kind (slice_get args i)
 
--- The reference to it.
+-- The reference to the object that the argument at index `i` names, if the object is of this kind.
 abbrev pub ref_at : {R : Type 0} → ObjectKind → (Place → R) → List (Arg Place) → ℕ → Option R
 ref_at kind ref_of args i = option_map ref_of (place_at kind args i)
 
+-- The task that the argument at index `i` names, if it names a task.
 abbrev pub task_at : List (Arg Place) → ℕ → Option TaskRef
 task_at args i = ref_at Task task_of args i
 
+-- The resource that the argument at index `i` names, if it names a resource.
 abbrev pub resource_at : List (Arg Place) → ℕ → Option ResourceRef
 resource_at args i = ref_at Resource resource_of args i
 
+-- The counter that the argument at index `i` names, if it names a counter.
 abbrev pub counter_at : List (Arg Place) → ℕ → Option CounterRef
 counter_at args i = ref_at Counter counter_of args i
 
+-- The alarm that the argument at index `i` names, if it names an alarm.
 abbrev pub alarm_at : List (Arg Place) → ℕ → Option AlarmRef
 alarm_at args i = ref_at Alarm alarm_of args i
 
+-- The schedule table that the argument at index `i` names, if it names a schedule table.
 abbrev pub table_at : List (Arg Place) → ℕ → Option TableRef
 table_at args i = ref_at Table table_of args i
 
+-- The spinlock that the argument at index `i` names, if it names a spinlock.
 abbrev pub spinlock_at : List (Arg Place) → ℕ → Option SpinlockId
 spinlock_at args i = ref_at Spinlock spinlock_of args i
 
--- The events of the mask at this place.
+-- The events of a mask, each a bit; 0 if the argument is not a mask.
 abbrev pub mask_in : Option (Arg Place) → ℕ
 mask_in (Some (Mask mask)) = mask
 mask_in arg = 0
 
+-- The events of the mask at index `i` of the arguments; 0 if there is no mask.
 abbrev pub mask_at : List (Arg Place) → ℕ → ℕ
 mask_at args i = mask_in (slice_get args i)
 
+-- The value of a signed number; 0 if the argument is not one.
 abbrev pub int_in : Option (Arg Place) → ℤ
 int_in (Some (Int n)) = n
 int_in arg = pos 0
 
+-- The signed number at index `i` of the arguments; 0 if there is none.
 abbrev pub int_at : List (Arg Place) → ℕ → ℤ
 int_at args i = int_in (slice_get args i)
 
+-- The value of a whole number; 0 if the argument is not one.
 abbrev pub number_in : Option (Arg Place) → ℕ
 number_in (Some (Number n)) = n
 number_in arg = 0
 
+-- The whole number at index `i` of the arguments; 0 if there is none.
 abbrev pub number_at : List (Arg Place) → ℕ → ℕ
 number_at args i = number_in (slice_get args i)
 
--- The status of the number at this place: E_OK where no status has it.
+-- The status whose number is the argument at index `i`; E_OK if there is no number, or no status has it.
 abbrev pub status_at : List (Arg Place) → ℕ → Status
 status_at args i = unwrap_or (status_numbered (number_at args i)) EOk
 
+-- The core that the argument names; none for the invalid identifier and for an argument of another kind.
 abbrev pub core_in : Option (Arg Place) → Option CoreId
 core_in (Some (Core target)) = target
 core_in arg = None
 
+-- The core that the argument at index `i` names; none for the invalid identifier and for an argument of another kind.
 abbrev pub core_at : List (Arg Place) → ℕ → Option CoreId
 core_at args i = core_in (slice_get args i)
 
+-- The variable that the argument names; `v0` if the argument is not a variable.
 abbrev pub variable_in : Option (Arg Place) → VariableRef
 variable_in (Some (Variable x)) = record { index = x }
 variable_in arg = record { index = 0 }
 
+-- The variable that the argument at index `i` names; `v0` if there is no variable.
 abbrev pub variable_at : List (Arg Place) → ℕ → VariableRef
 variable_at args i = variable_in (slice_get args i)
 
 -- ---- operations and their forms
 
+-- The operation of a verb and its arguments.
 abbrev pub op_of_parsed : Verb → List (Arg Place) → Op
 op_of_parsed Verb.Work args = Op.Work
 op_of_parsed Verb.Set args = Op.Set (variable_at args 0) (int_at args 1)
@@ -195,14 +218,15 @@ op_of_parsed Verb.GetSpinlock args = Op.GetSpinlock (spinlock_at args 0)
 op_of_parsed Verb.TryToGetSpinlock args = Op.TryToGetSpinlock (spinlock_at args 0) (variable_at args 1)
 op_of_parsed Verb.ReleaseSpinlock args = Op.ReleaseSpinlock (spinlock_at args 0)
 
--- The operation of a form. [own]
+-- The operation of a form, which is a verb with its arguments. [own]
 abbrev pub op_of : Verb × List (Arg Place) → Op
 op_of form = op_of_parsed form.0 form.1
 
--- The argument that refers to an object of a kind; without one it is the invalid identifier.
+-- The argument that refers to an object of a kind; without an object it is the invalid identifier.
 abbrev pub ref_argument : {R : Type 0} → ObjectKind → (R → Place) → Option R → Arg Place
 ref_argument kind place_of target = Object kind (option_map place_of target)
 
+-- The argument that refers to this task. Without a task it is the invalid identifier; so for the kinds below.
 abbrev pub task_argument : Option TaskRef → Arg Place
 task_argument target = ref_argument Task task_place target
 
@@ -221,11 +245,11 @@ table_argument target = ref_argument Table table_place target
 abbrev pub spinlock_argument : Option SpinlockId → Arg Place
 spinlock_argument target = ref_argument Spinlock spinlock_place target
 
--- A status is written as its number.
+-- The argument for a status: its number.
 abbrev pub status_argument : Status → Arg Place
 status_argument status = Number (status_number status)
 
--- The form of an operation. [own]
+-- The form of an operation: its verb and its arguments. [own]
 abbrev pub parsed_op_of : Op → Verb × List (Arg Place)
 parsed_op_of Op.Work = (Verb.Work, [])
 parsed_op_of (Op.Set x n) = (Verb.Set, Variable x.index ∷ Int n ∷ [])
@@ -267,12 +291,12 @@ parsed_op_of (Op.ReleaseSpinlock target) = (Verb.ReleaseSpinlock, spinlock_argum
 
 -- ---- arguments of their kinds
 
--- A signed number of 64 bits.
+-- The number fits in 64 bits with its sign.
 abbrev pub is_int : ℤ → Bool
 is_int (pos n) = nat_le n 9223372036854775807
 is_int (negsuc n) = nat_le n 9223372036854775807
 
--- The argument is one of the kind.
+-- The argument is of this kind and in the kind's range. A mask may also be 0.
 abbrev pub is_of : Kind → Arg Place → Bool
 is_of (Kind.Object kind) (Object other target) = same_kind kind other
 is_of Kind.Mask (Mask mask) = nat_le mask 4294967295
@@ -282,12 +306,13 @@ is_of Kind.Variable (Variable x) = nat_le x 7
 is_of Kind.Core (Core target) = option_map_or (λ (core : CoreId). nat_le core.number 255) target true
 is_of kind arg = false
 
+-- There are as many arguments as kinds, and each argument is of its kind.
 abbrev pub are_of : List Kind → List (Arg Place) → Bool
 are_of [] [] = true
 are_of (kind ∷ kinds) (arg ∷ args) = is_of kind arg && are_of kinds args
 are_of kinds args = false
 
--- The operation's arguments are of the kinds of its row. [own]
+-- The operation is well-formed: it has as many arguments as its row has kinds, and each argument is of its kind. [own]
 abbrev pub is_in_form : Op → Bool
 is_in_form op = are_of (kinds_of (parsed_op_of op).0) (parsed_op_of op).1
 
@@ -303,6 +328,7 @@ object_in (Int z) = None
 object_in (Variable x) = None
 object_in (Core target) = None
 
+-- The objects that the arguments name, in their order.
 abbrev pub objects_in : List (Arg Place) → List Named
 objects_in args = filter_map object_in args
 
@@ -310,7 +336,7 @@ objects_in args = filter_map object_in args
 abbrev pub objects_of : Op → List Named
 objects_of op = objects_in (parsed_op_of op).1
 
--- A mask has an event: it is 0 if it was out of its range. [own]
+-- If the argument is a mask, it has an event: a mask that was out of its range is 0. [own]
 abbrev pub has_event : {R : Type 0} → Arg R → Bool
 has_event (Mask mask) = nat_le 1 mask
 has_event arg = true
@@ -325,8 +351,8 @@ uses_resource (Op.GetResource target) = true
 uses_resource (Op.ReleaseResource target) = true
 uses_resource op = false
 
--- The operation may name no object of another core: GetResource, ReleaseResource, GetEvent, GetCounterValue, and the five services of
--- schedule tables. [own]
+-- The operation may name objects of its own core only: GetResource, ReleaseResource, GetEvent, GetCounterValue, and the
+-- five services of schedule tables. [own]
 abbrev pub refers_to_own_only : Op → Bool
 refers_to_own_only (Op.GetResource target) = true
 refers_to_own_only (Op.ReleaseResource target) = true
@@ -339,7 +365,8 @@ refers_to_own_only (Op.StopScheduleTable target) = true
 refers_to_own_only (Op.GetScheduleTableStatus target x) = true
 refers_to_own_only op = false
 
--- The operation asks how many cores are started, calls StartCore, or names a spinlock: what it does depends on what all cores share.
+-- The operation asks how many cores are started, calls StartCore, or names a spinlock: what it does depends on what all
+-- cores share.
 -- [AUTOSAR SWS OS 4.x, SWS_Os_00672, SWS_Os_00676, SWS_Os_00686, SWS_Os_00703 and SWS_Os_00695]
 abbrev pub asks_shared : Op → Bool
 asks_shared (Op.StartCore target) = true

@@ -1,4 +1,4 @@
-//! Operations beside the calls that cross between cores.
+//! Operations, and the calls across cores that belong to them.
 
 ghost use Rattle.std.specs.Prelude.{◌≡◌, Some};
 ghost use Rattle.oscript.specs.Calls.{action_of_op, call_of_op, is_action, is_activation, named_call, op_of_call};
@@ -50,7 +50,7 @@ pub fn call_of_op(op: Op) -> Option<(ServiceId, Option<RemoteCall>)>
     }
 }
 
-/// The operation that a script has for a call: the table gives the call back.
+/// The operation that a script has for a call. The call of that operation is the given call.
 pub fn op_of_call(call: RemoteCall) -> Op
     ensures op { result ≡ op_of_call call }
     ensures back { named_call result ≡ Some call }
@@ -73,7 +73,7 @@ pub fn op_of_call(call: RemoteCall) -> Op
     }
 }
 
-/// Whether an alarm or a point of a schedule table may make the call: it activates a task, or sets events of one (AUTOSAR
+/// Whether an alarm or an expiry point may make the call: it activates a task or sets events of one (AUTOSAR
 /// SWS OS 4.x, OsAlarmAction and OsScheduleTableExpiryPoint).
 pub fn is_action(call: RemoteCall) -> bool
     ensures { result ≡ is_action call }
@@ -92,7 +92,7 @@ pub fn is_activation(call: RemoteCall) -> bool
     matches!(call, RemoteCall::ActivateTask(_))
 }
 
-/// The action that an operation is, if it is one: its call, where an alarm may make that.
+/// The call of an operation, if the call is an action, which an alarm or an expiry point may make.
 pub fn action_of_op(op: Op) -> Option<RemoteCall>
     ensures { result ≡ action_of_op op }
 {

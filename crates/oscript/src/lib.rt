@@ -1,4 +1,4 @@
-//! Scripts: what a job does, operation by operation, and where it stands in them.
+//! Scripts: what a job does, operation by operation, and where it is in its script.
 #![tactic(auto)]
 
 pub mod calls;
@@ -21,15 +21,15 @@ pub enum Op {
     Work,
     /// The variable becomes this number.
     Set(Variable, i64),
-    /// The variable becomes its sum with this number.
+    /// Adds this number to the variable.
     Add(Variable, i64),
-    /// The first variable becomes the sum of both.
+    /// Adds the second variable to the first.
     AddVariable(Variable, Variable),
     /// The variable becomes the number of the job's last status.
     StoreStatus(Variable),
-    /// Goes on at the operation of this number, or past the last.
+    /// Goes on at the operation with this number, or past the last operation.
     Jump(u32),
-    /// Goes on there if the variable is 0, else at the next operation.
+    /// If the variable is 0, goes on at the operation with this number, otherwise at the next operation.
     JumpIfZero(Variable, u32),
     /// ActivateTask (OSEK/VDX OS 2.2.3, section 13.2.3.1).
     ActivateTask(Option<TaskRef>),
@@ -45,32 +45,33 @@ pub enum Op {
     ReleaseResource(Option<ResourceRef>),
     /// SetEvent of these events (OSEK/VDX OS 2.2.3, section 13.5.3.1).
     SetEvent(Option<TaskRef>, u32),
-    /// ClearEvent of these of the caller (OSEK/VDX OS 2.2.3, section 13.5.3.2).
+    /// ClearEvent of these events of the caller (OSEK/VDX OS 2.2.3, section 13.5.3.2).
     ClearEvent(u32),
     /// GetEvent: the variable gets the events that are set (OSEK/VDX OS 2.2.3, section 13.5.3.3).
     GetEvent(Option<TaskRef>, Variable),
-    /// WaitEvent for one of these of the caller (OSEK/VDX OS 2.2.3, section 13.5.3.4).
+    /// WaitEvent for one of these events of the caller (OSEK/VDX OS 2.2.3, section 13.5.3.4).
     WaitEvent(u32),
     /// IncrementCounter (AUTOSAR SWS OS 4.x, SWS_Os_00399).
     IncrementCounter(Option<CounterRef>),
     /// GetCounterValue: the variable gets the counter's value (AUTOSAR SWS OS 4.x, SWS_Os_00383).
     GetCounterValue(Option<CounterRef>, Variable),
-    /// SetRelAlarm: due after so many ticks, and again after each cycle, if that is not 0 (OSEK/VDX OS 2.2.3,
-    /// section 13.6.3.3).
+    /// SetRelAlarm: the alarm is due after this many ticks, and again after each cycle if the cycle is not 0
+    /// (OSEK/VDX OS 2.2.3, section 13.6.3.3).
     SetRelAlarm(Option<AlarmRef>, u32, u32),
-    /// SetAbsAlarm: due when its counter reaches this value, and again after each cycle, if that is not 0
+    /// SetAbsAlarm: the alarm is due at this value of its counter, and again after each cycle if the cycle is not 0
     /// (OSEK/VDX OS 2.2.3, section 13.6.3.4).
     SetAbsAlarm(Option<AlarmRef>, u32, u32),
     /// CancelAlarm (OSEK/VDX OS 2.2.3, section 13.6.3.5).
     CancelAlarm(Option<AlarmRef>),
-    /// GetAlarm: the variable gets the ticks that are left (OSEK/VDX OS 2.2.3, section 13.6.3.2).
+    /// GetAlarm: the variable gets the ticks until the alarm is due (OSEK/VDX OS 2.2.3, section 13.6.3.2).
     GetAlarm(Option<AlarmRef>, Variable),
-    /// StartScheduleTableRel: the first period begins after so many ticks (AUTOSAR SWS OS 4.x, SWS_Os_00347).
+    /// StartScheduleTableRel: the first period begins after this many ticks (AUTOSAR SWS OS 4.x, SWS_Os_00347).
     StartScheduleTableRel(Option<TableRef>, u32),
     /// StartScheduleTableAbs: the first period begins when the counter reaches this value (AUTOSAR SWS OS 4.x,
     /// SWS_Os_00358).
     StartScheduleTableAbs(Option<TableRef>, u32),
-    /// NextScheduleTable: the second table waits for the end of a period of the first (AUTOSAR SWS OS 4.x, SWS_Os_00191).
+    /// NextScheduleTable: the second table waits for the end of a period of the first (AUTOSAR SWS OS 4.x,
+    /// SWS_Os_00191).
     NextScheduleTable(Option<TableRef>, Option<TableRef>),
     /// StopScheduleTable (AUTOSAR SWS OS 4.x, SWS_Os_00006).
     StopScheduleTable(Option<TableRef>),
@@ -80,7 +81,7 @@ pub enum Op {
     SuspendAllInterrupts,
     /// ResumeAllInterrupts (OSEK/VDX OS 2.2.3, section 13.3.2.3).
     ResumeAllInterrupts,
-    /// StartCore of the core of this number, which a script calls too late: StartOS was called (AUTOSAR SWS OS 4.x,
+    /// StartCore for the core with this number. A script always calls it too late, after StartOS (AUTOSAR SWS OS 4.x,
     /// SWS_Os_00676 and SWS_Os_00681).
     StartCore(Option<CoreId>),
     /// GetNumberOfActivatedCores: the variable gets the number of started cores (AUTOSAR SWS OS 4.x, SWS_Os_00672).
@@ -90,7 +91,7 @@ pub enum Op {
     ShutdownOs(Status),
     /// ShutdownAllCores with this status (AUTOSAR SWS OS 4.x, SWS_Os_00713).
     ShutdownAllCores(Status),
-    /// GetSpinlock: its job waits until the spinlock is taken (AUTOSAR SWS OS 4.x, SWS_Os_00686).
+    /// GetSpinlock: the job waits until it has the spinlock (AUTOSAR SWS OS 4.x, SWS_Os_00686).
     GetSpinlock(Option<SpinlockId>),
     /// TryToGetSpinlock: the variable becomes 1 if the spinlock is taken, else 0 (AUTOSAR SWS OS 4.x, SWS_Os_00703).
     TryToGetSpinlock(Option<SpinlockId>, Variable),
@@ -99,21 +100,21 @@ pub enum Op {
 }
 
 impl Op {
-    /// The service that the operation calls, if it is one that answers a status.
+    /// The service that the operation calls, if it calls one that returns a status.
     pub fn service(self) -> Option<ServiceId>
         ensures { result ≡ service_of_op self }
     {
         row_of(verb_of(self)).service
     }
 
-    /// Whether the operation is a service that answers a status.
+    /// Whether the operation calls a service that returns a status.
     pub fn has_status(self) -> bool
         ensures { result ≡ op_has_status self }
     {
         self.service().is_some()
     }
 
-    /// The variable that gets the operation's value, if it has one.
+    /// The variable to which the operation assigns a value, if there is one.
     pub fn result(self) -> Option<Variable>
         ensures { result ≡ result_of self }
     {
@@ -132,7 +133,7 @@ impl Op {
         }
     }
 
-    /// The place in the script to which the operation may send its job, if it may jump.
+    /// The place in the script that the operation names as its target, if it is a jump.
     pub fn position(self) -> Option<u32>
         ensures { result ≡ position_of self }
     {
@@ -147,7 +148,7 @@ impl Op {
 /// The operations of a task or an ISR, counted from 0.
 pub type Script = List<Op>;
 
-/// Where a job stands: the operation that comes next, the status of its last service (E_OK before
+/// The state of a job in its script: its next operation, the status of its last service (E_OK before
 /// any), and the variables of its task or ISR, which outlive the job.
 #[derive(Clone, Copy, PartialEq, Eq)]
 pub struct Frame {
@@ -161,12 +162,12 @@ pub struct Frame {
 pub enum Action {
     /// This operation.
     Perform(Op),
-    /// It stands past its last operation.
+    /// The job ends, as it is past its last operation.
     End,
 }
 
 impl Frame {
-    /// Where the first job of a task or an ISR begins.
+    /// The frame with which the first job of a task or an ISR begins.
     pub fn new() -> Self
         ensures { result ≡ new_frame }
     {
@@ -177,7 +178,7 @@ impl Frame {
         }
     }
 
-    /// The number that the variable holds; 0 of a variable that there is not.
+    /// The number that the variable holds; 0 if there is no such variable.
     pub fn value(&self, variable: Variable) -> i64
         ensures { result ≡ value_of variable self.now }
     {
@@ -187,7 +188,8 @@ impl Frame {
         }
     }
 
-    // The place of the operation that comes after this one.
+    // The place at which the job goes on after `op`, which is at the frame's place: the target of a jump that is taken,
+    // else the next place.
     fn place_after(&self, op: Op) -> usize
         requires { self.now.pc < 2 ^ 63 }
         ensures { result ≡ place_after op self.now }
@@ -199,6 +201,7 @@ impl Frame {
         }
     }
 
+    // Gives the variable this value, if there is such a variable.
     fn set(&mut self, variable: Variable, value: i64)
         ensures { self.new ≡ with_value variable value self.old }
     {
@@ -208,7 +211,7 @@ impl Frame {
         }
     }
 
-    // Puts a value into the variable that it is for.
+    // Stores the value in the variable, if there are both.
     fn store(&mut self, variable: Option<Variable>, value: Option<i64>)
         ensures { self.new ≡ stored variable value self.old }
     {
@@ -228,7 +231,7 @@ impl Frame {
     }
 }
 
-/// What a job at this place of its script does next.
+/// What a job does next if the frame says its place in the script: the operation there, or its end past the last one.
 pub fn next(script: &[Op], frame: &Frame) -> Action
     ensures { result ≡ action_at script.now frame.now }
 {
@@ -238,8 +241,9 @@ pub fn next(script: &[Op], frame: &Frame) -> Action
     }
 }
 
-/// Goes on after the operation at the frame's place, which answered this status and value. Past
-/// the last operation nothing changes.
+/// Completes the operation at the frame's place, which answered this status and value. The frame goes on to the next
+/// operation. It keeps the status if the operation calls a service that returns one, and stores the value in the
+/// operation's variable, if there are both. Past the last operation nothing changes.
 pub fn complete(script: &[Op], frame: &mut Frame, status: Status, value: Option<i64>)
     ensures { frame.new ≡ completed script.now frame.old status value }
 {

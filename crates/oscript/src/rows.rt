@@ -1,5 +1,5 @@
-//! The grammar of operations: a row for each. An operation as its verb and its arguments, and the objects
-//! that it names.
+//! The grammar of operations: a row for each verb, operations as verbs with arguments, and the objects that
+//! an operation names.
 
 ghost use Rattle.std.specs.Prelude.{◌≡◌, [], ◌∷◌, filter_map, slice_get};
 ghost use Rattle.oscript.specs.Rows.{alarm_argument, asks_shared, core_at, parsed_op_of, form_view, halts_all, has_masks, int_at, items, mask_at, refers_to_own_only, number_at, object_in, objects_of, op_of, place_at, plain_row, ref_argument, ref_at, row_of, row_view, service_row, status_argument, status_at, uses_resource, variable_at};
@@ -7,14 +7,14 @@ ghost use Rattle.oscript.specs.Rows.{alarm_argument, asks_shared, core_at, parse
 use crate::Op;
 use osbase::{AlarmRef, CoreId, Object, ObjectKind, Place, Reference, ServiceId, Status, Variable};
 
-/// What an argument of an operation has to be.
+/// The kind that an argument of an operation must have.
 #[derive(Clone, Copy, PartialEq, Eq)]
 pub enum Kind {
     /// The name of an object of this kind, or `?`.
     Object(ObjectKind),
-    /// Events, each a bit: a number of 1 to 4294967295.
+    /// Events, each a bit of a number from 1 to 4294967295.
     Mask,
-    /// A whole number of this range.
+    /// A whole number from the first number to the second.
     Number(u32, u32),
     /// A signed number of 64 bits.
     Int,
@@ -75,8 +75,8 @@ pub enum Verb {
     ReleaseSpinlock,
 }
 
-/// One row of the grammar: an operation's word, the kinds of its arguments, and the service that it
-/// calls, whose status it answers, if it is one.
+/// One row of the grammar: an operation's word, the kinds of its arguments, and the service that the
+/// operation calls, if it calls one that returns a status.
 #[derive(Clone, Copy, PartialEq, Eq)]
 pub struct Row {
     pub word: &'static str,
@@ -84,7 +84,7 @@ pub struct Row {
     pub service: Option<ServiceId>,
 }
 
-/// Every operation. A word is looked for from the front, so what scripts have most stands first.
+/// Every verb. A word is searched for from the front, so the operations that scripts use most come first.
 pub const VERBS: [Verb; 37] = [
     Verb::ActivateTask,
     Verb::TerminateTask,
@@ -143,15 +143,16 @@ pub const TABLE: Kind = Kind::Object(ObjectKind::Table);
 /// A spinlock's name, or `?`.
 pub const SPINLOCK: Kind = Kind::Object(ObjectKind::Spinlock);
 
-/// Ticks of a counter, or a value of one: any number of 32 bits.
+/// A number of ticks, or a value of a counter: any number of 32 bits.
 pub const TICKS: Kind = Kind::Number(0, 4294967295);
 
-/// A place in a script: that of an operation, or past the last of the most that there may be.
+/// A place in a script: that of an operation, or the one past the last operation of the longest script.
 pub const POSITION: Kind = Kind::Number(0, 256);
 
 /// The number of a status (`Status::numbered`).
 pub const STATUS: Kind = Kind::Number(0, 16);
 
+// The row of an operation without a service that returns a status.
 #[inline(always)]
 fn plain_row(word: &'static str, kinds: Args<Kind>) -> Row
     ensures { row_view result ≡ plain_row word.now kinds }
@@ -163,7 +164,7 @@ fn plain_row(word: &'static str, kinds: Args<Kind>) -> Row
     }
 }
 
-// A service's operation has the service's word.
+// The row of an operation whose service returns a status: its word is the service's.
 #[inline(always)]
 fn service_row(service: ServiceId, kinds: Args<Kind>) -> Row
     ensures { row_view result ≡ service_row service kinds }
@@ -250,8 +251,8 @@ pub enum Arg<R> {
     Core(Option<CoreId>),
 }
 
-/// An operation as its verb and its arguments, whose objects are known as `R` says: by their names, or
-/// by their places.
+/// An operation as its verb and its arguments. `R` says how the arguments refer to objects: by their names,
+/// or by their places.
 #[derive(Clone, Copy, PartialEq, Eq)]
 pub struct ParsedOp<R> {
     pub verb: Verb,
@@ -276,7 +277,7 @@ impl<A: Copy> Args<A> {
     }
 }
 
-// Where the object of this kind stands that the argument at this place names.
+// The place of the object that the argument at index `i` names, if the object is of this kind.
 #[inline(always)]
 fn place_at(args: Args<Arg<Place>>, kind: ObjectKind, i: usize) -> Option<Place>
     ensures { result ≡ place_at kind (items args) i }
@@ -287,7 +288,7 @@ fn place_at(args: Args<Arg<Place>>, kind: ObjectKind, i: usize) -> Option<Place>
     }
 }
 
-// The reference to the object that the argument at this place names.
+// The reference to the object that the argument at index `i` names, if the object is of the reference's kind.
 #[inline(always)]
 fn ref_at<R: Reference>(args: Args<Arg<Place>>, i: usize) -> Option<R>
     ensures { result ≡ ref_at R.KIND R.ref_of (items args) i }
@@ -298,7 +299,7 @@ fn ref_at<R: Reference>(args: Args<Arg<Place>>, i: usize) -> Option<R>
     }
 }
 
-// The mask at this place.
+// The mask at index `i` of the arguments; 0 if there is none.
 #[inline(always)]
 fn mask_at(args: Args<Arg<Place>>, i: usize) -> u32
     ensures { result ≡ mask_at (items args) i }
@@ -309,7 +310,7 @@ fn mask_at(args: Args<Arg<Place>>, i: usize) -> u32
     }
 }
 
-// The signed number at this place.
+// The signed number at index `i` of the arguments; 0 if there is none.
 #[inline(always)]
 fn int_at(args: Args<Arg<Place>>, i: usize) -> i64
     ensures { result ≡ int_at (items args) i }
@@ -320,7 +321,7 @@ fn int_at(args: Args<Arg<Place>>, i: usize) -> i64
     }
 }
 
-// The whole number at this place.
+// The whole number at index `i` of the arguments; 0 if there is none.
 #[inline(always)]
 fn number_at(args: Args<Arg<Place>>, i: usize) -> u32
     ensures { result ≡ number_at (items args) i }
@@ -331,7 +332,7 @@ fn number_at(args: Args<Arg<Place>>, i: usize) -> u32
     }
 }
 
-// The status of the number at this place: E_OK where no status has it.
+// The status whose number is at index `i` of the arguments; E_OK if no status has that number.
 #[inline(always)]
 fn status_at(args: Args<Arg<Place>>, i: usize) -> Status
     ensures { result ≡ status_at (items args) i }
@@ -342,7 +343,7 @@ fn status_at(args: Args<Arg<Place>>, i: usize) -> Status
     }
 }
 
-// The core at this place.
+// The core at index `i` of the arguments, if there is one.
 #[inline(always)]
 fn core_at(args: Args<Arg<Place>>, i: usize) -> Option<CoreId>
     ensures { result ≡ core_at (items args) i }
@@ -353,7 +354,7 @@ fn core_at(args: Args<Arg<Place>>, i: usize) -> Option<CoreId>
     }
 }
 
-// The variable at this place.
+// The variable at index `i` of the arguments; `v0` if there is none.
 #[inline(always)]
 fn variable_at(args: Args<Arg<Place>>, i: usize) -> Variable
     ensures { result ≡ variable_at (items args) i }
@@ -364,8 +365,8 @@ fn variable_at(args: Args<Arg<Place>>, i: usize) -> Variable
     }
 }
 
-/// The operation of a form. An argument that is not of its kind is taken as the invalid identifier, as 0
-/// or as `v0`.
+/// The operation with the form's verb and arguments. An argument that is not of its kind is taken as the invalid
+/// identifier, as 0, as `v0` or as E_OK.
 #[inline(always)]
 pub fn op_of(form: ParsedOp<Place>) -> Op
     ensures { result ≡ op_of (form_view form) }
@@ -422,7 +423,7 @@ pub fn op_of(form: ParsedOp<Place>) -> Op
     }
 }
 
-// The argument that refers to this object.
+// The argument that refers to this object. Without an object it is the invalid identifier.
 fn argument<R: Reference>(target: Option<R>) -> Arg<Place>
     ensures { result ≡ ref_argument R.KIND R.place_of target }
 {
@@ -432,19 +433,21 @@ fn argument<R: Reference>(target: Option<R>) -> Arg<Place>
     }
 }
 
-fn timed_arguments(target: Option<AlarmRef>, first: u32, cycle: u32) -> Args<Arg<Place>>
+// The arguments of SetRelAlarm and of SetAbsAlarm.
+fn alarm_arguments(target: Option<AlarmRef>, first: u32, cycle: u32) -> Args<Arg<Place>>
     ensures { items result ≡ alarm_argument target ∷ Arg.Number first ∷ Arg.Number cycle ∷ [] }
 {
     Args::Three(argument(target), Arg::Number(first), Arg::Number(cycle))
 }
 
+// The argument that names this variable.
 fn variable_argument(variable: Variable) -> Arg<Place>
     ensures { result ≡ Arg.Variable variable.index }
 {
     Arg::Variable(variable.index)
 }
 
-/// What an operation does.
+/// The verb of an operation.
 pub fn verb_of(op: Op) -> Verb
     ensures { result ≡ (parsed_op_of op).0 }
 {
@@ -489,18 +492,21 @@ pub fn verb_of(op: Op) -> Verb
     }
 }
 
+// The argument for a status: its number.
 fn status_argument(status: Status) -> Arg<Place>
     ensures { result ≡ status_argument status }
 {
     Arg::Number(u32::from(status.number()))
 }
 
+// The arguments of an operation that has only this one.
 fn one(arg: Arg<Place>) -> Args<Arg<Place>>
     ensures { items result ≡ arg ∷ [] }
 {
     Args::One(arg)
 }
 
+// The arguments of an operation that has these two.
 fn two(first: Arg<Place>, second: Arg<Place>) -> Args<Arg<Place>>
     ensures { items result ≡ first ∷ second ∷ [] }
 {
@@ -528,7 +534,7 @@ fn args_of(op: Op) -> Args<Arg<Place>>
         Op::IncrementCounter(target) => one(argument(target)),
         Op::GetCounterValue(target, x) => two(argument(target), variable_argument(x)),
         Op::SetRelAlarm(target, first, cycle) | Op::SetAbsAlarm(target, first, cycle) => {
-            timed_arguments(target, first, cycle)
+            alarm_arguments(target, first, cycle)
         }
         Op::CancelAlarm(target) => one(argument(target)),
         Op::GetAlarm(target, x) => two(argument(target), variable_argument(x)),
@@ -546,7 +552,7 @@ fn args_of(op: Op) -> Args<Arg<Place>>
     }
 }
 
-/// The form of an operation.
+/// The form of an operation: its verb and its arguments.
 pub fn parsed_op_of(op: Op) -> ParsedOp<Place>
     ensures { form_view result ≡ parsed_op_of op }
 {
@@ -556,6 +562,7 @@ pub fn parsed_op_of(op: Op) -> ParsedOp<Place>
     }
 }
 
+// The object that an argument names. The invalid identifier names none.
 fn object_in(arg: Arg<Place>) -> Option<Object>
     ensures { result ≡ object_in arg }
 {
@@ -570,6 +577,7 @@ fn object_in(arg: Arg<Place>) -> Option<Object>
     }
 }
 
+// The objects that the arguments name, each at the place of its argument.
 fn objects_in(args: Args<Arg<Place>>) -> [Option<Object>; 3]
     ensures { filter_map (λ o. o) result ≡ filter_map object_in (items args) }
 {
@@ -582,8 +590,8 @@ fn objects_in(args: Args<Arg<Place>>) -> [Option<Object>; 3]
 }
 
 impl Op {
-    /// The objects that the operation names, as its arguments name them. The invalid identifier names
-    /// none.
+    /// The objects that the operation names, each at the place of its argument. The invalid identifier names
+    /// no object.
     pub fn objects(self) -> [Option<Object>; 3]
         ensures { filter_map (λ o. o) result ≡ objects_of self }
     {
@@ -613,8 +621,8 @@ impl Op {
         }
     }
 
-    /// Whether the operation asks how many cores are started, calls StartCore, or names a spinlock: what it does depends on
-    /// what all cores share (AUTOSAR SWS OS 4.x, SWS_Os_00672, SWS_Os_00676, SWS_Os_00686, SWS_Os_00703 and
+    /// Whether the operation asks how many cores are started, calls StartCore, or names a spinlock: what it does
+    /// depends on what all cores share (AUTOSAR SWS OS 4.x, SWS_Os_00672, SWS_Os_00676, SWS_Os_00686, SWS_Os_00703 and
     /// SWS_Os_00695).
     pub fn asks_shared(self) -> bool
         ensures { result ≡ asks_shared self }
@@ -635,7 +643,7 @@ impl Op {
         matches!(self, Op::ShutdownAllCores(_))
     }
 
-    /// Whether the operation may name no object of another core.
+    /// Whether the operation may name objects of its own core only.
     pub fn refers_to_own_only(self) -> bool
         ensures { result ≡ refers_to_own_only self }
     {

@@ -22,7 +22,7 @@ pub fn with_none_set(events: TaskEvents) -> TaskEvents
     TaskEvents { set: 0, ..events }
 }
 
-/// These events, with some more set (OSEK/VDX OS 2.2.3, section 13.5.3.1).
+/// These events, with those of the mask set too (OSEK/VDX OS 2.2.3, section 13.5.3.1).
 pub fn with_set(events: TaskEvents, mask: u32) -> TaskEvents
     ensures { result ≡ with_set mask events }
 {
@@ -32,7 +32,7 @@ pub fn with_set(events: TaskEvents, mask: u32) -> TaskEvents
     }
 }
 
-/// These events, with some cleared and no other (OSEK/VDX OS 2.2.3, section 13.5.3.2).
+/// These events, with those of the mask cleared (OSEK/VDX OS 2.2.3, section 13.5.3.2).
 pub fn with_cleared(events: TaskEvents, mask: u32) -> TaskEvents
     ensures { result ≡ with_cleared mask events }
 {
@@ -42,8 +42,8 @@ pub fn with_cleared(events: TaskEvents, mask: u32) -> TaskEvents
     }
 }
 
-/// These events, where the task waits for one of a mask, or does not wait (OSEK/VDX OS 2.2.3, section 13.5.3.4 and
-/// 4.2.1).
+/// These events, with the task waiting for one of the events in `awaited`, or not waiting if that is none (OSEK/VDX OS
+/// 2.2.3, section 13.5.3.4 and 4.2.1).
 pub fn with_awaited(events: TaskEvents, awaited: Option<u32>) -> TaskEvents
     ensures { result ≡ with_awaited awaited events }
 {
@@ -64,7 +64,7 @@ pub fn have_common(mask: u32, other: u32) -> bool
     mask & other != 0
 }
 
-/// Whether the task waits for one of these events at least (OSEK/VDX OS 2.2.3, section 4.2.1).
+/// Whether the task waits for at least one of these events (OSEK/VDX OS 2.2.3, section 4.2.1).
 pub fn awaits_one_of(events: TaskEvents, mask: u32) -> bool
     ensures { result ≡ awaits_one_of mask events }
 {

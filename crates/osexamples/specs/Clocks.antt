@@ -8,11 +8,11 @@ use Rattle.osplan.specs.declared.plans.Table.{Table}
 use Rattle.osexamples.specs.Example.{Example, core}
 use Rattle.osexamples.specs.Parts.{alarm_at, alarm_for, auto_task, awaited, begun, core_of, counter, counter_at, ended, failed, of_one_core, operations, returned, returned_with, run_to_end, short_task, task, task_at, ticks, with_clocks, with_events, with_priority, with_tables}
 
--- an alarm expires, and the job of its task runs
+-- what the core prints when the alarm expires and activates the task, whose job begins to run
 abbrev pub expired : AlarmRef → TaskRef → List Mark
 expired l t = Mark.AlarmExpired l ∷ Mark.Activated t ∷ Mark.PreTaskHook t ∷ []
 
--- An alarm that is to be due at the value that its counter has is due a full turn later, and one after no counts is refused.
+-- An alarm that is set to its counter's present value expires a full turn later. SetRelAlarm by 0 counts is refused.
 -- [OSEK/VDX OS 2.2.3, section 13.6.3.3 and 13.6.3.4; the full turn: own]
 abbrev pub present : Example
 present =
@@ -30,7 +30,7 @@ present =
           ++ replicate 4 Mark.Tick ++ expired l b ++ ended b;
     })
 
--- A counter goes past its greatest value, and a cyclic alarm of it keeps its cycle. [OSEK/VDX OS 2.2.3, section 9]
+-- A counter wraps past its greatest value, and a cyclic alarm of it keeps its cycle. [OSEK/VDX OS 2.2.3, section 9]
 abbrev pub wrap : Example
 wrap =
     let a = task_at 0 0 in
@@ -47,10 +47,11 @@ wrap =
           ++ replicate 3 Mark.Tick ++ expired l b ++ returned_with b Service.GetCounterValue 1 ++ ended b;
     })
 
+-- the schedule table of core 0 at this index
 abbrev pub table_at : ℕ → TableRef
 table_at index = record { core = core 0; index = index }
 
--- a table that runs once, with one point, of this offset; and one that repeats itself
+-- a single-shot table with this duration and one point, at this offset, with these actions
 abbrev pub table_of : List ℕ → ℕ → ℕ → List RemoteCall → Table
 table_of name duration offset actions = record {
   name = name;
@@ -61,11 +62,12 @@ table_of name duration offset actions = record {
   auto = None;
 }
 
+-- the table as a repeating one
 abbrev pub repeated : Table → Table
 repeated t = record t { repeating = true }
 
--- A schedule table sets an event and activates a task at one point, and at the end of its period another table begins, with its
--- point of offset 0. The event comes first in the text of the point, and is set last.
+-- A schedule table sets an event and activates a task at one point, and at the end of its period another table begins,
+-- with its point of offset 0. The event comes first in the text of the point, and is set last.
 -- [AUTOSAR SWS OS 4.x, SWS_Os_00407, SWS_Os_00412 and SWS_Os_00414]
 abbrev pub ending : Example
 ending =

@@ -10,7 +10,7 @@ pub record Block : Type 0 where
   pub items : List Item
   pub marks : List Mark
 
--- A configuration, the stimuli of a run, and the block of each core, of core 0 first.
+-- A configuration, the stimuli of a run, and each core's block, in the order of the core numbers.
 pub record Example : Type 0 where
   pub plan : Plan
   pub stimuli : List CoreStimuli
@@ -19,30 +19,32 @@ pub record Example : Type 0 where
 abbrev pub core : ℕ → CoreId
 core n = record { number = n }
 
--- What a core prints for items, if each may be taken in turn.
+-- The marks that core `n` alone prints for these items; none if one of them may not be taken in its turn.
 abbrev pub marks_alone : Plan → ℕ → List Item → Option (List Mark)
 marks_alone plan n items = option_map marks_of (solo (view_of plan (core n)) items)
 
--- There is such a block, and the core prints its marks for its items.
+-- The block exists, and the core alone prints the block's marks for the block's items.
 abbrev pub PrintsBlock : Plan → ℕ → Option Block → Type 0
 PrintsBlock plan n None = ⊥
 PrintsBlock plan n (Some b) = marks_alone plan n b.items ≡ Some b.marks
 
+-- Core `n` prints the marks of its block for the items of the block.
 abbrev pub Prints : Example → ℕ → Type 0
 Prints e n = PrintsBlock e.plan n (slice_get e.blocks n)
 
--- The default schedule has so many rounds.
+-- The default schedule of the example has this many rounds.
 abbrev pub HasRounds : Example → ℕ → Type 0
 HasRounds e rounds = IsTrue (is_default e.plan e.stimuli rounds)
 
+-- The cores from this number on, each with the items of its block.
 abbrev pub items_from : ℕ → List Block → List (CoreId × List Item)
 items_from n [] = []
 items_from n (b ∷ bs) = (core n, b.items) ∷ items_from (suc n) bs
 
--- In so many rounds each core takes the items of its block.
+-- In this many rounds of the default schedule, each core takes just the items of its block.
 abbrev pub TakesItems : Example → ℕ → Type 0
 TakesItems e rounds = (world e.plan e.stimuli (default_turns e.plan rounds)).items ≡ items_from 0 e.blocks
 
--- After so many rounds a started core has not ended.
+-- After this many rounds of the default schedule, some started core has not ended.
 abbrev pub Stalls : Example → ℕ → Type 0
 Stalls e rounds = IsTrue (not (is_over e.plan (world e.plan e.stimuli (default_turns e.plan rounds))))

@@ -9,14 +9,16 @@ use Rattle.osplan.specs.{declared.plans.Core.Core, declared.plans.Isr.Isr, decla
 use Rattle.osexamples.specs.Example.{Example, core}
 use Rattle.osexamples.specs.Parts.{OneCore, auto_task, awaited, begun, core_of, ended, failed, first_resource, of_one_core, operations, returned, run_to_end, short_task, task_at, ticks, with_events, with_priority, with_resource}
 
--- The first ISR of core 0, of level 1, and a core with it alone.
+-- The first ISR of core 0.
 abbrev pub first_isr : IsrRef
 first_isr = record { core = core 0; index = 0 }
 
+-- The core with one ISR, of level 1, with this name and script.
 abbrev pub with_isr : List ℕ → List Op → Core → Core
 with_isr name script c = record c { isrs = record { name = name; level = 1; budget = 0; script = script } ∷ [] }
 
--- W may use two ticks. It uses one, waits, and so may use two again; it takes a resource and uses them. D releases it.
+-- W may use two ticks. It uses one and waits. D releases W, which may use two again: it takes a resource and uses both.
+-- The core answers that by `protection`, and prints the marks of `answer`.
 -- [AUTOSAR SWS OS 4.x, SWS_Os_00064 and SWS_Os_00473]
 abbrev pub overrunning : Protection → List Mark → OneCore
 overrunning protection answer =
@@ -35,25 +37,26 @@ overrunning protection answer =
           ++ (Mark.Tick ∷ Mark.Tick ∷ Mark.ProtectionHook EOsProtectionTime ∷ []) ++ answer;
     }
 
--- The job of W ends without PostTaskHook, and D runs on. [AUTOSAR SWS OS 4.x, SWS_Os_00553]
+-- By the answer TerminateTaskIsr the job of W ends without PostTaskHook, and D runs on.
+-- [AUTOSAR SWS OS 4.x, SWS_Os_00553]
 abbrev pub budget : Example
 budget =
     let d = task_at 0 1 in
     let spent = overrunning Protection.TerminateTaskIsr (Mark.Terminated (task_at 0 0) ∷ run_to_end d) in
     of_one_core (record spent { stimuli = spent.stimuli ++ operations 1 })
 
--- With another answer the core goes down; the stimulus that is left is not taken. [AUTOSAR SWS OS 4.x, SWS_Os_00307]
+-- By the answer Ignore the core goes down. The stimulus that is left is not taken. [AUTOSAR SWS OS 4.x, SWS_Os_00307]
 abbrev pub ignored : Example
 ignored =
     let spent = overrunning Protection.Ignore (Mark.ShutdownHook EOsProtectionTime ∷ []) in
     let all = of_one_core spent in
     record all { stimuli = record { core = core 0; words = spent.stimuli ++ operations 1 } ∷ [] }
 
--- A suspends interrupts. Of two interrupts of I one is pending and the other one lost, and a service of A is refused. Once A resumes
--- interrupts, I begins and activates H, which preempts A when I has ended.
+-- A suspends interrupts. Of two interrupts of I one is pending and the other one lost, and a service of A is refused.
+-- Once A resumes interrupts, I begins and activates H, which preempts A when I has ended.
 -- [OSEK/VDX OS 2.2.3, section 13.3.2.4; AUTOSAR SWS OS 4.x, SWS_Os_00093]
-abbrev pub locked : Example
-locked =
+abbrev pub suspended : Example
+suspended =
     let a = task_at 0 0 in
     let h = task_at 0 1 in
     let i = first_isr in
@@ -67,7 +70,7 @@ locked =
           ++ run_to_end h ++ run_to_end a;
     })
 
--- An ISR ends with interrupts suspended: ErrorHook comes first, and then its task runs on. [AUTOSAR SWS OS 4.x, SWS_Os_00368]
+-- An ISR ends with interrupts suspended: ErrorHook is called, and the task runs on. [AUTOSAR SWS OS 4.x, SWS_Os_00368]
 abbrev pub unresumed : Example
 unresumed =
     let a = task_at 0 0 in

@@ -12,10 +12,12 @@ abbrev pub are_ascending : List Job → Bool
 are_ascending [] = true
 are_ascending (j ∷ js) = list_all (λ (k : Job). nat_lt j.stamp k.stamp) js && are_ascending js
 
+-- No act is to be done.
 abbrev pub is_nothing : Acts → Bool
 is_nothing nothing = true
 is_nothing acts = false
 
--- An operation is a call for an object of any core, or stands in the table of a family: else its job would stay at it for ever. [own]
+-- The operation is a call, such as ActivateTask, or the table of a family of services has it. Else its job would never
+-- get past it. [own]
 abbrev pub does_something : Runner → Op → Bool
 does_something r op = is_some (call_of_op op) || not (is_nothing (acts_alone r op))

@@ -4,11 +4,12 @@ use Rattle.osplan.specs.declared.plans.Plan.{Plan}
 use Rattle.oslog.specs.Logs.{log_of_text}
 use Rattle.osexamples.specs.Example.{Block, Example}
 
--- The text, read line by line, says a core's items.
+-- The block exists, and the text, read as a log, lists the block's items.
 abbrev pub SaysBlock : Plan → List ℕ → Option Block → Type 0
 SaysBlock plan text None = ⊥
 SaysBlock plan text (Some block) = log_of_text plan text ≡ Some block.items
 
+-- The text is a log of the items of core `n`.
 abbrev pub SaysItems : Example → ℕ → List ℕ → Type 0
 SaysItems e n text = SaysBlock e.plan text (slice_get e.blocks n)
 

@@ -10,12 +10,12 @@ use Rattle.osplan.specs.declared.protection.Protection.{Protection}
 use Rattle.osexamples.specs.Example.{Example}
 use Rattle.osexamples.specs.Parts.{OneCore, activated_by, auto_task, begun, core_of, ended, failed, first_resource, given_to, of_one_core, operations, returned, run_to_end, short_task, task_at, with_lock, with_priority, with_resource, without_preemption}
 
--- the resource is held during these operations, and the task ends
+-- a script that holds the first resource during these operations, and then ends the task
 abbrev pub holding : List Operation → List Operation
 holding inner = (Op.GetResource (Some (first_resource 0)) ∷ inner) ++ Op.ReleaseResource (Some (first_resource 0)) ∷ Op.TerminateTask ∷ []
 
--- The priority ceiling: while L holds the resource, H, of the ceiling's priority, does not preempt it, and does at once when L
--- gives the resource back. [OSEK/VDX OS 2.2.3, section 8.5]
+-- The priority ceiling: while L holds the resource, H, of the ceiling's priority, does not preempt it, and does at once
+-- when L gives the resource back. [OSEK/VDX OS 2.2.3, section 8.5]
 abbrev pub ceiling : Example
 ceiling =
     let l = task_at 0 0 in
@@ -28,8 +28,8 @@ ceiling =
           ++ (Mark.PostTaskHook l ∷ []) ++ run_to_end h ++ run_to_end l;
     })
 
--- A job that holds a resource does not give way: Schedule is refused, so the job of N, which cannot be preempted, runs on before
--- that of U, of greater priority. [OSEK/VDX OS 2.2.3, section 13.2.3.4]
+-- A job that holds a resource does not give way: Schedule is refused, so the job of N, which cannot be preempted, runs
+-- on before that of U, of greater priority. [OSEK/VDX OS 2.2.3, section 13.2.3.4]
 abbrev pub keeping : Example
 keeping =
     let n = task_at 0 0 in
@@ -43,7 +43,8 @@ keeping =
           ++ returned n Service.ReleaseResource EOk ++ ended n ++ run_to_end u;
     })
 
--- A, which may use so many ticks, takes a resource whose lock budget is two ticks, and works on: the second tick is too many.
+-- A, with this execution budget, takes a resource whose lock budget is two ticks. The second tick uses the lock budget
+-- up. The core answers that by `protection`, and prints the marks of `answer`.
 abbrev pub overholding : ℕ → Protection → List Mark → OneCore
 overholding budget protection answer =
     let a = task_at 0 0 in
@@ -54,20 +55,21 @@ overholding budget protection answer =
       marks = begun a ++ returned a Service.GetResource EOk ++ (Mark.Tick ∷ Mark.Tick ∷ []) ++ answer;
     }
 
--- and one operation more is given
+-- the example with one more operation as its last stimulus
 abbrev pub one_more : OneCore → OneCore
 one_more a = record a { stimuli = a.stimuli ++ operations 1 }
 
--- The job of A ends, and with it the resource is given back. [AUTOSAR SWS OS 4.x, SWS_Os_00553]
+-- By the answer TerminateTaskIsr the job of A ends, and with it the resource is given back.
+-- [AUTOSAR SWS OS 4.x, SWS_Os_00553]
 abbrev pub overheld : Example
 overheld = of_one_core (one_more (overholding 0 Protection.TerminateTaskIsr (Mark.ProtectionHook EOsProtectionLocked ∷ Mark.Terminated (task_at 0 0) ∷ [])))
 
--- With another answer the core goes down; the stimulus that is left is not taken. [AUTOSAR SWS OS 4.x, SWS_Os_00307]
+-- By the answer Shutdown the core goes down. The stimulus that is left is not taken. [AUTOSAR SWS OS 4.x, SWS_Os_00307]
 abbrev pub overheld_down : Example
 overheld_down =
     let held = overholding 0 Protection.Shutdown (Mark.ProtectionHook EOsProtectionLocked ∷ Mark.ShutdownHook EOsProtectionLocked ∷ []) in
     record (of_one_core held) { stimuli = given_to 0 (one_more held).stimuli ∷ [] }
 
--- Where the same tick reaches the execution budget, that alone is the fault. [own]
+-- If the same tick reaches the execution budget too, only the execution budget is reported. [own]
 abbrev pub overrunning : Example
 overrunning = of_one_core (one_more (overholding 2 Protection.TerminateTaskIsr (Mark.ProtectionHook EOsProtectionTime ∷ Mark.Terminated (task_at 0 0) ∷ [])))

@@ -7,8 +7,9 @@ use Rattle.oscript.specs.declared.Op.TheVariants as Op
 use Rattle.osexamples.specs.Example.{Example}
 use Rattle.osexamples.specs.Parts.{activated_by, auto_task, awaited, begun, core_of, ended, failed, of_one_core, operations, returned, run_to_end, short_task, task, task_at, with_events, with_priority, without_preemption}
 
--- Four tasks of one core: X activates Y, of its own priority, and H, of a greater one, which preempts X and activates Z, again of
--- X's priority. The jobs of that priority run in the order of their activation: X runs on first, then come Y and Z.
+-- Four tasks of one core: X activates Y, of its own priority, and H, of a greater one, which preempts X and activates
+-- Z, again of X's priority. The jobs of that priority run in the order of their activation: X runs on first, then come
+-- Y and Z.
 -- [OSEK/VDX OS 2.2.3, sections 4.5 and 4.6]
 abbrev pub oldest : Example
 oldest =
@@ -28,8 +29,8 @@ oldest =
           ++ run_to_end x ++ run_to_end y ++ run_to_end z;
     })
 
--- N cannot be preempted. When it calls Schedule, the job of E, of equal priority, waits, and that of U, of a greater one, comes
--- between. Then N runs on. [OSEK/VDX OS 2.2.3, sections 4.6.2 and 13.2.3.4]
+-- N cannot be preempted. When it calls Schedule, the job of E, of equal priority, waits, but that of U, of a greater
+-- one, runs first. Then N runs on. [OSEK/VDX OS 2.2.3, sections 4.6.2 and 13.2.3.4]
 abbrev pub scheduling : Example
 scheduling =
     let n = task_at 0 0 in
@@ -45,8 +46,8 @@ scheduling =
           ++ (Mark.PostTaskHook n ∷ []) ++ run_to_end u ++ run_to_end n ++ run_to_end e;
     })
 
--- W waits for an event. D, of a lesser priority, which cannot be preempted, activates F, of W's priority, and then sets the event.
--- W is released after F was activated, and so it runs on after F. [OSEK/VDX OS 2.2.3, sections 4.5 and 7]
+-- W waits for an event. D, of a lesser priority, which cannot be preempted, activates F, of W's priority, and then sets
+-- the event. W is released after F was activated, and so it runs on after F. [OSEK/VDX OS 2.2.3, sections 4.5 and 7]
 abbrev pub released : Example
 released =
     let w = task_at 0 0 in
@@ -77,9 +78,9 @@ chained =
       marks = begun s ++ ended s ++ next ++ ended s ++ next;
     })
 
--- Variables and positions: a refused service's status is stored, a jump is taken where a variable is 0 and passed over where it
--- is not, and a sum stops at the end of the type. The first jump is passed over, since the status is not 0; the second leads to
--- the sum.
+-- Variables and jumps: the status of a refused service is stored. A jump is taken where a variable is 0, and passed
+-- over where it is not. A sum stops at the end of the type. The first jump is passed over, since the status is not 0;
+-- the second leads to the sum.
 abbrev pub variables : Example
 variables =
     let a = task_at 0 0 in

@@ -2,7 +2,7 @@
 
 ghost use Rattle.osexamples.specs.{Border.activation, Logs.SaysItems, Logs.activation_log};
 
-/// One activation across the border: the log of the core that asks for it says the items that the core takes.
+/// One activation across the border: the log of core 0, which requests it, lists the items that this core takes.
 pub fn activation_log_says_its_items()
     ensures { SaysItems activation 0 activation_log }
 {}

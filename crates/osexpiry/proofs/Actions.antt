@@ -1,4 +1,4 @@
--- The actions of a core's alarms and of its tables' points: what they pass, and what they may act on.
+-- The actions of a core's alarms and expiry points: which tests they pass, and what they may act on.
 use Rattle.std.proofs.Common.{◌≡◌, ◌≤◌, ◌&&◌, ◌==◌, ℕ, zero, suc, nat_le, nat_lt, Bool, true, false, cond, Option, Some, None, IfSome, IsTrue, List, [], ◌∷◌, flat_map, length, map, refl, ap, sym, ◌∙◌, arith}
 use Rattle.std.specs.List.{list_all, slice_get}
 use Rattle.std.proofs.lemmas.Bool.{and_from, and_parts, ltb-false, ltb-true}
@@ -9,11 +9,11 @@ use Rattle.osplan.specs.Objects.{core_actions, greatest_of, may_act, posted_at, 
 use Rattle.osplan.proofs.{Tests.each-flat, Timing.own-table-timed, Timing.own-table-within, Timing.table-parts}
 use Rattle.osbase.proofs.Places.{passes-at}
 use Rattle.osaction.specs.Points.{is_known_point}
-use Rattle.osexpiry.specs.ExpiryPoints.{first_point, if_at_once, point_of}
+use Rattle.osexpiry.specs.ExpiryPoints.{first_point, if_at_zero, point_of}
 
--- ---- what all of a core's actions pass
+-- ---- tests that all of a core's actions pass
 
--- What is found, where it is looked for only if a test holds.
+-- If a choice between a value and none gives a value, its test holds and that value is there.
 pub if-found : {X : Type 0} (b : Bool) (o : Option X) (x : X) → cond b o None ≡ Some x → (b ≡ true) × (o ≡ Some x)
 if-found true o x is = (refl, is)
 if-found false o x is = cc
@@ -21,12 +21,12 @@ if-found false o x is = cc
 pub point-in-table : (p : RemoteCall → Bool) (table : Table) (n : ℕ) (point : ExpiryPoint) → list_all p (table_actions table) ≡ true → slice_get table.points n ≡ Some point → list_all p point.actions ≡ true
 point-in-table p table n point all = passes-at (λ (x : ExpiryPoint). list_all p x.actions) table.points n point (each-flat p (λ (x : ExpiryPoint). x.actions) table.points all)
 
--- A period begins with a table's first point.
+-- The point with which a period begins is the table's first one.
 pub first-there : (core : Core) (s : TableRef) (point : ExpiryPoint) → first_point core s ≡ Some point → point_of core s 0 ≡ Some point
-first-there core s point is = option_and_then_some if_at_once (point_of core s 0) point is (λ x there once. there ∙ ap Some (cond_some (x.offset == 0) x point once).1)
+first-there core s point is = option_and_then_some if_at_zero (point_of core s 0) point is (λ x there once. there ∙ ap Some (cond_some (x.offset == 0) x point once).1)
 
 module _ (p : RemoteCall → Bool) (core : Core) (all : list_all p (core_actions core) ≡ true) where
-  -- Those of the alarms, and those of the tables.
+  -- The actions of the alarms, and those of the tables.
   each : (list_all p (map (λ (x : Alarm). x.action) core.alarms) ≡ true) × (list_all p (flat_map table_actions core.tables) ≡ true)
   each = and_parts _ _ (sym (list_all-append p (map (λ (x : Alarm). x.action) core.alarms) (flat_map table_actions core.tables)) ∙ all)
 
@@ -60,7 +60,7 @@ greater-both m n = by (nat_lt m n) refl
     by true e = (omega (arith, ltb-true m n e), omega arith)
     by false e = (omega arith, omega (arith, ltb-false m n e))
 
--- A point posts no more than that of the table's points that posts most.
+-- A point posts no more letters than the table's busiest point.
 pub posted-within : (core : Core) (points : List ExpiryPoint) (n : ℕ) (point : ExpiryPoint) → slice_get points n ≡ Some point → posted_at core point ≤ greatest_of (map (posted_at core) points)
 posted-within core [] n point there = cc
 posted-within core (p ∷ points) zero point there = let same : p ≡ point = cc in omega (arith, ap (posted_at core) same, (greater-both (posted_at core p) (greatest_of (map (posted_at core) points))).0)

@@ -1,5 +1,5 @@
--- A count of a counter, and the service that counts, act on the own core and on cores that may be asked, where the core's alarms and
--- schedule tables do.
+-- If the core's alarms and schedule tables act only on this core and on cores that may be asked, so does a count of a
+-- counter, and so does IncrementCounter.
 use Rattle.std.proofs.Common.{◌≡◌, Bool, true, false, Option, Some, IfSome, None, refl, sym, subst}
 use Rattle.std.specs.{List.list_all, Option.option_map_or}
 use Rattle.std.proofs.{lemmas.Bool.and_from, lemmas.Bool.and_parts, lemmas.Option.option_and_then_some}
@@ -20,11 +20,11 @@ use Rattle.osaction.specs.Points.{acts_each, does_point, is_of_kind, of_kind}
 use Rattle.osexpiry.specs.ExpiryPoints.{begins_period, due_point, ends, first_point, processes_table, point_of, processes_point}
 use Rattle.osexpiry.proofs.Actions.{alarm-passes, first-there, if-found, point-passes}
 
--- The core of what an action is for is the own core, or one that may be asked.
+-- The action's object is on this core, or on one that may be asked.
 abbrev pub acts_within : View → (Partner → Bool) → RemoteCall → Bool
 acts_within v may action = is_within v may (core_of_call action)
 
--- So it is of each action of the core's alarms and tables.
+-- Each action of the core's alarms and tables passes this test.
 abbrev pub ActionsAllow : View → (Partner → Bool) → Type 0
 ActionsAllow v may = list_all (acts_within v may) (core_actions v.own) ≡ true
 

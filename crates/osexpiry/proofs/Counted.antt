@@ -1,4 +1,4 @@
--- How many entries and marks a count makes: its own entry, and those of the alarms and tables that act, of all that go by the counter.
+-- How many entries and marks a count makes: its own entry, and those of the counter's alarms and tables that act.
 use Rattle.std.proofs.Common.{◌≤◌, ◌+◌, ◌*◌, ℕ, suc, arith}
 
 pub fewer-entries : (expired passed alarms tables : ℕ) → expired ≤ alarms → passed ≤ tables → 1 + 3 * expired + 38 * passed ≤ suc (3 * alarms + 38 * tables)

@@ -10,7 +10,7 @@ use Rattle.osplan.proofs.{Clocked.clock-parts, Tests.length-filter-le}
 use Rattle.osclock.specs.Clocks.{ClockState, alarm_ref, alarm_refs, attached_to, due_in, is_attached, is_due_in}
 use Rattle.ostable.specs.{Tables.is_timed_by, Tables.table_refs, Tables.timed_by, declared.tables.DueTable.DueTable, Waiting.ends_alone, Waiting.repeats, Waiting.with_next}
 use Rattle.ostable.proofs.{Listed.table-refs-length, Portions.sum-of-plans}
-use Rattle.osexpiry.specs.Advancing.{posted_at_point, posted_by, posted_for}
+use Rattle.osexpiry.specs.Advancing.{most_posted_of_table, posted_by, posted_for}
 use Rattle.osexpiry.specs.ExpiryPoints.{due_point, first_point, point_of, posted_by_end, posted_by_point, posted_by_table}
 use Rattle.osexpiry.proofs.Actions.{first-there, posted-within}
 
@@ -34,17 +34,17 @@ due-posted core c s due is = omega (arith, ap (sum_by (posted_for core)) is, fil
 
 -- ---- tables
 
--- So many, if there is a point.
+-- At most this many letters, if each point posts at most this many.
 at-most : (core : Core) (o : Option ExpiryPoint) (most : ℕ) → ((point : ExpiryPoint) → o ≡ Some point → posted_at core point ≤ most) → posted_by_point core o ≤ most
 at-most core None most each = omega arith
 at-most core (Some point) most each = each point refl
 
-point-le : (core : Core) (s : TableRef) (n : ℕ) (point : ExpiryPoint) → point_of core s n ≡ Some point → posted_at core point ≤ posted_at_point core s
+point-le : (core : Core) (s : TableRef) (n : ℕ) (point : ExpiryPoint) → point_of core s n ≡ Some point → posted_at core point ≤ most_posted_of_table core s
 point-le core s n point is = option_and_then_some (λ (table : Table). slice_get table.points n) (own_table core s) point is (λ table own there. rw (own) (posted-within core table.points n point there))
 
-due-le : (core : Core) (d : DueTable) → posted_by_point core (due_point core d) ≤ posted_at_point core d.table
+due-le : (core : Core) (d : DueTable) → posted_by_point core (due_point core d) ≤ most_posted_of_table core d.table
 due-le core d =
-    at-most core (due_point core d) (posted_at_point core d.table) (λ point due. option_and_then_some (point_of core d.table) d.due.point point due (λ n at there. point-le core d.table n point there))
+    at-most core (due_point core d) (most_posted_of_table core d.table) (λ point due. option_and_then_some (point_of core d.table) d.due.point point due (λ n at there. point-le core d.table n point there))
 
 none-posted : (core : Core) (d : DueTable) → is_none d.due.point ≡ true → posted_by_point core (due_point core d) ≡ 0
 none-posted core d none = by d.due.point none
@@ -53,18 +53,18 @@ none-posted core d none = by d.due.point none
     by None e = refl
     by (Some n) e = absurd (false≢true e)
 
-first-le : (core : Core) (s : TableRef) → posted_by_point core (first_point core s) ≤ posted_at_point core s
-first-le core s = at-most core (first_point core s) (posted_at_point core s) (λ point first. point-le core s 0 point (first-there core s point first))
+first-le : (core : Core) (s : TableRef) → posted_by_point core (first_point core s) ≤ most_posted_of_table core s
+first-le core s = at-most core (first_point core s) (most_posted_of_table core s) (λ point first. point-le core s 0 point (first-there core s point first))
 
--- At one count a table posts one of its points, and the one that begins in its place one of its own.
-table-posted : (core : Core) (d : DueTable) → ends_alone core d ≡ true → posted_by_table core d ≤ with_next (posted_at_point core) d
+-- At one count a table posts for one of its points, and the table that replaces it posts for one of its own.
+table-posted : (core : Core) (d : DueTable) → ends_alone core d ≡ true → posted_by_table core d ≤ with_next (most_posted_of_table core) d
 table-posted core d alone = by d.due.ends refl d.next refl (repeats core d.table) refl
   where
-    due : posted_by_point core (due_point core d) ≤ posted_at_point core d.table
+    due : posted_by_point core (due_point core d) ≤ most_posted_of_table core d.table
     due = due-le core d
 
     by : (e : Bool) → d.due.ends ≡ e → (o : Option TableRef) → d.next ≡ o → (r : Bool) → repeats core d.table ≡ r
-        → posted_by_point core (due_point core d) + cond e (posted_by_end core d.table o) 0 ≤ posted_at_point core d.table + option_map_or (posted_at_point core) o 0
+        → posted_by_point core (due_point core d) + cond e (posted_by_end core d.table o) 0 ≤ most_posted_of_table core d.table + option_map_or (most_posted_of_table core) o 0
     by false ends o next r again = omega (arith, due)
     by true ends (Some u) next r again = omega (arith, due, first-le core u)
     by true ends None next false again = rw (again) (omega (arith, due))
@@ -74,9 +74,9 @@ table-posted core d alone = by d.due.ends refl d.next refl (repeats core d.table
 
 -- What a count's due alarms and then its due tables post together.
 pub both-posted : (core : Core) (c : CounterRef) (s : ClockState) (alarms : List AlarmRef) (tables : List DueTable) → alarms ≡ due_in core c s → list_all (ends_alone core) tables ≡ true
-    → sum_by (with_next (posted_at_point core)) tables ≤ sum_by (posted_at_point core) (timed_by core c) → sum_by (posted_for core) alarms + sum_by (posted_by_table core) tables ≤ posted_by core c
+    → sum_by (with_next (most_posted_of_table core)) tables ≤ sum_by (most_posted_of_table core) (timed_by core c) → sum_by (posted_for core) alarms + sum_by (posted_by_table core) tables ≤ posted_by core c
 both-posted core c s alarms tables is alone once =
-    omega (arith, due-posted core c s alarms is, sum-le-all (ends_alone core) (posted_by_table core) (with_next (posted_at_point core)) (table-posted core) tables alone, once)
+    omega (arith, due-posted core c s alarms is, sum-le-all (ends_alone core) (posted_by_table core) (with_next (most_posted_of_table core)) (table-posted core) tables alone, once)
 
 -- ---- of all alarms and tables
 
@@ -104,14 +104,14 @@ sum-of-alarms core = alarms-from core 0 core.alarms (λ k. ap (slice_get core.al
     none : (k : ℕ) → 0 + k ≡ k
     none k = omega arith
 
--- One counter's alarms and tables post no more than all.
+-- One counter's alarms and tables post no more letters than all alarms and tables of the core.
 pub posted-fewer : (core : Core) (c : CounterRef) → posted_by core c ≤ most_posts_per_tick core
 posted-fewer core c =
     omega (
       arith,
       filtered-le (is_attached core c) (posted_for core) (alarm_refs core),
       sum-of-alarms core,
-      filtered-le (is_timed_by core c) (posted_at_point core) (table_refs core),
+      filtered-le (is_timed_by core c) (most_posted_of_table core) (table_refs core),
       sum-of-plans core (most_posts_of_table core),
     )
 

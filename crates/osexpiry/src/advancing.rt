@@ -1,4 +1,4 @@
-//! What is due when a counter goes on.
+//! What expires when a counter is incremented.
 
 ghost use Rattle.std.specs.Prelude.{◌*◌, IsTrue, length, sum_by};
 ghost use Rattle.std.specs.List.{list_all};
@@ -16,8 +16,8 @@ use osbase::{AlarmRef, CounterRef, Mark};
 use osstate::CoreState;
 use ostable::DueTable;
 
-/// One of the core's counters is incremented; then each of its alarms acts that expires at this count, in index order, and
-/// then each of its schedule tables that was running before it (OSEK/VDX OS 2.2.3, section 9.1 and 9.2; AUTOSAR SWS OS
+/// One of the core's counters is incremented. Then the alarms that expire at this count act, in index order, and then
+/// the schedule tables that are due (OSEK/VDX OS 2.2.3, section 9.1 and 9.2; AUTOSAR SWS OS
 /// 4.x, section 7.3).
 pub fn advance<const P: usize, const J: usize, const OUT: usize>(
     state: &mut CoreState<'_, P, J, OUT>,

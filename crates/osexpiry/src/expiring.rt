@@ -1,4 +1,4 @@
-//! What an alarm does when it is due.
+//! What an alarm does when it expires.
 
 ghost use Rattle.std.specs.Prelude.{IsTrue};
 ghost use Rattle.osbase.specs.Objects.{alarm_object};
@@ -11,7 +11,7 @@ use osaction::act;
 use osbase::{AlarmRef, Mark};
 use osstate::CoreState;
 
-// The alarm's line, and then its action.
+// Prints the alarm's line, and then does its action.
 pub(crate) fn expire<const P: usize, const J: usize, const OUT: usize>(
     state: &mut CoreState<'_, P, J, OUT>,
     alarm: AlarmRef,

@@ -16,7 +16,7 @@ use osplan::{ExpiryPoint, Table};
 use osstate::CoreState;
 use ostable::DueTable;
 
-// The point that is due, and then the end of the period.
+// Processes the point that is due, if there is one, and then the end of the period, if it is reached.
 pub(crate) fn process_table<const P: usize, const J: usize, const OUT: usize>(
     state: &mut CoreState<'_, P, J, OUT>,
     due: DueTable,
@@ -33,7 +33,8 @@ pub(crate) fn process_table<const P: usize, const J: usize, const OUT: usize>(
     }
 }
 
-// The table that waits begins in the place of this one; or this one repeats, or stops.
+// A period of `table` ends. If another table, `next`, waits for that, `table` stops and `next` starts. Else a repeating
+// table begins its next period, and a single-shot table stops.
 fn end<const P: usize, const J: usize, const OUT: usize>(
     state: &mut CoreState<'_, P, J, OUT>,
     table: TableRef,
@@ -68,6 +69,7 @@ fn repeats<const P: usize, const J: usize, const OUT: usize>(
     }
 }
 
+// Prints that the schedule table stops, and stops it.
 fn stop<const P: usize, const J: usize, const OUT: usize>(
     state: &mut CoreState<'_, P, J, OUT>,
     table: TableRef,
@@ -81,6 +83,7 @@ fn stop<const P: usize, const J: usize, const OUT: usize>(
     state.stop_table(table);
 }
 
+// Prints that the schedule table begins, starts the table, and begins its first period at once.
 fn begin<const P: usize, const J: usize, const OUT: usize>(
     state: &mut CoreState<'_, P, J, OUT>,
     table: TableRef,
@@ -96,7 +99,7 @@ fn begin<const P: usize, const J: usize, const OUT: usize>(
     process_point(state, table, point, marks);
 }
 
-// The point that is due.
+// The point of the due table that expires at this count, if there is one.
 fn due_point<'a, const P: usize, const J: usize, const OUT: usize>(
     state: &CoreState<'a, P, J, OUT>,
     due: DueTable,
@@ -109,14 +112,14 @@ fn due_point<'a, const P: usize, const J: usize, const OUT: usize>(
     point_at(table, number)
 }
 
-// The table's point of this number.
+// The point of this number in the table.
 fn point_at(table: &Table, number: u8) -> Option<&ExpiryPoint>
     ensures { option_copied result ≡ slice_get table.now.points number }
 {
     table.points.as_slice().get(usize::from(number))
 }
 
-// The point with which a period begins, where it has offset 0.
+// The point with which a period of the table begins: the table's first point, if its offset is 0.
 fn first_point<'a, const P: usize, const J: usize, const OUT: usize>(
     state: &CoreState<'a, P, J, OUT>,
     table: TableRef,
@@ -132,6 +135,7 @@ fn first_point<'a, const P: usize, const J: usize, const OUT: usize>(
     None
 }
 
+// If there is a point, prints its line and does its actions.
 fn process_point<const P: usize, const J: usize, const OUT: usize>(
     state: &mut CoreState<'_, P, J, OUT>,
     table: TableRef,

@@ -1,4 +1,4 @@
-//! The service that advances a counter.
+//! IncrementCounter, the service that increments a software counter.
 
 ghost use Rattle.std.specs.Prelude.{◌≡◌, Some, IsTrue};
 ghost use Rattle.osplan.specs.{Clocked.are_clocks_within, Objects.most_posts_per_tick};
@@ -13,7 +13,7 @@ use oscript::Op;
 use osservice::{Step, accept, refuse};
 use osstate::CoreState;
 
-// Whether it is a counter of the core that ticks alone advance (AUTOSAR SWS OS 4.x, OsCounterType).
+// Whether this is a hardware counter of the core, which only ticks advance (AUTOSAR SWS OS 4.x, OsCounterType).
 fn is_hardware<const P: usize, const J: usize, const OUT: usize>(
     state: &CoreState<'_, P, J, OUT>,
     counter: CounterRef,
@@ -27,9 +27,9 @@ fn is_hardware<const P: usize, const J: usize, const OUT: usize>(
     }
 }
 
-// A running job of one of the core's tasks advances a software counter by one, and what is due then acts (AUTOSAR SWS OS
-// 4.x, SWS_Os_00286). The invalid identifier and a hardware counter of the core answer E_OS_ID, a counter of another core E_OS_CORE; then no
-// counter goes on.
+// A running job increments a software counter of its core, and then what expires acts (AUTOSAR SWS OS 4.x,
+// SWS_Os_00286). The invalid identifier and a hardware counter of the core are refused with E_OS_ID, a counter of
+// another core with E_OS_CORE. A refused call increments no counter.
 fn increment_counter<const P: usize, const J: usize, const OUT: usize>(
     state: &mut CoreState<'_, P, J, OUT>,
     runner: Runner,
@@ -46,6 +46,7 @@ fn increment_counter<const P: usize, const J: usize, const OUT: usize>(
     }
 }
 
+// Increments the counter that a call of IncrementCounter names, or refuses the call.
 fn increment<const P: usize, const J: usize, const OUT: usize>(
     state: &mut CoreState<'_, P, J, OUT>,
     runner: Runner,
@@ -66,8 +67,8 @@ fn increment<const P: usize, const J: usize, const OUT: usize>(
     }
 }
 
-/// An operation of a running job of one of the core's tasks, if it is IncrementCounter: it is done, and the answer
-/// is yes. Else nothing changes.
+/// If the operation of the running job is IncrementCounter, does it and returns `true`. Else changes nothing and
+/// returns `false`.
 pub fn operate<const P: usize, const J: usize, const OUT: usize>(
     state: &mut CoreState<'_, P, J, OUT>,
     step: Step,

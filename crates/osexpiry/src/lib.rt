@@ -1,7 +1,8 @@
-//! What is due when a counter of a core goes on: its alarms act, and its schedule tables come to their points and to the ends of
-//! their periods.
+//! What expires when a counter of a core is incremented: its alarms act, and its schedule tables reach their points and
+//! the ends of their periods.
 //!
-//! No function here takes memory. Each asks for room for the entries and marks that it adds, and for places in the outbox.
+//! No function here takes memory. Each asks for room for the entries and marks that it adds, and for places in the
+//! outbox.
 #![tactic(auto)]
 
 pub mod advancing;

@@ -10,12 +10,14 @@ ghost use Rattle.osplan.specs.Objects.{most_posts_of_table, is_posting, outbox_n
 use osbase::{CALLS_AT_ONCE, CoreId, RemoteCall};
 use osplan::{Config, Core, ExpiryPoint, Resource, Table, Task};
 
+// Whether the action is for another core's object, so that a letter goes into the outbox.
 fn is_posting(core: &Core, action: RemoteCall) -> bool
     ensures { result ≡ is_posting core.now action }
 {
     action.object().place.core.number != core.id.number
 }
 
+// How many actions of the expiry point are for other cores.
 fn posted_at(core: &Core, point: &ExpiryPoint) -> usize
     ensures { result ≡ posted_at core.now point.now }
 {
@@ -27,6 +29,7 @@ fn posted_at(core: &Core, point: &ExpiryPoint) -> usize
         .count()
 }
 
+// The most actions for other cores that any point of the table has.
 fn most_posts_of_table(core: &Core, table: &Table) -> usize
     ensures { result ≡ most_posts_of_table core.now table.now }
 {
@@ -40,6 +43,7 @@ fn most_posts_of_table(core: &Core, table: &Table) -> usize
     greatest
 }
 
+// How many of the core's alarms act on another core.
 fn posted_by_alarms(core: &Core) -> usize
     ensures { result ≡ count_by (λ (alarm : AlarmValue). is_posting core.now alarm.action) core.now.alarms }
 {
@@ -50,6 +54,7 @@ fn posted_by_alarms(core: &Core) -> usize
         .count()
 }
 
+// How many letters the core's schedule tables may add to the outbox at once: of each table those of one point.
 fn posted_by_tables(core: &Core) -> usize
     requires { sum_by (most_posts_of_table core.now) core.now.tables < 2 ^ 64 }
     ensures { result ≡ sum_by (most_posts_of_table core.now) core.now.tables }
@@ -61,7 +66,8 @@ fn posted_by_tables(core: &Core) -> usize
         .sum()
 }
 
-// How many places the core's outbox needs at least.
+// How many places the core's outbox needs at least: for its calls, and for all that its alarms and schedule tables may
+// add at once.
 fn outbox_needed(core: &Core) -> usize
     requires { most_posts_per_tick core.now ≤ POSTED }
     ensures { result ≡ outbox_needed core.now }
@@ -69,7 +75,7 @@ fn outbox_needed(core: &Core) -> usize
     CALLS_AT_ONCE + (posted_by_alarms(core) + posted_by_tables(core))
 }
 
-// How many jobs these tasks may have.
+// How many jobs these tasks may have at once.
 fn jobs_of(tasks: &[Task]) -> usize
     requires { sum_by (λ (t : TaskValue). t.activations) tasks.now < 2 ^ 64 }
     ensures { result ≡ sum_by (λ (t : TaskValue). t.activations) tasks.now }
@@ -81,6 +87,7 @@ fn jobs_of(tasks: &[Task]) -> usize
     jobs
 }
 
+// Whether each task's priority is below this bound.
 fn are_tasks_below(tasks: &[Task], priorities: usize) -> bool
     ensures { result ≡ list_all (λ (t : TaskValue). nat_lt t.priority priorities) tasks.now }
 {
@@ -89,6 +96,7 @@ fn are_tasks_below(tasks: &[Task], priorities: usize) -> bool
         .all(|task| usize::from(task.priority) < priorities)
 }
 
+// Whether each resource's ceiling is below this bound.
 fn are_ceilings_below(resources: &[Resource], priorities: usize) -> bool
     ensures { result ≡ list_all (λ (r : ResourceValue). nat_lt r.ceiling priorities) resources.now }
 {
@@ -97,6 +105,8 @@ fn are_ceilings_below(resources: &[Resource], priorities: usize) -> bool
         .all(|resource| usize::from(resource.ceiling) < priorities)
 }
 
+// Whether the core's priorities and ceilings are below `priorities`, its tasks have at most `jobs` jobs at once, and
+// its outbox needs at most `places` places.
 fn fits_core(core: &Core, priorities: usize, jobs: usize, places: usize) -> bool
     requires activations { sum_by (λ (t : TaskValue). t.activations) core.now.tasks ≤ JOBS }
     requires posted { most_posts_per_tick core.now ≤ POSTED }
@@ -110,8 +120,8 @@ fn fits_core(core: &Core, priorities: usize, jobs: usize, places: usize) -> bool
         && outbox_needed(core) <= places
 }
 
-/// Whether a kernel whose priorities and ceilings are below this bound, with room for so many jobs and with so many places in its
-/// outbox, is large enough for the core of this number. A core that is not configured fits nowhere.
+/// Whether a kernel is large enough for the core of this number. The kernel has the priorities and ceilings below
+/// `priorities`, room for `jobs` jobs, and `places` places in its outbox. A core that is not configured never fits.
 pub fn fits(config: &Config, core: CoreId, priorities: usize, jobs: usize, places: usize) -> bool
     ensures { result ≡ fits_in priorities jobs places (core_of config.now core) }
 {

@@ -1,4 +1,4 @@
--- None of the spinlocks that a core got is among them twice, so there is room for all; and so it stays.
+-- No spinlock is twice among those that a core got, so there is room for all; and this stays so.
 use Rattle.std.proofs.Common.{◌≡◌, ◌&&◌, ◌||◌, ℕ, suc, ◌≤◌, ◌<◌, nat_eq, nat_lt, Bool, true, false, cond, not, IfSome, Some, option_map, List, [], ◌∷◌, ◌++◌, length, map, take, drop, refl, ap, sym, subst, ◌∙◌, arith}
 use Rattle.std.specs.List.{find, refill}
 use Rattle.std.proofs.{Math.Seq.take-append_seam, lemmas.List.length-map}
@@ -8,7 +8,7 @@ use Rattle.osbase.specs.Spins.{all_owed, has_spinlock, is_got_by, is_owed, newes
 use Rattle.osbase.proofs.Few.{few, number_count}
 use Rattle.osgot.specs.Grants.{are_apart}
 
--- ---- what it says of the first one and of the others
+-- ---- what `are_apart` says of the first spinlock and of the others
 
 pub record StandsApart (g : GotSpinlock) (got : List GotSpinlock) : Type 0 where
   pub known : g.lock.index < SPINLOCKS
@@ -60,7 +60,7 @@ none-past n (g ∷ got) past apart = by (nat_eq g.lock.index n) refl (none-past 
 pub bounded : (got : List GotSpinlock) → are_apart got ≡ true → length got ≤ SPINLOCKS
 bounded got apart = omega (arith, as-many got, few SPINLOCKS (numbers got) (λ n past. none-past n got past apart) (λ n. once n got apart))
 
--- There is a place for one that is not there.
+-- There is room for a spinlock that is not among them.
 pub room : (g : GotSpinlock) (got : List GotSpinlock) → g.lock.index < SPINLOCKS → has_spinlock g.lock got ≡ false → are_apart got ≡ true → length got < SPINLOCKS
 room g got known other apart = omega (arith, bounded (g ∷ got) (together g got known other apart))
 
@@ -85,7 +85,7 @@ freed l (g ∷ got) apart = by (same_spinlock g.lock l) (freed l got (parts g go
     by true rest = (parts g got apart).rest
     by false rest = together g (without_spinlock l got) (parts g got apart).known (still-not g.lock l got (parts g got apart).other) rest
 
--- ---- others that have them
+-- ---- a change that keeps the spinlocks
 
 module _ (f : GotSpinlock → GotSpinlock) (same : (g : GotSpinlock) → (f g).lock ≡ g.lock) where
   has-same : (l : SpinlockId) (got : List GotSpinlock) → has_spinlock l (map f got) ≡ has_spinlock l got
@@ -119,7 +119,7 @@ known-owed (g ∷ got) apart = by (is_owed g) (known-owed got (parts g got apart
 
 -- ---- each in turn
 
--- All are there once they are written back.
+-- All are in the list again once they are written back.
 pub written-back : (f : GotSpinlock → GotSpinlock) (got now all : List GotSpinlock) → now ≡ map f got → got ≡ all → refill (length all) all now ≡ map f all
 written-back f got now all is same =
     ap (refill (length all) all) (is ∙ ap (map f) same)

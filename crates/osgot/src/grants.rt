@@ -1,4 +1,4 @@
-//! The spinlocks that a core got, and whose job has each.
+//! The spinlocks that a core got, and the runner whose job has each.
 
 ghost use Rattle.std.specs.Prelude.{◌≡◌, ◌<◌, [], if◌then◌else◌, IfNone, IfSome, length, remove};
 ghost use Rattle.osbase.specs.declared.limits.TheConstants.{SPINLOCKS};
@@ -37,8 +37,8 @@ impl Grants {
         }
     }
 
-    /// The job whose call is open gets the spinlock, which is now the newest; but none that the core has already (AUTOSAR
-    /// SWS OS 4.x, GetSpinlock and TryToGetSpinlock).
+    /// The job whose call is open gets the spinlock, which is now the newest. If no call is open or the core has the
+    /// spinlock already, nothing changes (AUTOSAR SWS OS 4.x, GetSpinlock and TryToGetSpinlock).
     pub fn take(&mut self, lock: SpinlockId, open_call: Option<OpenCall>)
         requires { lock.index < SPINLOCKS }
         ensures { self.new ≡ with_spinlock lock open_call self.old }
@@ -57,7 +57,7 @@ impl Grants {
         self.got.insert(0, got);
     }
 
-    /// The core gives the spinlock back, if it has it (AUTOSAR SWS OS 4.x, ReleaseSpinlock).
+    /// The core gives the spinlock back, if the core has it (AUTOSAR SWS OS 4.x, ReleaseSpinlock).
     pub fn free(&mut self, lock: SpinlockId)
         ensures { self.new ≡ without_spinlock lock self.old }
     {
@@ -66,14 +66,14 @@ impl Grants {
         }
     }
 
-    /// The release of each spinlock that the runner's job has is owed.
+    /// From now on, the release of each spinlock that the runner's job has is owed.
     pub fn owe(&mut self, runner: Runner)
         ensures { self.new ≡ owed_by runner self.old }
     {
         owe_by(self.got.as_mut_slice(), runner);
     }
 
-    /// The release of each spinlock is owed.
+    /// From now on, the release of every spinlock is owed.
     pub fn owe_all(&mut self)
         ensures { self.new ≡ all_owed self.old }
     {
@@ -97,7 +97,7 @@ impl Grants {
             .any(|got| is_got_by(runner, got) && got.lock == lock)
     }
 
-    /// The newest spinlock that the runner's job has.
+    /// The newest spinlock that the runner's job has, if it has one.
     pub fn newest_of(&self, runner: Runner) -> Option<SpinlockId>
         ensures { result ≡ newest_of runner self.now }
     {
@@ -109,12 +109,12 @@ impl Grants {
         Some(got.lock)
     }
 
-    /// The newest spinlock whose release is owed: the next to be given back.
+    /// The newest spinlock whose release is owed, if there is one: the next to be given back.
     pub fn newest_owed(&self) -> Option<SpinlockId>
         ensures value { result ≡ newest_owed self.now }
         ensures known { IfSome result (λ lock. lock.index < SPINLOCKS) }
     {
-        // Asked at nearly every turn, mostly where no spinlock was got.
+        // This is asked at nearly every turn, mostly when no spinlock was got.
         if self.got.is_empty() {
             return None;
         }
@@ -137,7 +137,7 @@ impl Default for Grants {
     }
 }
 
-// The runner's oldest job has the spinlock.
+// Whether the runner's oldest job has the spinlock.
 fn is_got_by(runner: Runner, got: &GotSpinlock) -> bool
     ensures { result ≡ is_got_by runner got.now }
 {
@@ -147,7 +147,7 @@ fn is_got_by(runner: Runner, got: &GotSpinlock) -> bool
     }
 }
 
-// Who has the spinlock once the runner's job ended.
+// The holder of the spinlock once this runner's job has ended: none if that job had the spinlock.
 fn holder_without(runner: Runner, got: &GotSpinlock) -> Option<Runner>
     ensures { record got.now { holder = result } ≡ (if is_got_by runner got.now then owed got.now else got.now) }
 {
@@ -157,6 +157,7 @@ fn holder_without(runner: Runner, got: &GotSpinlock) -> Option<Runner>
     got.holder
 }
 
+// From now on, the release of each of these spinlocks that the runner's job has is owed.
 fn owe_by(got: &mut [GotSpinlock], runner: Runner)
     ensures { got.new ≡ owed_by runner got.old }
 {
@@ -165,6 +166,7 @@ fn owe_by(got: &mut [GotSpinlock], runner: Runner)
     }
 }
 
+// From now on, the release of each of these spinlocks is owed.
 fn owe_each(got: &mut [GotSpinlock])
     ensures { got.new ≡ all_owed got.old }
 {
@@ -173,6 +175,7 @@ fn owe_each(got: &mut [GotSpinlock])
     }
 }
 
+// The first of these spinlocks whose release is owed, if there is one.
 fn first_owed(got: &[GotSpinlock]) -> Option<SpinlockId>
     ensures { result ≡ newest_owed got.now }
 {
@@ -180,7 +183,7 @@ fn first_owed(got: &[GotSpinlock]) -> Option<SpinlockId>
     Some(owed.lock)
 }
 
-// Where the spinlock is, if it is there.
+// The place of the spinlock, if it is among these.
 fn place_of(got: &[GotSpinlock], lock: SpinlockId) -> Option<usize>
     ensures found { IfSome result (λ place. remove got.now place ≡ without_spinlock lock got.now) }
     ensures within { IfSome result (λ place. place < length got.now) }

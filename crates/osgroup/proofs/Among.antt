@@ -1,11 +1,11 @@
--- Tests over lists, and over numbers from one on, element by element.
+-- Tests over lists, and over consecutive numbers, element by element.
 use Rattle.std.proofs.Common.{◌≡◌, ℕ, zero, suc, ◌+◌, ◌<◌, Bool, true, false, List, map, Some, get_or, slice_get, refl, ap, subst, ◌∙◌, arith}
 use Rattle.std.specs.List.{AllByRecursion, list_all, list_any}
 use Rattle.std.proofs.lemmas.Bool.{and_from}
 use Rattle.std.proofs.{lemmas.List.Elements.All-from_recursion, lemmas.List.Folds.Any-from_list_any, lemmas.List.Sums.list_all-from_AllPass, lemmas.Option.get_or_from_slice_get, lemmas.Option.slice_get-get_or, lemmas.Option.slice_get_within}
 use Rattle.osbase.specs.Sets.{numbers_from}
 
--- What each element passes, all pass.
+-- If each element passes a test, all pass.
 pub all-at : {X : Type 0} (p : X → Bool) (xs : List X) → ((i : ℕ) (x : X) → slice_get xs i ≡ Some x → p x ≡ true) → list_all p xs ≡ true
 all-at p xs each = list_all-from_AllPass p xs (λ i d lt. each i (get_or xs i d) (slice_get-get_or xs i d lt))
 
@@ -21,11 +21,11 @@ any-one p xs e =
     let any = Any-from_list_any p xs e in
     record { at = any.0; one = any.1; there = slice_get-get_or xs any.0 any.1 any.2 ∙ ap Some any.3; passes = any.4 }
 
--- What is said of each element, one by one, holds of an element.
+-- What holds of each element, one by one, holds of the element at a place.
 pub recursion-at : {X : Type 0} (P : X → Type 0) (xs : List X) (i : ℕ) (x : X) → AllByRecursion P xs → slice_get xs i ≡ Some x → P x
 recursion-at P xs i x all e = subst P (get_or_from_slice_get xs i x x e) (All-from_recursion P xs all i x (slice_get_within xs i x e))
 
--- ---- so many numbers
+-- ---- `count` numbers
 
 module _ {X : Type 0} (at : ℕ → X) where
   number-from : (first count k : ℕ) → k < count → slice_get (map at (numbers_from first count)) k ≡ Some (at (k + first))

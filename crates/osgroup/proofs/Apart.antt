@@ -1,4 +1,5 @@
--- No core of a group names an object of one outside, and none outside one of the group, or a spinlock of it.
+-- No core of a group names an object of a core outside. No core outside names an object of the group's cores, or a
+-- spinlock of the group.
 use Rattle.std.proofs.Common.{◌≡◌, ◌⊎◌, ℕ, ◌<◌, Bool, true, false, ◌&&◌, nat_lt, Option, Some, None, is_some, length, slice_get, IsTrue, inl, inr, refl, sym, ap, ◌∙◌, arith}
 use Rattle.std.specs.{List.list_all, List.position_or_len, Option.option_map_or}
 use Rattle.std.proofs.{lemmas.List.length-map, lemmas.List.Folds.find_at, lemmas.Map.Keys.any_passes_from_place}
@@ -16,7 +17,7 @@ use Rattle.osgroup.proofs.Among.{all-at, any-one, number-at}
 use Rattle.osgroup.proofs.Members.{GroupParts, both_name, group-parts, lock_of}
 use Rattle.osgroup.proofs.Named.{known-named, known-scripts, named_objects, names-any, script_objects, scripts-any}
 
--- a core that is found by its number stands at a place, and has that number
+-- a core that is found by a number is at a place, and has that number
 pub record FoundAt (plan : Plan) (id : CoreId) : Type 0 where
   pub core : Core
   pub at : ℕ
@@ -31,7 +32,7 @@ found-at plan id c found = record {
   same = same_core-true c.id id (find-holds (λ (d : Core). same_core d.id id) plan.cores c found);
 }
 
--- ---- where a known object stands: on a core, or on none
+-- ---- where a known object is: on a core, or on none
 
 module _ (plan : Plan) (object : Object) where
   pub stands : is_object plan object ≡ true → FoundAt plan object.place.core ⊎ (same_core object.place.core NOBODY ≡ true)
@@ -41,7 +42,7 @@ module _ (plan : Plan) (object : Object) where
       by None found h = inr (and_parts _ _ h).0
       by (Some c) found h = inl (found-at plan object.place.core c found)
 
-  -- A spinlock stands on none, at a place among them.
+  -- A spinlock is on no core, at a place among the spinlocks.
   pub spinlock-common : is_object plan object ≡ true → same_kind object.kind ObjectKind.Spinlock ≡ true → (same_core object.place.core NOBODY ≡ true) × (object.place.index < length plan.spinlocks)
   spinlock-common known kind = by (core_of plan object.place.core) (rw (same_kind-true object.kind ObjectKind.Spinlock kind) at known)
     where
@@ -58,7 +59,7 @@ module _ (plan : Plan) (group : CoreSet) (limits : IsTrue (is_within_limits plan
   known-at : (i : ℕ) (c : Core) → slice_get plan.cores i ≡ Some c → is_core_known plan c ≡ true
   known-at i c there = passes-at (is_core_known plan) plan.cores i c (limit-parts plan limits).known there
 
-  -- an object that a core names stands on no core, or on one of which the core names an object
+  -- an object that a core names is on no core, or on some core; then the first core names an object of that core
   record Naming (test : Object → Bool) (c : Core) : Type 0 where
     object : Object
     passes : test object ≡ true
@@ -111,7 +112,7 @@ module _ (plan : Plan) (group : CoreSet) (limits : IsTrue (is_within_limits plan
       let shared = any_passes_from_place (both_name c taker.one) (spinlock_ids plan) l.index l (number-at lock_of (length plan.spinlocks) l.index place.1) (and_from _ _ mine takes.1) in
       false≢true (sym outside ∙ parts.closed taker.one c taker.at i taker.there here takes.0 (or_right _ _ shared)))
 
-  -- Where the group has a core, none outside shuts all cores down.
+  -- If the group has a core, no core outside shuts all cores down.
   pub halts-outside : (id : CoreId) → has_core group id ≡ true → (i : ℕ) (c : Core) → slice_get plan.cores i ≡ Some c → has_core group c.id ≡ false → has_operation halts_all c ≡ false
   halts-outside id inside i c here outside = by (core_of plan id) refl (parts.configured id inside)
     where
@@ -123,7 +124,7 @@ module _ (plan : Plan) (group : CoreSet) (limits : IsTrue (is_within_limits plan
 
 -- ---- all cores
 
--- Where it has a core, each core keeps apart. Without one, a core outside may shut all cores down.
+-- If the group has a core, each core keeps apart. Without one, a core outside may shut all cores down.
 pub kept-apart : (plan : Plan) (group : CoreSet) (id : CoreId) → IsTrue (is_within_limits plan) → is_group plan group ≡ true → has_core group id ≡ true → list_all (keeps_apart plan group) plan.cores ≡ true
 kept-apart plan group id limits is some =
     let parts : GroupParts plan group = group-parts plan group is in

@@ -56,7 +56,7 @@ module _ (plan : Plan) (id : CoreId) (limits : IsTrue (is_within_limits plan)) (
   parts : SeparateParts plan core
   parts = separate-parts plan core separate
 
-  -- what it names stands on it, so that it names nothing of another core, and no spinlock
+  -- the core names only objects that are on it: nothing of another core, and no spinlock
   unnamed : (other : CoreId) → same_core other core.id ≡ false → names_object (is_on other) core ≡ false
   unnamed other apart = false_from_ne_true _ (λ e.
       let one = any-one (is_on other) (named_objects core) (sym (names-any (is_on other) core) ∙ e) in
@@ -71,7 +71,7 @@ module _ (plan : Plan) (id : CoreId) (limits : IsTrue (is_within_limits plan)) (
       let off : is_off core.id one.one ≡ true = grind (arith, nobody.0, same, low) in
       false≢true (sym parts.inward ∙ scripts-any (is_off core.id) (core_scripts core) ∙ any_passes_from_place (is_off core.id) objects one.at one.one one.there off))
 
-  -- Another core has no say in what it does.
+  -- Another core has no say in what the separate core does.
   pub separate-unsaid : (j : ℕ) (other : Core) → slice_get plan.cores j ≡ Some other → same_core other.id id ≡ false → has_say plan other core ≡ false
   separate-unsaid j other there differs =
       let apart : same_core other.id core.id ≡ false = ap (same_core other.id) same ∙ differs in

@@ -1,4 +1,5 @@
--- The least group of a core is a group, and lies in every group of the core. As many rounds as there are cores are enough.
+-- The least group of a core is a group, and lies in every group of the core. As many rounds as there are cores are
+-- enough.
 use Rattle.std.proofs.Common.{◌≡◌, ℕ, zero, suc, ◌+◌, ◌<◌, Bool, true, false, ◌&&◌, ◌||◌, List, [], ◌∷◌, Some, is_some, length, replicate, slice_get, IsTrue, inl, inr, refl, sym, ap, subst, ◌∙◌, add-one, arith}
 use Rattle.std.proofs.{Math.Path.fun_ext, lemmas.Map.Keys.any_passes_from_place}
 use Rattle.std.specs.{Cmp.both_ways, List.AllByRecursion, List.list_any}
@@ -17,10 +18,10 @@ any-beside : {X : Type 0} (p q r : X → Bool) (xs : List X) → AllByRecursion 
 any-beside p q r [] same = refl
 any-beside p q r (x ∷ xs) same = rw (same.0, any-beside p q r xs same.1) refl
 
--- ---- who has a say in what the cores of a test do
+-- ---- who has a say in what the cores that pass a test do
 
 module _ (plan : Plan) where
-  -- another core, and the one in which it has a say
+  -- a core, and another one that has a say in what the core does
   record Heard (cores : CoreId → Bool) (id : CoreId) : Type 0 where
     pub other : Core
     pub core : Core
@@ -117,7 +118,7 @@ module _ (plan : Plan) (core : CoreId) where
 
 -- ---- the code's rows and rounds
 
--- After so many rounds the set has those that belong within them.
+-- After `n` rounds the set has the cores that belong within `n` rounds.
 abbrev pub IsWithin : Plan → CoreId → ℕ → CoreSet → Type 0
 IsWithin plan core n cores = (id : CoreId) → has_core cores id ≡ belongs_within plan core n id
 
@@ -149,7 +150,7 @@ module _ (plan : Plan) (limits : IsTrue (is_within_limits plan)) where
       has_core-flag cores id lt ∙ rw is (no-flag 16 id.number)
       ∙ sym (false_from_ne_true _ (λ both. let parts = and_parts _ _ both in false≢true (sym none ∙ sym (configured-same core id parts.0) ∙ parts.1))))
 
-  -- A core of the set has this one in its row where this one has a say in what one of them does.
+  -- A core is in the row of a core of the set exactly if it has a say in what a core of the set does.
   in-rows : (rows : List CoreSet) → AreRows plan rows → (cores : CoreSet) (id : CoreId) → id.number < 16 → is_in_one_row plan.cores rows cores id ≡ is_heard plan (has_core cores) id
   in-rows rows are cores id lt = both_ways _ _ to from
     where

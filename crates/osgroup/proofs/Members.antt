@@ -7,11 +7,11 @@ use Rattle.osplan.specs.{declared.plans.Plan.Plan, declared.plans.Core.Core, Vie
 use Rattle.osgroup.specs.Groups.{has_say, is_apart, is_group, names_spinlock}
 use Rattle.osgroup.proofs.Among.{all-at, all-numbers, number-at}
 
--- A number of no set.
+-- No set has a core numbered 16 or above.
 pub core-low : (cores : CoreSet) (id : CoreId) → has_core cores id ≡ true → id.number < 16
 core-low cores id inside = ltb-true id.number 16 (and_parts _ _ inside).0
 
--- Its cores are configured, and a core that has a say in what one of it does is of it.
+-- The group's cores are configured, and a core that has a say in what one of them does is in the group.
 pub record GroupParts (plan : Plan) (group : CoreSet) : Type 0 where
   pub configured : (id : CoreId) → has_core group id ≡ true → is_some (core_of plan id) ≡ true
   pub closed : (core other : Core) (i j : ℕ) → slice_get plan.cores i ≡ Some core → slice_get plan.cores j ≡ Some other

@@ -9,7 +9,7 @@ use Rattle.osplan.specs.Limits.{is_action_known, is_alarm_known, is_core_known, 
 use Rattle.osplan.specs.Objects.{core_actions, core_scripts, table_actions}
 use Rattle.osplan.proofs.Tests.{all-append, all-flat, all-weaker, any-flat, any-mapped}
 
--- by its scripts, and by its alarms and tables
+-- the objects that the core's scripts name, and those that its alarms and tables act on, too
 abbrev pub script_objects : List (List Op) → List Object
 script_objects scripts = flat_map (flat_map objects_of) scripts
 

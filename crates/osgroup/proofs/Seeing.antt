@@ -19,7 +19,7 @@ find-part group id (c ∷ cs) = grind (arith, part-id group c, find-part group i
 pub core-part : (plan : Plan) (group : CoreSet) (id : CoreId) → core_of (group_of plan group) id ≡ option_map (part_of group) (core_of plan id)
 core-part plan group id = find-part group id plan.cores
 
--- A core of the group stands there as it is.
+-- A core of the group is in the group's configuration as it is in the whole one.
 pub core-inside : (plan : Plan) (group : CoreSet) (id : CoreId) → has_core group id ≡ true → core_of (group_of plan group) id ≡ core_of plan id
 core-inside plan group id inside = core-part plan group id ∙ by (core_of plan id) refl
   where

@@ -1,4 +1,4 @@
--- The configuration of a group is within the limits, and a text can say it.
+-- The configuration of a group is within the limits, and representable in a text.
 use Rattle.std.proofs.Common.{◌≡◌, ◌-◌, Bool, true, false, not, ◌&&◌, nat_lt, ℕ, Option, Some, None, is_some, option_map, List, [], ◌∷◌, ◌++◌, flat_map, length, map, IsTrue, inl, inr, refl, sym, ap, ap₂, ◌∙◌, slice_get, arith}
 use Rattle.std.specs.{List.list_all, List.list_any, Option.option_map_or}
 use Rattle.std.proofs.{lemmas.List.length-map, lemmas.List.Folds.list_all-map, lemmas.List.Folds.list_any-append}
@@ -8,7 +8,7 @@ use Rattle.osbase.proofs.{Places.passes-at, Same.same_core-true}
 use Rattle.oscript.specs.{declared.Op.Op, Rows.objects_of}
 use Rattle.osplan.specs.{declared.plans.Plan.Plan, declared.plans.Core.Core, declared.plans.Alarm.Alarm, declared.plans.Table.Table, View.core_of}
 use Rattle.osplan.specs.Representable.{all_common_names, are_distinct, is_core_representable, is_representable, object_names}
-use Rattle.osplan.specs.Limits.{CoreSizes, cores_by, core_sizes, is_action_known, is_alarm_known, is_alarm_local, is_by, is_core_known, is_core_mode, has_local_references, is_core_timed, is_core_within, is_mode, is_object, is_op_known, is_script_known, is_table_known, is_table_local, is_versioned, is_within, is_within_limits, are_numbers_distinct, number_of, numbers_of, sizes_of, is_between, most_cores}
+use Rattle.osplan.specs.Limits.{CoreSizes, cores_by, core_sizes, is_action_known, is_alarm_known, is_alarm_local, is_within_by, is_core_known, is_core_mode, has_local_references, is_core_timed, is_core_within, is_mode, is_object, is_op_known, is_script_known, is_table_known, is_table_local, is_versioned, is_within, is_within_limits, are_numbers_distinct, number_of, numbers_of, sizes_of, is_between, most_cores}
 use Rattle.osplan.specs.Objects.{alarm_modes, core_scripts, common_names, has_index, is_common, table_actions, table_modes}
 use Rattle.osplan.specs.Naming.{acts_on, has_operation, names_object, op_names}
 use Rattle.osplan.proofs.{Acting.any-acting, Alarming.known-parts, Alarming.own-sizes, Alarming.own-tables, Alarming.own-timed, Found.IsFound, Found.each-found, Numbered.configured-low}
@@ -26,7 +26,7 @@ module _ (plan : Plan) (group : CoreSet) (limits : IsTrue (is_within_limits plan
   parts : LimitParts plan
   parts = limit-parts plan limits
 
-  -- All cores have the same in common.
+  -- The objects that are common to all cores are the same.
   common-same : (object : Object) → is_common alone object ≡ is_common plan object
   common-same object = ap (λ (names : List (List ℕ)). same_core object.place.core NOBODY && nat_lt object.place.index (length names)) (names object.kind)
     where
@@ -35,7 +35,7 @@ module _ (plan : Plan) (group : CoreSet) (limits : IsTrue (is_within_limits plan
       names ObjectKind.Spinlock = refl
       names kind = refl
 
-  -- What stands on no core outside stands in the group's configuration where it stood.
+  -- What is on no core outside the group is in the group's configuration, where it was.
   core-same : (id : CoreId) → (not (has_core group id) && not (same_core id NOBODY)) ≡ false → core_of alone id ≡ core_of plan id
   core-same id inward =
       elim (cases_Bool (has_core group id)) as (λ _. core_of alone id ≡ core_of plan id) [
@@ -116,9 +116,9 @@ module _ (plan : Plan) (group : CoreSet) (limits : IsTrue (is_within_limits plan
   bare-known : (core : Core) → is_core_known plan core ≡ true → is_core_known alone (bare_core core) ≡ true
   bare-known core h = grind arith
 
-  -- ---- all of them
+  -- ---- all cores
 
-  -- a part of each core
+  -- if the part of each core passes a test, all cores of the group's configuration pass it
   parts-pass : (q : Core → Bool) → ((i : ℕ) (c : Core) → slice_get plan.cores i ≡ Some c → q (part_of group c) ≡ true) → list_all q alone.cores ≡ true
   parts-pass q each = list_all-map q (part_of group) plan.cores ∙ all-at (λ (c : Core). q (part_of group c)) plan.cores each
 
@@ -136,7 +136,7 @@ module _ (plan : Plan) (group : CoreSet) (limits : IsTrue (is_within_limits plan
       by None e = e
       by (Some c) e = refl
 
-  -- The version stays, and by it there may be as many cores, of the same numbers.
+  -- The version stays, and it allows as many cores, of the same numbers.
   version-alone : is_versioned (sizes_of plan) ≡ true → is_versioned (sizes_of alone) ≡ true
   version-alone whole =
       let version : Option ℕ = Some plan.version in
@@ -181,7 +181,7 @@ module _ (plan : Plan) (group : CoreSet) (limits : IsTrue (is_within_limits plan
 
     sizes-alone : is_within (sizes_of alone) ≡ true
     sizes-alone =
-        let both = and_parts (is_versioned (sizes_of plan)) (is_by is_core_within (sizes_of plan)) parts.sizes in
+        let both = and_parts (is_versioned (sizes_of plan)) (is_within_by is_core_within (sizes_of plan)) parts.sizes in
         let whole = and_parts _ (list_all is_core_within (sizes_of plan).cores) both.1 in
         let few = and_parts _ (is_between 1 most_cores (Some (length (sizes_of plan).cores))) whole.0 in
         let within = list_all-map is_core_within (core_sizes alone) alone.cores ∙ parts-pass (λ (c : Core). is_core_within (core_sizes alone c)) part-within in
@@ -199,7 +199,7 @@ module _ (group : CoreSet) where
   abbrev names_of_parts : List Core → List (List ℕ)
   names_of_parts cores = flat_map object_names (map (part_of group) cores)
 
-  -- The parts of cores have no other names, and these stay distinct.
+  -- The parts of cores have no other names, and their names stay distinct.
   no-others : (p : List ℕ → Bool) (cores : List Core) → list_any p (flat_map object_names cores) ≡ false → list_any p (names_of_parts cores) ≡ false
   no-others p [] none = refl
   no-others p (c ∷ cs) none =

@@ -7,14 +7,14 @@ use Rattle.osplan.specs.{declared.plans.Plan.Plan, View.core_of}
 abbrev pub HasAll : Plan → CoreSet → Type 0
 HasAll plan cores = (id : CoreId) → has_core cores id ≡ is_some (core_of plan id)
 
--- The core is in it alone.
+-- This core is in the set, and no other.
 abbrev pub HasOne : CoreId → CoreSet → Type 0
 HasOne core cores = (id : CoreId) → has_core cores id ≡ same_core id core
 
--- The cores of either of two sets are in it.
+-- The third set has the cores that are in one of the other two, or in both.
 abbrev pub IsUnion : CoreSet → CoreSet → CoreSet → Type 0
 IsUnion one other cores = (id : CoreId) → has_core cores id ≡ (has_core one id || has_core other id)
 
--- The cores of both are.
+-- The third set has the cores that are in both of the other two.
 abbrev pub IsIntersection : CoreSet → CoreSet → CoreSet → Type 0
 IsIntersection one other cores = (id : CoreId) → has_core cores id ≡ (has_core one id && has_core other id)

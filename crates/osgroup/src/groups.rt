@@ -17,12 +17,14 @@ fn names_spinlock(core: &Core, lock: SpinlockId) -> bool
     has_operation(core, OpTest::Names(Side::Spinlock(lock)))
 }
 
+// Whether scripts of both cores name the spinlock.
 fn both_name(a: &Core, b: &Core, lock: SpinlockId) -> bool
     ensures { result ≡ (names_spinlock a.now lock && names_spinlock b.now lock) }
 {
     names_spinlock(a, lock) && names_spinlock(b, lock)
 }
 
+// Whether scripts of both cores name the same spinlock.
 fn share_spinlock(plan: &Plan, a: &Core, b: &Core) -> bool
     requires { IsTrue (is_within_limits plan.now) }
     ensures { result ≡ share_spinlock plan.now a.now b.now }
@@ -37,6 +39,7 @@ fn share_spinlock(plan: &Plan, a: &Core, b: &Core) -> bool
     false
 }
 
+// Whether `other` has a say in what `core` does, by the conditions that `is_group` lists.
 fn has_say(plan: &Plan, other: &Core, core: &Core) -> bool
     requires { IsTrue (is_within_limits plan.now) }
     ensures { result ≡ has_say plan.now other.now core.now }
@@ -47,23 +50,26 @@ fn has_say(plan: &Plan, other: &Core, core: &Core) -> bool
         || share_spinlock(plan, other, core)
 }
 
-fn is_absent(plan: &Plan, cores: &CoreSet, id: CoreId) -> bool
+// Whether the core is in the set, but not configured.
+fn is_missing_member(plan: &Plan, cores: &CoreSet, id: CoreId) -> bool
     ensures { result ≡ not (not (has_core cores.now id) || is_some (core_of plan.now id)) }
 {
     cores.contains(id) && plan.core(id).is_none()
 }
 
+// Whether each core of the set is configured.
 fn are_configured(plan: &Plan, cores: &CoreSet) -> bool
     ensures { result ≡ are_configured plan.now cores.now }
 {
     for number in 0..CORE_NUMBERS {
-        if is_absent(plan, cores, CoreId { number }) {
+        if is_missing_member(plan, cores, CoreId { number }) {
             return false;
         }
     }
     true
 }
 
+// Whether no core outside the group, started or not, has a say in what this one does.
 fn is_apart(plan: &Plan, group: &CoreSet, core: &Core) -> bool
     requires { IsTrue (is_within_limits plan.now) }
     ensures { result ≡ is_apart plan.now group.now core.now }
@@ -72,6 +78,7 @@ fn is_apart(plan: &Plan, group: &CoreSet, core: &Core) -> bool
         || !has_say(plan, other, core))
 }
 
+// Whether no core outside the group has a say in what one of its cores does.
 fn are_apart(plan: &Plan, group: &CoreSet) -> bool
     requires { IsTrue (is_within_limits plan.now) }
     ensures { result ≡ list_all (λ (core : CoreValue). not (has_core group.now core.id) || is_apart plan.now group.now core) plan.now.cores }
@@ -79,6 +86,7 @@ fn are_apart(plan: &Plan, group: &CoreSet) -> bool
     plan.cores.as_slice().iter().all(|core| !group.contains(core.id) || is_apart(plan, group, core))
 }
 
+// Whether the cores are a group, by the conditions that `is_group` lists.
 fn is_group_in(plan: &Plan, group: &CoreSet) -> bool
     requires { IsTrue (is_within_limits plan.now) }
     ensures { result ≡ is_group plan.now group.now }
@@ -88,8 +96,8 @@ fn is_group_in(plan: &Plan, group: &CoreSet) -> bool
 
 /// Whether the cores are a group: each is configured, and no core outside, started or not, has a say in what one of
 /// them does. A core has a say in what another one does if a script of it holds ShutdownAllCores, if one of the two
-/// names an object of the other by a script, an alarm or a table, or if scripts of both name a spinlock. The set of no core
-/// is a group. Takes no memory.
+/// names an object of the other by a script, an alarm or a table, or if scripts of both name the same spinlock. The
+/// empty set is a group. The call takes no memory.
 pub fn is_group(config: &Config, group: CoreSet) -> bool
     ensures { result ≡ is_group config.now group }
 {
@@ -97,7 +105,7 @@ pub fn is_group(config: &Config, group: CoreSet) -> bool
     is_group_in(plan, &group)
 }
 
-// Whether the core of this number has a say in what this one does.
+// Whether the core `id` has a say in what `core` does.
 fn has_say_in(plan: &Plan, core: &Core, id: CoreId) -> bool
     requires { IsTrue (is_within_limits plan.now) }
     ensures { result ≡ has_say_in plan.now core.now id }
@@ -106,6 +114,7 @@ fn has_say_in(plan: &Plan, core: &Core, id: CoreId) -> bool
         && has_say(plan, other, core))
 }
 
+// Whether the core `id` has a say in what the core `at` does.
 fn has_say_at(plan: &Plan, at: CoreId, id: CoreId) -> bool
     requires { IsTrue (is_within_limits plan.now) }
     ensures { result ≡ has_say_at plan.now at id }
@@ -114,7 +123,7 @@ fn has_say_at(plan: &Plan, at: CoreId, id: CoreId) -> bool
         && has_say_in(plan, core, id))
 }
 
-// The cores that have a say in what this one does.
+// The cores that have a say in what the core `at` does.
 fn row_of(plan: &Plan, at: CoreId) -> CoreSet
     requires { IsTrue (is_within_limits plan.now) }
     ensures { IsRow plan.now at result }
@@ -126,7 +135,7 @@ fn row_of(plan: &Plan, at: CoreId) -> CoreSet
     CoreSet { members }
 }
 
-// One row for each core number, so that no round tests each pair of cores again.
+// For each core number a row: the cores that have a say in what that core does. So no round tests each pair again.
 fn rows_of(plan: &Plan) -> [CoreSet; CORES]
     requires { IsTrue (is_within_limits plan.now) }
     ensures { AreRows plan.now result }
@@ -140,6 +149,7 @@ fn rows_of(plan: &Plan) -> [CoreSet; CORES]
     rows
 }
 
+// Whether the core `id` is in the row of the core `at`.
 fn is_in_row(rows: &[CoreSet; CORES], at: CoreId, id: CoreId) -> bool
     ensures { result ≡ is_in_row rows.now at id }
 {
@@ -149,19 +159,21 @@ fn is_in_row(rows: &[CoreSet; CORES], at: CoreId, id: CoreId) -> bool
     }
 }
 
+// Whether the core `id` is in the row of a core of the set `cores`.
 fn is_in_one_row(all: &[Core], rows: &[CoreSet; CORES], cores: &CoreSet, id: CoreId) -> bool
     ensures { result ≡ is_in_one_row all.now rows.now cores.now id }
 {
     all.iter().any(|core| cores.contains(core.id) && is_in_row(rows, core.id, id))
 }
 
+// Whether the core `id` is in the set `cores`, or has a say in what a core of the set does, by that core's row.
 fn is_next(all: &[Core], rows: &[CoreSet; CORES], cores: &CoreSet, id: CoreId) -> bool
     ensures { result ≡ is_next all.now rows.now cores.now id }
 {
     cores.contains(id) || is_in_one_row(all, rows, cores, id)
 }
 
-// The cores that are in after one more round.
+// The set after one more round, which adds the cores that have a say in what a core of the set does.
 fn after_round(all: &[Core], rows: &[CoreSet; CORES], cores: &CoreSet) -> CoreSet
     ensures { (id : IdValue) → id.number < CORES → has_core result id ≡ is_next all.now rows.now cores.now id }
 {
@@ -172,7 +184,7 @@ fn after_round(all: &[Core], rows: &[CoreSet; CORES], cores: &CoreSet) -> CoreSe
     CoreSet { members }
 }
 
-// This core alone, or none where it is not configured.
+// The group before the first round: this core alone, or no core if it is not configured.
 fn at_first(plan: &Plan, core: CoreId) -> CoreSet
     requires { IsTrue (is_within_limits plan.now) }
     ensures { (id : IdValue) → has_core result id ≡ belongs_within plan.now core 0 id }
@@ -186,6 +198,7 @@ fn at_first(plan: &Plan, core: CoreId) -> CoreSet
     }
 }
 
+// The least group of the core, as `least_group` describes it.
 fn least_of(plan: &Plan, core: CoreId) -> CoreSet
     requires { IsTrue (is_within_limits plan.now) }
     ensures { (id : IdValue) → has_core result id ≡ is_in_least_group plan.now core id }
@@ -199,9 +212,9 @@ fn least_of(plan: &Plan, core: CoreId) -> CoreSet
     cores
 }
 
-/// The least group of a core, which lies in every group that the core is in: the core, each that has a say in what it
-/// does, each that has a say in what one of these does, and so on. Of a core that is not configured it is the set of no
-/// core. Takes no memory.
+/// The least group of a core, which lies in every group that the core is in. It has the core, each core that has a
+/// say in what the core does, each core that has a say in what one of these does, and so on. If the core is not
+/// configured, the group is empty. The call takes no memory.
 pub fn least_group(config: &Config, core: CoreId) -> CoreSet
     ensures members { (id : IdValue) → has_core result id ≡ is_in_least_group config.now core id }
     ensures group { IsTrue (is_group config.now result) }

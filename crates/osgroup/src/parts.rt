@@ -32,6 +32,7 @@ fn copied_spinlocks(alloc: Global, plan: &Plan) -> Result<List<Spinlock>, AllocE
     Ok(copies)
 }
 
+// The core without its objects: its number, its mode, its start list, and its answer to a time fault.
 fn bare_core(alloc: Global, core: &Core) -> Result<Core, AllocError>
     ensures { IfOk result (λ bare. bare ≡ bare_core core.now) }
 {
@@ -49,6 +50,7 @@ fn bare_core(alloc: Global, core: &Core) -> Result<Core, AllocError>
     })
 }
 
+// The core as the group's configuration has it: whole if it is in the group, else without its objects.
 fn part_of(alloc: Global, group: &CoreSet, core: &Core) -> Result<Core, AllocError>
     ensures { IfOk result (λ part. part ≡ part_of group.now core.now) }
 {
@@ -59,6 +61,7 @@ fn part_of(alloc: Global, group: &CoreSet, core: &Core) -> Result<Core, AllocErr
     }
 }
 
+// All cores of the plan, as the group's configuration has them.
 fn parts_of(alloc: Global, group: &CoreSet, plan: &Plan) -> Result<List<Core>, AllocError>
     ensures { IfOk result (λ parts. parts ≡ map (part_of group.now) plan.now.cores) }
 {
@@ -69,6 +72,7 @@ fn parts_of(alloc: Global, group: &CoreSet, plan: &Plan) -> Result<List<Core>, A
     Ok(parts)
 }
 
+// The configuration of the group alone, as `group_config` describes it.
 fn group_plan(alloc: Global, plan: &Plan, group: &CoreSet) -> Result<Plan, AllocError>
     ensures { IfOk result (λ part. part ≡ group_of plan.now group.now) }
 {
@@ -83,9 +87,9 @@ fn group_plan(alloc: Global, plan: &Plan, group: &CoreSet) -> Result<Plan, Alloc
 }
 
 /// The configuration of a group alone, in which each core of the group sees what it sees in the whole. Each core
-/// outside stays with its number, its mode, its start list and its answer to a time fault, and loses its objects. All
-/// else stays: the version, the master, the modes, the spinlocks and the mailboxes' size. `NoMemory` where memory runs
-/// out; the configuration stays as it is.
+/// outside keeps its number, its mode, its start list and its answer to a time fault, and loses its objects. All else
+/// stays: the version, the master, the modes, the spinlocks and the mailboxes' size. If memory runs out, the fault is
+/// `NoMemory`. The given configuration stays as it is.
 pub fn group_config(alloc: Global, config: &Config, group: CoreSet) -> Result<Config, ConfFault>
     requires { IsTrue (is_group config.now group) }
     ensures ok { IfOk result (λ part. part ≡ group_of config.now group) }

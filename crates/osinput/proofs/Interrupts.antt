@@ -8,14 +8,14 @@ use Rattle.osinput.specs.Given.{is_isr_named}
 abbrev pub ref_at : Core → ℕ → IsrRef
 ref_at core index = record { core = core.id; index = index }
 
--- Those from an index on.
+-- The ISRs of a core from an index on.
 abbrev pub refs_from : Core → ℕ → List IsrRef
 refs_from core first = map (ref_at core) (numbers_from first (16 - first))
 
 first-ref : (core : Core) (n : ℕ) → n < 16 → refs_from core n ≡ ref_at core n ∷ refs_from core (n + 1)
 first-ref core n low = let left : 16 - n ≡ suc (16 - (n + 1)) = omega arith in ap (λ (count : ℕ). map (ref_at core) (numbers_from n count)) left
 
--- Of those, the one of a name is the first, or one of the others, or there is none.
+-- Among these, the ISR of a name is the first, or one of the others, or does not exist.
 module _ (core : Core) (name : List ℕ) where
   pub found-here : (n : ℕ) → n < 16 → is_isr_named core name (ref_at core n) ≡ true → find (is_isr_named core name) (refs_from core n) ≡ Some (ref_at core n)
   found-here n low is = ap (find (is_isr_named core name)) (first-ref core n low) ∙ rw is refl

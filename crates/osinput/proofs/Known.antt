@@ -1,4 +1,4 @@
--- The stimuli that are read are such as their cores know, and of each core not too many.
+-- The stimuli that are read are known to their cores, and no core has too many.
 use Rattle.std.proofs.Common.{◌≡◌, ℕ, ◌≤◌, ◌^◌, Bool, true, false, nat_le, cond, Option, Some, None, option_map, List, [], ◌∷◌, length, refl, sym, ap, subst, ◌∙◌, arith}
 use Rattle.std.specs.{List.list_all, Option.option_map_or, Str.bytes_eq}
 use Rattle.std.specs.Prelude.{codes, drop, find, is_some, take, unwrap_or}
@@ -22,7 +22,7 @@ each-parts {X} {Y} {P} f x xs ys e then = option_and_then_some (λ (y : Y). opti
     by z first None others rest = cc
     by z first (Some zs) others rest = then z zs first others (sym (same_Some _ _ rest))
 
--- a core that is named is the one of its number
+-- a core that is found by its digits is the core that the plan has under its number
 own-named : (plan : Plan) (digits : List ℕ) (core : Core) → core_named plan digits ≡ Some core → core_of plan core.id ≡ Some core
 own-named plan digits core e = option_and_then_some _ (core_number digits) core e (λ number is found.
     subst (λ (id : CoreId). core_of plan id ≡ Some core) (sym (same_core-true core.id (record { number = number }) (find-holds (λ (k : Core). same_core k.id (record { number = number })) plan.cores core found))) found)
@@ -67,7 +67,7 @@ entries-few plan (m ∷ ms) ss within e id = each-parts (core_stimuli_of plan) m
     by z zs true same here rest = subst (λ (core : CoreId). AreFew plan core z.words) (same_core-true z.core id same) here
     by z zs false same here rest = rest
 
--- The stimuli of a JSON value within the limit are.
+-- If a JSON value is within the limit, its stimuli are known and few enough.
 pub known_data : (plan : Plan) (d : Data) (ss : List CoreStimuli) → are_stimuli_within d ≡ true → stimuli_of_data plan d ≡ Some ss → AreKnown plan ss
 known_data plan d ss within is =
     let each_core : (id : CoreId) → AreFew plan id (stimuli_of ss id) = λ id. option_and_then_some _ (as_object d) ss is (λ ms object read_each.

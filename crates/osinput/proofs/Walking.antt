@@ -4,7 +4,7 @@ use Rattle.std.specs.List.{position_or_len}
 use Rattle.std.proofs.{lemmas.Bool.ltb-true, lemmas.Bool.ltb-false, lemmas.List.Splits.slice_split_first, lemmas.List.Splits.slice_split_none, lemmas.List.Sums.fails_before_first}
 use Rattle.osinput.specs.Walk.{IsStep, cut_at_space}
 
--- The first word of a text is what stands before its first space.
+-- The first word of a text is what precedes its first space.
 pub cut-steps : {T : Type 0} (shape : List ℕ → Option T) (text : List ℕ) (parts : Option (List ℕ × List ℕ)) → parts ≡ cut_at_space text
     → IsStep shape text (option_map (λ (p : List ℕ × List ℕ). (shape p.0, p.1)) parts)
 cut-steps {T} shape text parts is = rw is (by (nat_lt (position_or_len (λ b. b == 32) text) (length text)) refl)

@@ -26,7 +26,7 @@ const STIMULI: usize = 100_000;
 /// The most turns of a schedule.
 const TURNS: usize = 1_000_000;
 
-// The JSON value of a text.
+// The JSON value of a text. `NotJson` where the text is not JSON; `NoMemory` where memory runs out.
 fn json_of(alloc: Global, text: &str) -> Result<Value, ConfFault>
     ensures { GivesOr ConfFault.NotJson view result (read text.now) }
 {
@@ -37,7 +37,7 @@ fn json_of(alloc: Global, text: &str) -> Result<Value, ConfFault>
     }
 }
 
-/// The configured core that these digits name.
+/// The configured core that these digits name, if there is one.
 #[inline(always)]
 fn core_named<'p>(plan: &'p Plan, digits: &[u8]) -> Option<&'p Core>
     ensures { option_copied result ≡ core_named plan.now digits.now }
@@ -46,7 +46,7 @@ fn core_named<'p>(plan: &'p Plan, digits: &[u8]) -> Option<&'p Core>
     plan.core(CoreId { number })
 }
 
-// Whether the ISR is the core's own, and has this name.
+// Whether the ISR is one of the core's own, and has this name.
 fn is_isr_named(core: &Core, name: &[u8], isr: IsrRef) -> bool
     ensures { result ≡ is_isr_named core.now name.now isr }
 {
@@ -56,7 +56,7 @@ fn is_isr_named(core: &Core, name: &[u8], isr: IsrRef) -> bool
     }
 }
 
-// The core's ISR of this name.
+// The core's ISR of this name, if there is one.
 fn isr_named(core: &Core, name: &[u8]) -> Option<IsrRef>
     ensures { result ≡ isr_named core.now name.now }
 {
@@ -72,7 +72,8 @@ fn isr_named(core: &Core, name: &[u8]) -> Option<IsrRef>
     None
 }
 
-// The stimulus of this word.
+// The stimulus that this word means to the core: `op`, `tick`, or `irq=` and the name of one of the core's ISRs. Any
+// other word means none.
 #[inline(always)]
 fn stimulus_of(core: &Core, word: &[u8]) -> Option<Stimulus>
     ensures { result ≡ stimulus_of core.now word.now }
@@ -98,8 +99,8 @@ impl WordReader<Stimulus> for StimulusReader<'_> {
         stimulus_of(self.core, word)
     }
 
-    // `op` comes most: it is compared first, where it would stand, and its end is not looked for. What reads a stimulus
-    // is inlined, so that no byte is compared twice.
+    // `op` is the most frequent word: it is compared first, at the text's front, and its end is not looked for. The
+    // functions that read a stimulus are inlined, so that no byte is compared twice.
     #[inline(always)]
     fn front<'t>(&self, text: &'t [u8]) -> Option<(Option<Stimulus>, &'t [u8])> {
         match text {
@@ -109,7 +110,8 @@ impl WordReader<Stimulus> for StimulusReader<'_> {
     }
 }
 
-// The same of a text that may begin with another word: `tick` is compared where it would stand.
+// The first stimulus of a text, for `front`, which has looked for `op` and a space already. Here `tick` and a space are
+// compared at the text's front.
 #[inline(always)]
 fn other_front<'t>(core: &Core, text: &'t [u8]) -> Option<(Option<Stimulus>, &'t [u8])>
     ensures { IsStep (stimulus_of core.now) text.now (option_map (λ (front : Option Word × Bor (List ℕ)). (front.0, front.1.now)) result) }
@@ -120,8 +122,8 @@ fn other_front<'t>(core: &Core, text: &'t [u8]) -> Option<(Option<Stimulus>, &'t
     }
 }
 
-// The same of any text: its first space is looked for. It stays a call, since it is rare, and so the loop over words
-// stays short.
+// The first stimulus of any text, for `front`: the first space is looked for. The function is not inlined, since it is
+// rarely called, and so the loop over words stays short.
 #[inline(never)]
 fn first_stimulus<'t>(core: &Core, text: &'t [u8]) -> Option<(Option<Stimulus>, &'t [u8])>
     ensures { IsStep (stimulus_of core.now) text.now (option_map (λ (front : Option Word × Bor (List ℕ)). (front.0, front.1.now)) result) }
@@ -130,6 +132,8 @@ fn first_stimulus<'t>(core: &Core, text: &'t [u8]) -> Option<(Option<Stimulus>, 
     Some((stimulus_of(core, word), later))
 }
 
+// The stimuli of one core: `key` is the core's number, and `value` a text of words. `Unfit` where the core is not
+// configured, the value is no text, or a word means no stimulus. `OutOfMemory` where memory runs out.
 #[tactic(auto, unfolding(crate::specs::Given::core_stimuli_of))]
 fn core_stimuli_of(
     alloc: Global,
@@ -148,6 +152,7 @@ fn core_stimuli_of(
     })
 }
 
+// The stimuli of each core that the members of an object list.
 fn stimuli_of_members(
     alloc: Global,
     plan: &Plan,
@@ -162,6 +167,7 @@ fn stimuli_of_members(
     Ok(stimuli)
 }
 
+// Whether the value, if it is a text, has at most `most` words. All other values pass.
 fn has_words_within(most: usize, value: &Value) -> bool
     ensures { result ≡ has_words_within most (view value.now) }
 {
@@ -171,12 +177,14 @@ fn has_words_within(most: usize, value: &Value) -> bool
     }
 }
 
+// Whether each member that is a text has at most `most` words.
 fn are_values_within(most: usize, members: &Map<String, Value>) -> bool
     ensures { result ≡ list_all (λ (value : Value). has_words_within most (view value)) (values members.now) }
 {
     members.values().all(|words| has_words_within(most, words))
 }
 
+// Whether each member of an object, if it is a text, has at most 100,000 words. All other values pass.
 fn are_stimuli_within(value: &Value) -> bool
     ensures { result ≡ are_stimuli_within (view value.now) }
 {
@@ -186,6 +194,8 @@ fn are_stimuli_within(value: &Value) -> bool
     }
 }
 
+// The stimuli of the cores that an object lists. `Unfit` where the value is no object, or one of its members is not
+// read. `OutOfMemory` where memory runs out.
 fn stimuli_of(alloc: Global, plan: &Plan, value: &Value) -> Result<Stimuli, Refusal>
     ensures { Gives (λ x. x) result (stimuli_of_data plan.now (view value.now)) }
 {
@@ -195,10 +205,10 @@ fn stimuli_of(alloc: Global, plan: &Plan, value: &Value) -> Result<Stimuli, Refu
     }
 }
 
-/// The stimuli that a JSON text means for a configuration: an object from core numbers to words, which
-/// are divided by one space. `NotJson` where the text is not JSON; `Limit` where a member has more than
-/// 100,000 words; else `BadStimulus` where it is anything else. `NoMemory` where memory runs out.
-/// What is read may be played.
+/// The stimuli that a JSON text means for a configuration: an object from core numbers to words, which are divided by
+/// one space. `NotJson` where the text is not JSON; `Limit` where a member has more than 100,000 words; `BadStimulus`
+/// where the text is unfit otherwise. `NoMemory` where memory runs out. In the result, each listed core is configured
+/// and has the ISRs that its stimuli name.
 #[tactic(auto, using(crate::proofs::Known::known_data))]
 pub fn read_stimuli(alloc: Global, config: &Config, text: &str) -> Result<Stimuli, ConfFault>
     ensures ok { IfOk result (λ stimuli. stimuli_of_text config.now text.now ≡ Some stimuli) }
@@ -216,6 +226,8 @@ pub fn read_stimuli(alloc: Global, config: &Config, text: &str) -> Result<Stimul
     }
 }
 
+// The choice that the rest of a word means, after a core's number: `o` is Own, `l` is Look, and `s` with the number of
+// another core is Serve. Any other rest means none.
 #[tactic(auto, unfolding(crate::specs::Given::choice_of))]
 #[inline(always)]
 fn choice_of(plan: &Plan, core: CoreId, word: &[u8]) -> Option<Choice>
@@ -229,6 +241,8 @@ fn choice_of(plan: &Plan, core: CoreId, word: &[u8]) -> Option<Choice>
     }
 }
 
+// The choice to serve the core that these digits name. None if no configured core has this number, or it is the core
+// `core` itself.
 #[inline(always)]
 fn served(plan: &Plan, core: CoreId, digits: &[u8]) -> Option<Choice>
     ensures { result ≡ served plan.now core digits.now }
@@ -241,7 +255,7 @@ fn served(plan: &Plan, core: CoreId, digits: &[u8]) -> Option<Choice>
     }
 }
 
-/// How many digits stand at the front of a word.
+/// How many digits a word begins with.
 #[inline(always)]
 fn digits_in(word: &[u8]) -> usize
     ensures exact { result ≡ digits_in word.now }
@@ -253,6 +267,7 @@ fn digits_in(word: &[u8]) -> usize
     }
 }
 
+// The index of the first byte that is no digit, if there is one.
 #[inline(always)]
 fn first_other(word: &[u8]) -> Option<usize>
     ensures exact { result ≡ position (λ b. not (is_ascii_digit b)) word.now }
@@ -261,6 +276,7 @@ fn first_other(word: &[u8]) -> Option<usize>
     word.iter().position(|b| !b.is_ascii_digit())
 }
 
+// The turn that a word means: the number of a configured core, and the core's choice. Any other word means none.
 #[tactic(auto, unfolding(crate::specs::Given::turn_of))]
 #[inline(always)]
 fn turn_of(plan: &Plan, word: &[u8]) -> Option<Turn>
@@ -285,8 +301,8 @@ impl WordReader<Turn> for TurnReader<'_> {
         turn_of(self.plan, word)
     }
 
-    // The turns of cores with one digit are compared where they would stand, and their ends are not looked for. What
-    // reads a turn is inlined, so that no byte is compared twice.
+    // The turns of cores with one digit are compared at the text's front, and their ends are not looked for. The
+    // functions that read a turn are inlined, so that no byte is compared twice.
     #[inline(always)]
     fn front<'t>(&self, text: &'t [u8]) -> Option<(Option<Turn>, &'t [u8])> {
         match text {
@@ -300,7 +316,7 @@ impl WordReader<Turn> for TurnReader<'_> {
     }
 }
 
-// The same of any text: its first space is looked for.
+// The first turn of any text, for `front`: the first space is looked for.
 fn first_turn<'t>(plan: &Plan, text: &'t [u8]) -> Option<(Option<Turn>, &'t [u8])>
     ensures { IsStep (turn_of plan.now) text.now (option_map (λ (front : Option (CoreId × Choice) × Bor (List ℕ)). (front.0, front.1.now)) result) }
 {
@@ -308,6 +324,8 @@ fn first_turn<'t>(plan: &Plan, text: &'t [u8]) -> Option<(Option<Turn>, &'t [u8]
     Some((turn_of(plan, word), later))
 }
 
+// The turns that the words of a text mean. `Unfit` where the value is no text, or a word means no turn. `OutOfMemory`
+// where memory runs out.
 fn schedule_of(alloc: Global, plan: &Plan, value: &Value) -> Result<Schedule, Refusal>
     ensures { Gives (λ x. x) result (schedule_of_data plan.now (view value.now)) }
 {
@@ -317,9 +335,9 @@ fn schedule_of(alloc: Global, plan: &Plan, value: &Value) -> Result<Schedule, Re
     }
 }
 
-/// The turns that a JSON text means for a configuration: words, which are divided by one space. `NotJson`
-/// where the text is not JSON; `Limit` where it has more than 1,000,000 words; else `BadSchedule` where it
-/// is anything else. `NoMemory` where memory runs out.
+/// The turns that a JSON text means for a configuration: a text of words, which are divided by one space. `NotJson`
+/// where the text is not JSON; `Limit` where there are more than 1,000,000 words; `BadSchedule` where the text is unfit
+/// otherwise. `NoMemory` where memory runs out.
 pub fn read_schedule(alloc: Global, config: &Config, text: &str) -> Result<Schedule, ConfFault>
     ensures ok { IfOk result (λ turns. schedule_of_text config.now text.now ≡ Some turns) }
     ensures fault { IfErr result (λ fault. fault ≢ ConfFault.NoMemory → IsLeast fault (schedule_faults config.now text.now)) }

@@ -1,7 +1,7 @@
 //! Reading what a run is given: each core's stimuli, and a schedule.
 //!
 //! A text is judged in passes: whether it is JSON, its limit, and then all else under one fault. So the fault
-//! that is answered is the one of smallest number. A failed allocation is never taken for a fault of the text.
+//! that is returned has the smallest number. A failed allocation is never taken for a fault of the text.
 #![tactic(auto)]
 
 mod given;

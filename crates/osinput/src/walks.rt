@@ -14,16 +14,16 @@ pub trait WordReader<T> {
     /// What a word is read as.
     ghost shape: { Self → List ℕ → Option T };
 
-    /// The word as its shape has it; `None` where it has none.
+    /// What the word is read as; `None` where it does not have the reader's shape.
     fn read(&self, word: &[u8]) -> Option<T>
         ensures { result ≡ shape self.now word.now };
 
-    /// What the first word of a text is read as, and what follows it, where a space ends it.
+    /// What the first word of a text is read as, and the text after its space. `None` if no space ends the first word.
     fn front<'t>(&self, text: &'t [u8]) -> Option<(Option<T>, &'t [u8])>
         ensures { IsStep (shape self.now) text.now (option_map (λ (front : Option T × Bor (List ℕ)). (front.0, front.1.now)) result) };
 }
 
-/// What stands before the first space of a text, and what follows it.
+/// The text before the first space, and the text after it. `None` if the text has no space.
 pub fn cut_at_space(text: &[u8]) -> Option<(&[u8], &[u8])>
     ensures { option_map (λ (parts : Bor (List ℕ) × Bor (List ℕ)). (parts.0.now, parts.1.now)) result ≡ cut_at_space text.now }
 {
@@ -31,6 +31,7 @@ pub fn cut_at_space(text: &[u8]) -> Option<(&[u8], &[u8])>
     Some((&text[..end], &text[end + 1..]))
 }
 
+// The index of the first space, if there is one.
 fn space_in(text: &[u8]) -> Option<usize>
     ensures exact { result ≡ position (λ b. b == 32) text.now }
     ensures within { IfSome result (λ index. index < length text.now) }
@@ -38,8 +39,8 @@ fn space_in(text: &[u8]) -> Option<usize>
     text.iter().position(|b| *b == b' ')
 }
 
-/// Each word of a text as the reader reads it, with room for at most so many. The empty text has no word. `Unfit`
-/// where one has no shape; `OutOfMemory` where memory runs out.
+/// Each word of a text as the reader reads it. The empty text has no word. Room is taken for at most `most` words.
+/// `Unfit` where a word does not have the reader's shape; `OutOfMemory` where memory runs out.
 pub fn read_words<T: Drop, R: WordReader<T>>(
     alloc: Global,
     reader: &R,
@@ -51,12 +52,13 @@ pub fn read_words<T: Drop, R: WordReader<T>>(
     if text.is_empty() {
         return Ok(Items::new(alloc));
     }
-    // No word that is read has less than two bytes, and so room is taken once.
+    // Each word that is read has at least two bytes, and so room is taken once.
     let room = most.min(text.len() / 3 + 1);
     read_all(alloc, reader, text.as_bytes(), room)
 }
 
-// It stays a call, so that its loop has all registers for itself.
+// Each word of a text as the reader reads it; the empty text has one word, the empty one. Room is taken for `room`
+// words. The function is not inlined, so that its loop has all registers for itself.
 #[inline(never)]
 fn read_all<T: Drop, R: WordReader<T>>(
     alloc: Global,

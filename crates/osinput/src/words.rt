@@ -3,7 +3,7 @@
 ghost use Rattle.std.specs.Prelude.{◌≡◌};
 ghost use Rattle.osinput.specs.Word.{digit_of, two_digits, core_number};
 
-/// The value of a decimal digit.
+/// The value of a byte, if it is a decimal digit.
 fn digit_of(c: u8) -> Option<u8>
     ensures { result ≡ digit_of c }
 {
@@ -14,7 +14,7 @@ fn digit_of(c: u8) -> Option<u8>
     }
 }
 
-/// A core number in decimal, without a leading zero.
+/// The number of one or two decimal digits, without a leading zero. None for any other text.
 #[inline(always)]
 pub fn core_number(digits: &[u8]) -> Option<u8>
     ensures { result ≡ core_number digits.now }
@@ -27,6 +27,7 @@ pub fn core_number(digits: &[u8]) -> Option<u8>
     }
 }
 
+// The number of two decimal digits. None if one of the bytes is no digit.
 fn two_digits(tens: u8, ones: u8) -> Option<u8>
     ensures { result ≡ two_digits tens ones }
 {

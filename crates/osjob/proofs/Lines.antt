@@ -30,7 +30,7 @@ module _ (holds : CoreId → Bool) (line : CoreId → List ℕ) where
       ∙ flat_map-append line (filter holds (take n core_ids)) (cond (holds (id_at n)) (id_at n ∷ []) [])
       ∙ ap (λ l. lines_below n ++ l) (one_line (id_at n) (holds (id_at n)))
 
-  -- and those of the others
+  -- the lines of the other cores
   lines_rest : (n : ℕ) → (rest : List ℕ) × (lines_below n ++ rest ≡ all_lines)
   lines_rest n =
       let ids : filter holds (take n core_ids) ++ filter holds (drop n core_ids) ≡ filter holds core_ids =
@@ -39,7 +39,7 @@ module _ (holds : CoreId → Bool) (line : CoreId → List ℕ) where
         sym (flat_map-append line (filter holds (take n core_ids)) (filter holds (drop n core_ids))) ∙ ap (flat_map line) ids,
       )
 
-  -- the line of one of them, and those after it
+  -- all lines are the lines before a core's line, that line, and the lines after it
   lines_at : (n : ℕ) → n < 16 → (rest : List ℕ) × (lines_below n ++ (line_at (id_at n) ++ rest) ≡ all_lines)
   lines_at n lt =
       let after = lines_rest (n + 1) in
@@ -51,7 +51,7 @@ module _ (holds : CoreId → Bool) (line : CoreId → List ℕ) where
     Wrote-line done wrote =
         rw (lines_below-more n lt) (Wrote-then taken failed old mid new (lines_below n) (line_at (id_at n)) before (Wrote-all taken failed mid new (line_at (id_at n)) done wrote))
 
-    -- or the write failed
+    -- if the write of a line failed, so did the write of all lines
     pub Writes-no_line : (e : E) (result : Result Unit E) → IsErr result → Writes taken failed mid new (line_at (id_at n)) (Err e) → Writes taken failed old new all_lines result
     Writes-no_line e result is_err broken =
         let parts = lines_at n lt in

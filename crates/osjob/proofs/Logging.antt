@@ -21,7 +21,7 @@ reports-come taken failed old new Played Breaks schedule items files plan stimul
   asked = rw is (λ e. let other = sym none ∙ e in cc);
 }
 
--- So is what is printed of one order of the turns of a run by threads.
+-- What is printed of one order of the turns of a run by threads is also what its job prints.
 pub order-comes : {O : Type 0} (taken : O → Option (List ℕ)) (failed : O → ℕ) (old new : O) (patience : ℕ) (files : List File) (plan : Plan) (reports : List Report) (turns : Option (List (CoreId × Choice))) (count : ℕ) (result : Result Outcome Fault)
     → (threaded : IsThreaded patience files plan reports) → IsInput None files plan threaded.stimuli turns
     → PrintsOrFaults taken failed old new (IsOrderPrinted plan threaded.stimuli reports) (λ fault. fault ≡ NoMemoryToRun) result

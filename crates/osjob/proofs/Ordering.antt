@@ -1,4 +1,4 @@
--- The line of what was found where one order of a run's turns was sought.
+-- The printed line is right, whether an order of the run's turns was found or not.
 use Rattle.std.proofs.Common.{List, Option, Some, None, inl, inr, map, refl}
 use Rattle.std.specs.Prelude.{IfSome}
 use Rattle.osbase.specs.{declared.references.CoreId.CoreId, declared.turns.Choice.Choice, declared.turns.CoreStimuli.CoreStimuli, declared.turns.Report.Report}

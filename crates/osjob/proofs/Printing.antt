@@ -9,7 +9,7 @@ use Rattle.ostrace.specs.{declared.sinks.WriteFailed.WriteFailed as SinkFailed, 
 use Rattle.osjob.specs.{declared.faults.Fault.Fault, declared.faults.Fault.TheVariants.Unreadable, declared.outcomes.Outcome.Outcome, declared.outcomes.Outcome.TheVariants.Done, Texts.File, Texts.IsAsked}
 use Rattle.osjob.specs.Performs.{NoFault, PrintsFrom, PrintsOrFaults, fails, prints, unless_refused}
 
--- A text that was printed up to a refused write names no file, and no more does what was to come.
+-- If the ending is not the fault `Unreadable`, neither is the result after a text was written or refused.
 pub written-asked : (written : Result Unit SinkFailed) (ending result : Result Outcome Fault) (count : ℕ) (files : List File) → IfErr ending (λ fault. fault ≢ Unreadable)
     → result ≡ unless_refused written ending → IfErr result (IsAsked count files)
 written-asked (Ok done) (Ok outcome) result count files apart e = rw e tt
@@ -17,7 +17,7 @@ written-asked (Ok done) (Err fault) result count files apart e = rw e (λ same. 
 written-asked (Err refused) ending result count files apart e = rw e (λ same. cc)
 
 module _ {O : Type 0} (taken : O → Option (List ℕ)) (failed : O → ℕ) (old : O) (result : Result Outcome Fault) where
-  -- where a fault was passed up, nothing is printed
+  -- if a fault was passed up, nothing is printed
   pub PrintsOrFaults-faulty : (Output : List ℕ → Result Outcome Fault → Type 0) (NoOutput Passed : Fault → Type 0) → IsErrAnd result Passed → ((fault : Fault) → Passed fault → NoOutput fault)
       → PrintsOrFaults taken failed old old Output NoOutput result
   PrintsOrFaults-faulty Output NoOutput Passed is why = let p = err_from_is_err_and result is in fails p.0 p.1 (why p.0 p.2) refl
@@ -30,7 +30,7 @@ module _ {O : Type 0} (taken : O → Option (List ℕ)) (failed : O → ℕ) (ol
         let both = why p.0 p.2 in
         record { comes = fails p.0 p.1 both.0 refl; asked = rw p.1 both.1 }
 
-    -- where a text was written, all is done unless a write was refused
+    -- if a text was written, all is done unless a write was refused
     pub PrintsFrom-done : (new : O) (Output : List ℕ → Outcome → Type 0) (NoOutput : Fault → Type 0) (text : List ℕ) (written : Result Unit SinkFailed) → Output text Done
         → Writes taken failed old new text written → result ≡ unless_refused written (Ok Done) → PrintsFrom taken failed old new (NoFault Output) NoOutput files count result
     PrintsFrom-done new Output NoOutput text written output writes is = record {

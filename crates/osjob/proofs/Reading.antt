@@ -1,4 +1,4 @@
--- What was read of a job's files, and what stays of it.
+-- What was read of a job's files, and what of it still holds later.
 use Rattle.std.proofs.Common.{◌≡◌, ◌≢◌, ◌⊎◌, ◌+◌, ◌<◌, ◌≤◌, ◌∙◌, inl, inr, ap, arith, refl, ℕ, List, Option, Some, None, Result, Ok, Vec, length, max, get_or, option_map, option_and_then, slice_get}
 use Rattle.std.specs.{List.Contains, Prelude.IsErrAnd, declared.alloc.Global.Global}
 use Rattle.std.proofs.{lemmas.Bool.cases_lt, lemmas.Option.slice_get-get_or, lemmas.Option.slice_get_within, lemmas.Result.err_from_is_err_and}
@@ -14,12 +14,12 @@ pub IsFaultOf-read : (faults : List ℕ → List ConfFault) (file : Result (List
     → Ok text ≡ file → fault ≡ Text read → (read ≢ NoMemory → IsLeast read (faults text)) → fault ≢ Text NoMemory → IsFaultOf faults file fault
 IsFaultOf-read faults file text read fault is named least apart = rw (← is, named) (least (λ same. apart (named ∙ ap Text same)))
 
--- a file that stays as it was has the meaning that it had
+-- a file that is unchanged keeps its meaning
 Means-kept : {A : Type 0} (meaning : List ℕ → Option A) (old new : List File) (at : ℕ) (x : A) → bytes_at new at ≡ bytes_at old at
     → Means meaning (text_at old at) x → Means meaning (text_at new at) x
 Means-kept meaning old new at x kept means = rw kept means
 
--- the stimuli are read after the configuration
+-- the configuration keeps its meaning while later files are read
 pub config-kept : (old new : List File) (plan : Plan) → KeepsBelow 1 old new → Means config_of (text_at old 0) plan → Means config_of (text_at new 0) plan
 config-kept old new plan keeps config = Means-kept config_of old new 0 plan (keeps 0 (omega arith)) config
 
@@ -27,7 +27,7 @@ pub IsGiven-read : (old new : List File) (plan : Plan) (stimuli : List CoreStimu
     → Means config_of (text_at old 0) plan → Means (stimuli_of_text plan) (text_at new 1) stimuli → IsGiven new plan stimuli
 IsGiven-read old new plan stimuli keeps config listed = record { config = config-kept old new plan keeps config; listed = listed }
 
--- and the schedule after both
+-- the configuration and the stimuli keep their meanings while the schedule is read
 pub IsGiven-kept : (old new : List File) (plan : Plan) (stimuli : List CoreStimuli) → KeepsBelow 2 old new → IsGiven old plan stimuli → IsGiven new plan stimuli
 IsGiven-kept old new plan stimuli keeps given = record {
   config = Means-kept config_of old new 0 plan (keeps 0 (omega arith)) given.config;
@@ -42,7 +42,7 @@ Means-there meaning files at x means = by (slice_get files at) refl means
     by None e none = absurd none
     by (Some file) e means = let within = slice_get_within files at file e in omega arith
 
--- What is not there where all before it was read: all files were read, or one of them could not be.
+-- If a file is absent and all before it were read, either all files were read, or one of them could not be read.
 pub absent-asked : (count : ℕ) (files : List File) (at : ℕ) → (at < count → at < length files) → at ≤ length files → None ≡ bytes_at files at → (count ≤ length files) ⊎ Contains files None
 absent-asked count files at read next absent = elim (cases_lt at (length files)) as (λ _. (count ≤ length files) ⊎ Contains files None) [
   | inl within ↦ inr (at, within, by (get_or files at None) refl (absent ∙ ap (λ (o : Option File). option_map (λ (bytes : Vec ℕ Global). bytes.items) (option_and_then (λ (file : File). file) o)) (slice_get-get_or files at None within)))
@@ -56,14 +56,14 @@ absent-asked count files at read next absent = elim (cases_lt at (length files))
     by None is e = is
     by (Some bytes) is e = cc
 
--- ---- what comes of files
+-- ---- what results from files
 
 module _ {S : Type 0} (files : S → List File) (known : S → Option (List File)) where
-  -- what comes of the same files
+  -- another result that follows for the same files
   pub Consumes-as : (source : S) (most : ℕ) (P Q : List File → Type 0) (used : Consumes files known source most P) → (P (files used.last) → Q (files used.last)) → Consumes files known source most Q
   Consumes-as source most P Q used f = record { last = used.last; comes = f used.comes; stops = used.stops; named = used.named; known_is = used.known_is }
 
-  -- where one, two or three files were read
+  -- what results if at most one, two or three files were read
   pub Consumes-one : (source last : S) (most : ℕ) (P : List File → Type 0) → 1 ≤ most → length (files last) ≤ max (length (files source)) 1 → known last ≡ known source → P (files last)
       → Consumes files known source most P
   Consumes-one source last most P some ahead same comes = record { last = last; comes = comes; stops = at_config ahead; named = omega (arith, ahead); known_is = same }
@@ -76,7 +76,7 @@ module _ {S : Type 0} (files : S → List File) (known : S → Option (List File
       → length (files last) ≤ max (length (files source)) 3 → known last ≡ known source → P (files last) → Consumes files known source most P
   Consumes-three source last most P plan stimuli given some ahead same comes = record { last = last; comes = comes; stops = at_schedule plan stimuli given ahead; named = omega (arith, ahead); known_is = same }
 
--- where a fault was passed up, that is what comes of them
+-- if a fault was passed up, that fault is the result
 pub IsRead-faulty : (schedule : Option (List ℕ)) (items : Option CoreId) (files : List File) (count : ℕ) (result : Result (Plan × List CoreStimuli × Option (List (CoreId × Choice))) Fault) (Passed : Fault → Type 0)
     → IsErrAnd result Passed → ((fault : Fault) → Passed fault → (fault ≢ Text NoMemory → IsInputFault schedule items files fault) × IsAsked count files fault) → IsRead schedule items files count result
 IsRead-faulty schedule items files count result Passed is why = let p = err_from_is_err_and result is in rw p.1 (why p.0 p.2)

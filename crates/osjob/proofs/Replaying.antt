@@ -17,13 +17,13 @@ pub IsLogFault-read : (plan : Plan) (file : Result (List ℕ) Fault) (text : Lis
 IsLogFault-read plan file text log.BadLog fault is named bad = rw (← is, named) (bad refl)
 IsLogFault-read plan file text log.NoMemory fault is named bad = rw (← is, named) tt
 
--- How a replay ends names no file.
+-- A replay never ends with the fault `Unreadable`.
 ends-asked : (plan : Plan) (core : CoreId) (items : List Item) (report : Report) (ending : Result Outcome Fault) → EndsAt plan core items report ending → IfErr ending (λ fault. fault ≢ Unreadable)
 ends-asked plan core items report (Ok outcome) ends = tt
 ends-asked plan core items report (Err (ItemRefused number)) ends = λ e. cc
 ends-asked plan core items report (Err fault) ends = absurd ends
 
--- What a replay of a log's items prints is what a replay of its files does.
+-- What a replay of a log's items prints is what a replay of the files prints.
 pub replay-comes : {O : Type 0} (taken : O → Option (List ℕ)) (failed : O → ℕ) (old new : O) (plan : Plan) (core : CoreId) (items : List Item) (files : List File) (result : Result Outcome Fault) (count : ℕ)
     → Means config_of (text_at files 0) plan → IsSome (core_of plan core) → IsLogOf plan (log_at files 1) items
     → PrintsOrFaults taken failed old new (Replays plan core items) (λ fault. fault ≡ NoMemoryToRun) result

@@ -7,7 +7,7 @@ use Rattle.osjob.specs.{declared.faults.Fault.TheVariants.Text, declared.faults.
 use Rattle.oscommand.specs.{declared.jobs.Job.Job, Jobs.paths_of}
 use Rattle.oscommand.specs.declared.jobs.Job.TheVariants.{Run}
 
--- a job has as many paths as it lists
+-- the list of a job's paths has as many elements as the job has paths
 pub listed_paths : (paths : List (Bor (List ℕ))) (job : Job) → map (λ (path : Bor (List ℕ)). path.now) paths ≡ paths_of job → length paths ≡ length (paths_of job)
 listed_paths paths job are = sym (length-map paths (λ (path : Bor (List ℕ)). path.now)) ∙ ap length are
 
@@ -18,7 +18,7 @@ no_memory-output job files = λ apart. absurd (apart refl)
 readable : Text NoMemory ≡ Unreadable → ⊥
 readable e = cc
 
--- where there was no memory for the paths, nothing was read and nothing printed
+-- if there was no memory for the paths, nothing was read and nothing printed
 pub unread : {O : Type 0} (taken : O → Option (List ℕ)) (failed : O → ℕ) (out : O) (job : Job) → PrintsJob taken failed out out job (Err (Text NoMemory))
 unread taken failed out job = record {
   files = [];

@@ -8,25 +8,27 @@ use Rattle.ostrace_text.specs.Trace.{line_end, spaced}
 use Rattle.oswrite.specs.Writing.{config_text}
 use Rattle.osrun.specs.Fits.{ids_of}
 
-abbrev pub standing_word : Coupling → List ℕ
-standing_word Separate = codes "separate"
-standing_word Bound = codes "bound"
-standing_word Off = codes "off"
+-- The printed word of a coupling.
+abbrev pub coupling_word : Coupling → List ℕ
+coupling_word Separate = codes "separate"
+coupling_word Bound = codes "bound"
+coupling_word Off = codes "off"
 
--- The line of a configured core. [own]
+-- The line of a core with this coupling. [own]
 abbrev pub core_text : CoreId → Coupling → List ℕ
-core_text id standing = spaced (codes "core" ∷ decimal id.number ∷ standing_word standing ∷ []) ++ line_end
+core_text id coupling = spaced (codes "core" ∷ decimal id.number ∷ coupling_word coupling ∷ []) ++ line_end
 
-abbrev pub standing_line : Plan → CoreId → List ℕ
-standing_line plan id = core_text id (coupling_of plan id)
+-- The line that says how a configuration couples a core.
+abbrev pub coupling_line : Plan → CoreId → List ℕ
+coupling_line plan id = core_text id (coupling_of plan id)
 
--- No line for a number that no core has.
+-- The line that says how the core is coupled, or nothing if the core is not configured.
 abbrev pub line_at : Plan → CoreId → List ℕ
-line_at plan id = if is_some (core_of plan id) then standing_line plan id else []
+line_at plan id = if is_some (core_of plan id) then coupling_line plan id else []
 
--- `ok`, and a line for each configured core by ascending number. [own]
+-- What `check` prints: `ok`, and for each configured core, by ascending number, the line of its coupling. [own]
 abbrev pub check_text : Plan → List ℕ
-check_text plan = codes "ok\n" ++ flat_map (standing_line plan) (ids_of plan)
+check_text plan = codes "ok\n" ++ flat_map (coupling_line plan) (ids_of plan)
 
 -- The text of the core's own configuration, with a line end. [own]
 abbrev pub cut_text : Plan → CoreId → List ℕ

@@ -10,7 +10,7 @@ use Rattle.osthreads.specs.declared.runs.ThreadReason.TheVariants as threads
 use Rattle.osjob.specs.declared.faults.Fault.{Fault}
 use Rattle.osjob.specs.declared.faults.Fault.TheVariants.{Text, BadLog, ItemRefused, NoMemoryToRun, NoThread, MailBreak, WriteFailed, Unreadable}
 
--- The number and the word of a fault. Of a text's fault they are those of `osplan/specs/Fault.antt`. [own]
+-- The number and the word of a fault. Those of a text's fault are in `osplan/specs/Fault.antt`. [own]
 abbrev pub fault_row : Fault → ℕ × List ℕ
 fault_row (Text fault) = (conf_fault_number fault, conf_fault_name fault)
 fault_row BadLog = (14, codes "BadLog")
@@ -27,7 +27,7 @@ fault_number fault = (fault_row fault).0
 abbrev pub fault_name : Fault → List ℕ
 fault_name fault = (fault_row fault).1
 
--- What the line says behind the word: which item was refused.
+-- The words behind the name in a fault's line: the number of the refused item, if an item was refused; else none.
 abbrev pub fault_place : Fault → List (List ℕ)
 fault_place (ItemRefused number) = decimal number ∷ []
 fault_place fault = []
@@ -36,12 +36,12 @@ fault_place fault = []
 abbrev pub fault_text : Fault → List ℕ
 fault_text fault = spaced (codes "fault" ∷ decimal (fault_number fault) ∷ fault_name fault ∷ fault_place fault) ++ line_end
 
--- The fault of a log.
+-- The fault that the program has for a log's fault.
 abbrev pub of_log : LogFault → Fault
 of_log log.BadLog = BadLog
 of_log log.NoMemory = NoMemoryToRun
 
--- The fault of a run by threads.
+-- The fault that the program has for the reason why a run by threads broke off.
 abbrev pub of_threads : ThreadReason → Fault
 of_threads threads.NotBegun = NoMemoryToRun
 of_threads threads.NoMemory = NoMemoryToRun

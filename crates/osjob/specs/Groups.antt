@@ -8,15 +8,16 @@ use Rattle.ostrace_text.specs.Trace.{line_end, spaced}
 use Rattle.oswrite.specs.Writing.{config_text}
 use Rattle.osrun.specs.Fits.{ids_of}
 
+-- The number of a core in decimal digits.
 abbrev pub number_of : CoreId → List ℕ
 number_of id = decimal id.number
 
--- The line of a core: the numbers of its least group, ascending. [own]
+-- The line of a core: its number, and the numbers of the cores of its least group, ascending. [own]
 abbrev pub group_line : Plan → CoreId → List ℕ
 group_line plan id =
     spaced (codes "core" ∷ number_of id ∷ codes "group" ∷ map number_of (filter (is_in_least_group plan id) core_ids)) ++ line_end
 
--- A line for each configured core by ascending number. [own]
+-- What `groups` prints: for each configured core, by ascending number, the line of its least group. [own]
 abbrev pub groups_text : Plan → List ℕ
 groups_text plan = flat_map (group_line plan) (ids_of plan)
 
@@ -26,18 +27,18 @@ group_text plan group = config_text (group_of plan group) ++ codes "\n"
 
 -- ---- the parts of a line
 
--- No line for a number that no core has.
+-- The line of the core's least group, or nothing if the core is not configured.
 abbrev pub group_at : Plan → CoreId → List ℕ
 group_at plan id = if is_some (core_of plan id) then group_line plan id else []
 
--- A number after a space.
+-- A space and the core's number.
 abbrev pub number_word : CoreId → List ℕ
 number_word id = codes " " ++ number_of id
 
--- What stands before the numbers.
+-- The part of the core's line before the numbers of its least group.
 abbrev pub group_head : CoreId → List ℕ
 group_head id = codes "core" ++ (number_word id ++ codes " group")
 
--- The number of a core that is in.
+-- A space and the core's number, or nothing if the core is not one of `cores`.
 abbrev pub number_at : (CoreId → Bool) → CoreId → List ℕ
 number_at cores id = if cores id then number_word id else []

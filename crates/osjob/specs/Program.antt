@@ -8,7 +8,8 @@ use Rattle.oscommand.specs.{declared.jobs.Job.Job, CommandLine.AsksFor, CommandL
 use Rattle.osjob.specs.declared.program.NoWords.TheVariants as none
 use Rattle.osjob.specs.Performs.{IsPrinted, Prints, ReportsEnding, status_of, unless_refused}
 
--- What was printed is sent off, whatever was to come. [own]
+-- What was printed is sent off, whatever the ending was to be. The result is the ending; but if the sending is refused,
+-- the fault `WriteFailed`. [own]
 pub record SendsOff {S : Type 0} (taken sent : S → Option (List ℕ)) (failed : S → ℕ) (old new : S)
     (ending result : Result Outcome Fault) : Type 0 where
   pub flushed : Result Unit SinkFailed
@@ -24,7 +25,7 @@ pub record Closes {O E : Type 0} (out_taken out_sent : O → Option (List ℕ)) 
   pub reported : ReportsEnding err_taken err_failed old_err new_err result
   pub status_is : status ≡ status_of result
 
--- What a job prints from the files at its paths: none is read behind one with a fault, and no other. [own]
+-- What a job prints from the files at its paths. No other file is read, and none after one with a fault. [own]
 pub record PrintsJob {O : Type 0} (taken : O → Option (List ℕ)) (failed : O → ℕ) (old new : O) (job : Job)
     (result : Result Outcome Fault) : Type 0 where
   pub files : List File
@@ -32,7 +33,7 @@ pub record PrintsJob {O : Type 0} (taken : O → Option (List ℕ)) (failed : O 
   pub stops : StopsAtFaults 0 files
   pub named : length files ≤ length (paths_of job)
 
--- A job is done: it is printed, and what was printed is sent off. [own]
+-- A job is done: its output is printed and sent off, a fault is reported, and this is the exit status. [own]
 pub record DoesJob {O E : Type 0} (out_taken out_sent : O → Option (List ℕ)) (out_failed : O → ℕ) (old_out new_out : O)
     (err_taken : E → Option (List ℕ)) (err_failed : E → ℕ) (old_err new_err : E) (job : Job) (status : ℕ) : Type 0 where
   pub printed : O
@@ -40,18 +41,19 @@ pub record DoesJob {O E : Type 0} (out_taken out_sent : O → Option (List ℕ))
   pub prints : PrintsJob out_taken out_failed old_out printed job result
   pub closes : Closes out_taken out_sent out_failed printed new_out err_taken err_failed old_err new_err result status
 
--- A mistake in the words is reported by a text, as far as it can be written, and the status is 2. [own]
+-- A mistake in the words of the command line is reported by this text, as far as it can be written, and the status
+-- is 2. [own]
 pub record IsMistaken {S : Type 0} (taken : S → Option (List ℕ)) (failed : S → ℕ) (old new : S) (text : List ℕ)
     (status : ℕ) : Type 0 where
   pub written : Result Unit SinkFailed
   pub writes : Writes taken failed old new text written
   pub status_is : status ≡ 2
 
--- The report of a word that is no text. [own]
+-- What is reported if a word of the command line is not UTF-8. [own]
 abbrev pub no_text : List ℕ
 no_text = codes "error: a word of the command line is not UTF-8\n"
 
--- The words request help or the version.
+-- An error of this kind says that the words request help or the version.
 abbrev pub is_request : ErrorKind → Bool
 is_request DisplayHelp = true
 is_request DisplayVersion = true
@@ -59,8 +61,9 @@ is_request _ = false
 
 module _ {O E : Type 0} (out_taken out_sent : O → Option (List ℕ)) (out_failed : O → ℕ) (old_out new_out : O)
     (err_taken : E → Option (List ℕ)) (err_failed : E → ℕ) (old_err new_err : E) where
-  -- Words that name no job: help or the version is printed as a job's text is, or a mistake is reported and nothing printed, each
-  -- in some text; or memory ran out. [own]
+  -- What the program does if the words name no job; `kind` is the kind of their error. If they request help or the
+  -- version, some text is printed like a job's. Else a mistake is reported by some text, and nothing is printed. Or
+  -- memory ran out, and this fault is reported. [own]
   pub data Refuses (kind : ErrorKind) (status : ℕ) : Type 0 where
     shows : is_request kind ≡ true → (text : List ℕ) (printed : O) (result : Result Outcome Fault) →
         Prints out_taken out_failed old_out printed text (Ok Done) result →
@@ -71,13 +74,14 @@ module _ {O E : Type 0} (out_taken out_sent : O → Option (List ℕ)) (out_fail
     has_no_memory : Closes out_taken out_sent out_failed old_out new_out err_taken err_failed old_err new_err
         (Err (Text NoMemory)) status → Refuses kind status
 
-  -- The words name a job, and it is done; or none, with an error of some kind. [own]
+  -- The words name a job, which is done; or they name no job, and are refused with an error of some kind. [own]
   pub data Obeys (words : List (List ℕ)) (status : ℕ) : Type 0 where
     does : (job : Job) → AsksFor words job →
         DoesJob out_taken out_sent out_failed old_out new_out err_taken err_failed old_err new_err job status → Obeys words status
     refuses : (error : Error) → FailsByWords words (Err error) → Refuses (kind_of error) status → Obeys words status
 
-  -- The outcome of the words, or that they could not be read. [own]
+  -- What the program answers to the words. If they could not be read, it reports that memory ran out, or that a word is
+  -- not UTF-8. [own]
   abbrev pub Answers : Result (List (List ℕ)) NoWords → ℕ → Type 0
   Answers (Ok words) status = Obeys words status
   Answers (Err none.NoMemory) status = Closes out_taken out_sent out_failed old_out new_out err_taken err_failed old_err new_err

@@ -1,11 +1,11 @@
-//! `check` and `cut`: how the cores of a configuration stand to one another, and the configuration of a
-//! separate core alone.
+//! `check` and `cut`: how the cores of a configuration are coupled, and the configuration of a separate core
+//! alone.
 
 ghost use Rattle.std.specs.Prelude.{◌≡◌, ◌<◌, ◌≤◌, ◌^◌, ◌++◌, IfErr, IfOk, codes, length, max, string_bytes};
 ghost use Rattle.std.specs.List.{flat_map};
 ghost use Rattle.ostrace.specs.Taken.{Writes};
 ghost use Rattle.osrun.specs.Fits.{ids_of};
-ghost use Rattle.osjob.specs.Checks.{check_text, core_text, line_at, standing_line, standing_word};
+ghost use Rattle.osjob.specs.Checks.{check_text, core_text, coupling_line, coupling_word, line_at};
 ghost use Rattle.osjob.specs.Performs.{PrintsFrom, HasNoConfig, HasNoCut, IsCheckOutput, IsCutOf, IsCutOutput, IsNotCut, NoFault};
 
 use crate::endings::written;
@@ -35,26 +35,28 @@ pub fn check<S: Source, O: Sink>(
     written(write_check(&config, out), Ok(Outcome::Done))
 }
 
+// Writes the line `ok`, and the line of each configured core.
 fn write_check<O: Sink>(config: &Config, out: &mut O) -> Result<(), WriteFailed>
     requires { O.failed out.old < 2 ^ 48 }
     ensures { Writes O.taken O.failed out.old out.new (check_text config.now) result }
 {
     write_all(out, b"ok\n")?;
-    write_standings(config, out)
+    write_couplings(config, out)
 }
 
-fn write_standings<O: Sink>(config: &Config, out: &mut O) -> Result<(), WriteFailed>
+// Writes the line of each configured core, by ascending number.
+fn write_couplings<O: Sink>(config: &Config, out: &mut O) -> Result<(), WriteFailed>
     requires { O.failed out.old < 2 ^ 48 }
-    ensures { Writes O.taken O.failed out.old out.new (flat_map (standing_line config.now) (ids_of config.now)) result }
+    ensures { Writes O.taken O.failed out.old out.new (flat_map (coupling_line config.now) (ids_of config.now)) result }
 {
     for number in 0..CORE_NUMBERS {
-        write_standing(config, out, CoreId { number })?;
+        write_coupling(config, out, CoreId { number })?;
     }
     Ok(())
 }
 
-// No number without a core has a line.
-fn write_standing<O: Sink>(config: &Config, out: &mut O, core: CoreId) -> Result<(), WriteFailed>
+// Writes the line of the core, or nothing if the core is not configured.
+fn write_coupling<O: Sink>(config: &Config, out: &mut O, core: CoreId) -> Result<(), WriteFailed>
     requires { O.failed out.old < 2 ^ 48 }
     ensures { Writes O.taken O.failed out.old out.new (line_at config.now core) result }
 {
@@ -64,25 +66,27 @@ fn write_standing<O: Sink>(config: &Config, out: &mut O, core: CoreId) -> Result
     write_core(out, core, coupling_of(config, core))
 }
 
-fn write_core<O: Sink>(out: &mut O, core: CoreId, standing: Coupling) -> Result<(), WriteFailed>
+// Writes the line that says how the core is coupled.
+fn write_core<O: Sink>(out: &mut O, core: CoreId, coupling: Coupling) -> Result<(), WriteFailed>
     requires { O.failed out.old < 2 ^ 48 }
-    ensures { Writes O.taken O.failed out.old out.new (core_text core standing) result }
+    ensures { Writes O.taken O.failed out.old out.new (core_text core coupling) result }
 {
     let number = Word::Whole(u32::from(core.number));
-    write_ended_words(out, "core", &[number, Word::Text(word_of(standing))])
+    write_ended_words(out, "core", &[number, Word::Text(word_of(coupling))])
 }
 
-fn word_of(standing: Coupling) -> &'static str
-    ensures { result.now ≡ standing_word standing }
+// The printed word of a coupling.
+fn word_of(coupling: Coupling) -> &'static str
+    ensures { result.now ≡ coupling_word coupling }
 {
-    match standing {
+    match coupling {
         Coupling::Separate => "separate",
         Coupling::Bound => "bound",
         Coupling::Off => "off",
     }
 }
 
-/// Prints the configuration of a separate core alone.
+/// Prints the configuration of a separate core alone. If the core is not separate, the fault is `NotSeparate`.
 pub fn cut_out<S: Source, O: Sink>(
     alloc: Global,
     core: CoreId,
@@ -101,7 +105,7 @@ pub fn cut_out<S: Source, O: Sink>(
     written(write_line(out, text.as_str()), Ok(Outcome::Done))
 }
 
-// The text of the core's own configuration.
+// The text of a separate core's own configuration. If the core is not separate, the fault is `NotSeparate`.
 fn text_of_cut(alloc: Global, config: &Config, core: CoreId) -> Result<String, Fault>
     ensures ok { IfOk result (λ text. IsCutOf config.now core (string_bytes text)) }
     ensures fault { IfErr result (IsNotCut config.now core) }

@@ -1,4 +1,4 @@
-//! How a job ends: what it printed is sent off, a fault is reported, and there is a status.
+//! How a job ends: what it printed is sent off, a fault is reported, and a status is returned.
 
 ghost use Rattle.std.specs.Prelude.{◌≡◌, ◌<◌, ◌≤◌, ◌^◌};
 ghost use Rattle.ostrace.specs.Taken.{Writes};
@@ -10,7 +10,8 @@ use crate::outputs::Output;
 use itoa::Buffer;
 use ostrace::{Sink, Word, WriteFailed, write_ended_words};
 
-/// Sends off what was printed, also before a fault is reported, and then reports the fault. Returns the exit status.
+/// Sends off what was printed. Then reports the fault with which the job ended, or `WriteFailed` if the sending was
+/// refused. Returns the exit status.
 pub fn close<O: Output, E: Sink>(ending: Result<Outcome, Fault>, out: &mut O, err: &mut E) -> u8
     requires out { O.failed out.old ≤ 2 ^ 48 }
     requires err { E.failed err.old < 2 ^ 48 }
@@ -19,7 +20,7 @@ pub fn close<O: Output, E: Sink>(ending: Result<Outcome, Fault>, out: &mut O, er
     report_ending(send_off(ending, out), err)
 }
 
-// The ending, unless what was printed could not be sent off.
+// Sends off what was printed. Returns the ending, or the fault `WriteFailed` if the sending was refused.
 fn send_off<O: Output>(ending: Result<Outcome, Fault>, out: &mut O) -> Result<Outcome, Fault>
     requires { O.failed out.old ≤ 2 ^ 48 }
     ensures { SendsOff O.taken O.sent O.failed out.old out.new ending result }
@@ -28,7 +29,7 @@ fn send_off<O: Output>(ending: Result<Outcome, Fault>, out: &mut O) -> Result<Ou
     ending
 }
 
-/// The ending, unless a write of what was printed was refused.
+/// Returns the ending, or the fault `WriteFailed` if a write was refused.
 pub fn written(
     writes: Result<(), WriteFailed>,
     ending: Result<Outcome, Fault>,
@@ -39,7 +40,7 @@ pub fn written(
     ending
 }
 
-/// Reports a fault by its line. Returns the exit status.
+/// Reports the fault by its line, if there is one. Returns the exit status.
 pub fn report_ending<E: Sink>(ending: Result<Outcome, Fault>, err: &mut E) -> u8
     requires { E.failed err.old < 2 ^ 48 }
     ensures reported { ReportsEnding E.taken E.failed err.old err.new ending }

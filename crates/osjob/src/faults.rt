@@ -15,20 +15,20 @@ use std::alloc::AllocError;
 /// Why a job was not done. The program prints `fault N Name` and exits with status 1.
 #[derive(Clone, Copy, Debug, PartialEq, Eq)]
 pub enum Fault {
-    /// A text is not what it has to be, the core to cut is not separate, or memory was refused before a run:
-    /// for the words, a file's bytes, a configuration.
+    /// A text is not what it has to be, the core to cut is not separate, or memory ran out before a run: for the
+    /// words, a file's bytes or a configuration.
     Text(ConfFault),
-    /// A line of a log is not that of an item.
+    /// A log is no text, or one of its lines is not the line of an item.
     BadLog,
     /// The item of this number, counted from 1, may not be taken.
     ItemRefused(u64),
-    /// A growth was refused in a run.
+    /// Memory ran out in a run or a replay, or for the items or the text of a log.
     NoMemoryToRun,
     /// A core's thread could not be started.
     NoThread,
-    /// A core could not take an envelope, or what two cores sent and took of each other differs.
+    /// A core could not take an envelope, or what one core took is not what the other core sent.
     MailBreak,
-    /// The output was refused.
+    /// A write to the output, or its flush, was refused.
     WriteFailed,
     /// A file could not be read.
     Unreadable,

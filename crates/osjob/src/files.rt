@@ -9,7 +9,7 @@ use std::fs::File;
 use std::io::Read;
 use std::rt::Files;
 
-/// How many bytes are read of a file: where more follows, that counts as out of memory.
+/// If a file has more bytes than this, its read may fail as if memory ran out.
 pub const LARGEST: usize = 1 << 30;
 
 /// How many bytes are read at once.
@@ -22,8 +22,8 @@ pub enum Reading {
     Unreadable,
 }
 
-/// Reads a whole file. Where more follows after `LARGEST` bytes, that counts as out of memory, so
-/// that a stream without an end ends.
+/// Reads a whole file. Answers `Unreadable` if it cannot be opened or read. If more bytes follow after at least
+/// `LARGEST` bytes, fails as if memory ran out, so that the reading of an endless stream ends.
 pub fn read_file<R: Files + AllocGlobal>(rt: &R, path: &str) -> Result<Reading, AllocError>
     ensures { IfOk result (HasFewerThan (LARGEST + PIECE)) }
 {
@@ -47,7 +47,7 @@ pub fn read_file<R: Files + AllocGlobal>(rt: &R, path: &str) -> Result<Reading, 
     Ok(Reading::Bytes(bytes))
 }
 
-/// The files at paths. None is opened before it is needed.
+/// The files at these paths. No file is opened before it is needed.
 #[derive(Drop)]
 pub struct Paths<'r, 'p, R> {
     rt: &'r R,
@@ -56,7 +56,7 @@ pub struct Paths<'r, 'p, R> {
 }
 
 impl<'r, 'p, R: Files + AllocGlobal> Paths<'r, 'p, R> {
-    /// No file is read yet.
+    /// Makes a source that has read no file yet.
     pub fn new(rt: &'r R, paths: Vec<&'p str>) -> Self
         ensures files { result.files.items ≡ [] }
         ensures paths { result.paths ≡ paths.entry }

@@ -1,4 +1,4 @@
-//! `groups` and `group`: the least group of each core, and the configuration of one alone.
+//! `groups` and `group`: the least group of each core, and the configuration of one group alone.
 
 ghost use Rattle.std.specs.Prelude.{◌≡◌, ◌<◌, ◌≤◌, ◌^◌, IfErr, IfOk, filter, length, max, string_bytes};
 ghost use Rattle.std.specs.List.{flat_map};
@@ -38,6 +38,7 @@ pub fn groups_out<S: Source, O: Sink>(
     written(write_groups(&config, out), Ok(Outcome::Done))
 }
 
+// Writes the line of each configured core, by ascending number.
 fn write_groups<O: Sink>(config: &Config, out: &mut O) -> Result<(), WriteFailed>
     requires { O.failed out.old < 2 ^ 48 }
     ensures { Writes O.taken O.failed out.old out.new (groups_text config.now) result }
@@ -48,7 +49,7 @@ fn write_groups<O: Sink>(config: &Config, out: &mut O) -> Result<(), WriteFailed
     Ok(())
 }
 
-// No number without a core has a line.
+// Writes the line of the core, or nothing if the core is not configured.
 fn write_group_at<O: Sink>(config: &Config, out: &mut O, core: CoreId) -> Result<(), WriteFailed>
     requires { O.failed out.old < 2 ^ 48 }
     ensures { Writes O.taken O.failed out.old out.new (group_at config.now core) result }
@@ -59,6 +60,7 @@ fn write_group_at<O: Sink>(config: &Config, out: &mut O, core: CoreId) -> Result
     write_group(config, out, core)
 }
 
+// Writes the line of the core: its number, and the numbers of the cores of its least group.
 fn write_group<O: Sink>(config: &Config, out: &mut O, core: CoreId) -> Result<(), WriteFailed>
     requires { O.failed out.old < 2 ^ 48 }
     ensures { Writes O.taken O.failed out.old out.new (group_line config.now core) result }
@@ -69,6 +71,7 @@ fn write_group<O: Sink>(config: &Config, out: &mut O, core: CoreId) -> Result<()
     write_all(out, b"\n")
 }
 
+// Writes the part of the core's line before the numbers of the group.
 fn write_head<O: Sink>(out: &mut O, core: CoreId) -> Result<(), WriteFailed>
     requires { O.failed out.old < 2 ^ 48 }
     ensures { Writes O.taken O.failed out.old out.new (group_head core) result }
@@ -78,6 +81,7 @@ fn write_head<O: Sink>(out: &mut O, core: CoreId) -> Result<(), WriteFailed>
     write_all(out, b" group")
 }
 
+// Writes the numbers of the group's cores in ascending order, each after a space.
 fn write_members<O: Sink>(out: &mut O, group: &CoreSet) -> Result<(), WriteFailed>
     requires { O.failed out.old < 2 ^ 48 }
     ensures { Writes O.taken O.failed out.old out.new (flat_map number_word (filter (has_core group.now) core_ids)) result }
@@ -88,6 +92,7 @@ fn write_members<O: Sink>(out: &mut O, group: &CoreSet) -> Result<(), WriteFaile
     Ok(())
 }
 
+// Writes a space and the core's number, or nothing if the core is not in the group.
 fn write_member<O: Sink>(out: &mut O, group: &CoreSet, core: CoreId) -> Result<(), WriteFailed>
     requires { O.failed out.old < 2 ^ 48 }
     ensures { Writes O.taken O.failed out.old out.new (number_at (has_core group.now) core) result }
@@ -98,7 +103,7 @@ fn write_member<O: Sink>(out: &mut O, group: &CoreSet, core: CoreId) -> Result<(
     write_number(out, core)
 }
 
-// The core's number after a space.
+// Writes a space and the core's number.
 fn write_number<O: Sink>(out: &mut O, core: CoreId) -> Result<(), WriteFailed>
     requires { O.failed out.old < 2 ^ 48 }
     ensures { Writes O.taken O.failed out.old out.new (number_word core) result }
@@ -108,7 +113,7 @@ fn write_number<O: Sink>(out: &mut O, core: CoreId) -> Result<(), WriteFailed>
     write_all(out, digits.format(core.number).as_bytes())
 }
 
-/// Prints the configuration of a core's least group alone.
+/// Prints the configuration of a core's least group alone. If the core is not configured, the fault is `UnknownName`.
 pub fn group_out<S: Source, O: Sink>(
     alloc: Global,
     core: CoreId,
@@ -128,7 +133,7 @@ pub fn group_out<S: Source, O: Sink>(
     written(write_line(out, text.as_str()), Ok(Outcome::Done))
 }
 
-// The text of the group's own configuration.
+// The text of the configuration of the core's least group alone.
 fn text_of_group(alloc: Global, config: &Config, core: CoreId) -> Result<String, Fault>
     ensures ok { IfOk result (λ text. IsGroupOf config.now core (string_bytes text)) }
     ensures fault { IfErr result (λ fault. fault ≡ Fault.Text NoMemory) }

@@ -15,8 +15,8 @@ use ostrace::{Sink, schedule_text, write_all};
 use osworld::{have_all_ended, order};
 use std::alloc::{AllocError, Global};
 
-/// Prints turns in one order with which a listed run has these reports, or `none` where none is found, and answers whether
-/// the run ended or stalled.
+/// Prints the turns of all cores in one order by which a listed run has these reports, or `none` if no order is found.
+/// Answers whether the run ended or stalled.
 pub fn print_order<O: Sink>(
     alloc: Global,
     config: &Config,
@@ -39,6 +39,7 @@ pub fn print_order<O: Sink>(
     )
 }
 
+// The line of the turns in one order, or `none` if no order was found.
 fn order_line(alloc: Global, turns: Option<Schedule>) -> Result<String, AllocError>
     ensures { IfOk result (λ line. string_bytes line ≡ order_line turns) }
 {

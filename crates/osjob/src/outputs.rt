@@ -9,10 +9,10 @@ use std::io::{BufWriter, Write};
 
 /// A sink that may gather what it takes, and sends it off at a flush.
 pub trait Output: Sink {
-    // The bytes that have left it, or `None` where its type does not say.
+    // The bytes that were sent off, or `None` if the type does not say which.
     ghost sent: { Self → Option (List ℕ) };
 
-    /// Sends off all that is gathered. A refusal is a failed write.
+    /// Sends off all that is gathered. If this is refused, it counts as a failed write.
     fn flush(&mut self) -> Result<(), WriteFailed>
         requires { Self.failed self.old ≤ 2 ^ 48 }
         ensures { Sends Self.taken sent Self.failed self.old self.new result };
@@ -33,7 +33,7 @@ impl<W: Write + Drop> Output for WriteSink<BufWriter<W>> {
 impl Output for MemorySink {
     ghost sent = { λ out. Some out.bytes.items };
 
-    // In memory nothing is gathered first.
+    // A sink in memory gathers nothing that is left to send off.
     fn flush(&mut self) -> Result<(), WriteFailed> {
         Ok(())
     }

@@ -19,9 +19,9 @@ use std::alloc::Global;
 use std::sync::Wait;
 use std::thread::Threads;
 
-/// Does the job over its files' bytes, one entry for each of its paths, `None` where the file could not be
-/// read; prints to `out`, reports a fault by its line to `err`, and returns the exit status: 0 done, 1 fault,
-/// 3 stalled. A run by threads may wait.
+/// Does the job over the bytes of its files. `files` has one entry for each of the job's paths, `None` if the file
+/// could not be read. Prints to `out`, and reports a fault by its line to `err`. Returns the exit status: 0 done,
+/// 1 fault, 3 stalled. A run by threads may wait.
 pub fn perform<R: Threads + Wait + Sync, O: Sink, E: Sink>(
     rt: &R,
     alloc: Global,
@@ -39,9 +39,9 @@ pub fn perform<R: Threads + Wait + Sync, O: Sink, E: Sink>(
     report_ending(result, err)
 }
 
-/// Prints what the job asks for over files that are read one by one: each is judged before the next is read, none
-/// is read after one with a fault or without a path of the job, and none is called unreadable that was not read.
-/// The source is used up: a run lets its files go before it begins. A run by threads may wait.
+/// Prints what the job asks for. The files are read one by one, and each file is judged before the next one is read. No
+/// file is read after a file with a fault, and no more files than the job has paths. Only a file that was asked for is
+/// reported as unreadable. The source is used up: a run lets its files go before it begins. A run by threads may wait.
 pub fn print_from<R: Threads + Wait + Sync, S: Source + Drop, O: Sink>(
     rt: &R,
     alloc: Global,

@@ -27,7 +27,7 @@ use std::thread::Threads;
 /// Why the words of the command line could not be read.
 #[derive(Clone, Copy, Debug, PartialEq, Eq)]
 pub enum NoWords {
-    /// Memory was refused.
+    /// Memory ran out.
     NoMemory,
     /// A word is not UTF-8.
     NotText,
@@ -41,8 +41,9 @@ impl From<AllocError> for NoWords {
     }
 }
 
-/// Does the job that the words name, the program's name first: prints to `out` and sends that off, reports a
-/// fault or a mistake in the words to `err`, and answers the exit status.
+/// Does the job that the words name, or prints the help or the version that they request. The first word is the
+/// program's name. Prints to `out` and sends that off. Reports to `err` a fault, a mistake in the words, or why the
+/// words could not be read. Returns the exit status.
 pub fn answer<R: Files + AllocGlobal + Threads + Wait + Sync, S: AsStr + Drop, O: Output, E: Sink>(
     rt: &R,
     words: Result<Vec<S>, NoWords>,
@@ -67,7 +68,8 @@ pub fn answer<R: Files + AllocGlobal + Threads + Wait + Sync, S: AsStr + Drop, O
     }
 }
 
-// Does the job over the files at its paths.
+// Prints what the job asks for, over the files at its paths; then sends that off, and reports a fault if there is one.
+// Returns the exit status.
 fn do_job<R: Files + AllocGlobal + Threads + Wait + Sync, O: Output, E: Sink>(
     rt: &R,
     job: &Job,
@@ -95,8 +97,8 @@ fn print_job<R: Files + AllocGlobal + Threads + Wait + Sync, O: Sink>(
     print_from(rt, rt.alloc(), job, Paths::new(rt, paths), out)
 }
 
-// Prints the help or the version that the words request in place of a job, or reports a mistake in the words, each in
-// `clap`'s text.
+// Answers words that name no job: prints the help or the version that they request, or reports the mistake in them, in
+// `clap`'s text. If memory ran out, reports that fault. Returns the exit status.
 fn refuse<O: Output, E: Sink>(alloc: Global, error: &Error, out: &mut O, err: &mut E) -> u8
     requires out { O.failed out.old < 2 ^ 48 }
     requires err { E.failed err.old < 2 ^ 48 }
@@ -113,14 +115,14 @@ fn refuse<O: Output, E: Sink>(alloc: Global, error: &Error, out: &mut O, err: &m
     }
 }
 
-// The words request help or the version.
+// Whether an error of this kind says that the words request help or the version.
 fn is_request(kind: ErrorKind) -> bool
     ensures { result ≡ is_request kind }
 {
     matches!(kind, ErrorKind::DisplayHelp | ErrorKind::DisplayVersion)
 }
 
-// The text for the user.
+// The error's text for the user, or a fault if memory ran out.
 fn text_of(alloc: Global, error: &Error) -> Result<String, Fault>
     ensures ok { OnOk result (kind_of error.now ≢ OutOfMemory) }
     ensures fault { IfErr result (λ fault. fault ≡ Fault.Text NoMemory) }
@@ -131,6 +133,7 @@ fn text_of(alloc: Global, error: &Error) -> Result<String, Fault>
     Ok(error.to_string(alloc)?)
 }
 
+// Prints the text. Answers `Done`, or the fault `WriteFailed` if a write was refused.
 fn show<O: Sink>(text: &str, out: &mut O) -> Result<Outcome, Fault>
     requires { O.failed out.old < 2 ^ 48 }
     ensures { Prints O.taken O.failed out.old out.new text.now (Ok Done) result }
@@ -138,7 +141,7 @@ fn show<O: Sink>(text: &str, out: &mut O) -> Result<Outcome, Fault>
     written(write_all(out, text.as_bytes()), Ok(Outcome::Done))
 }
 
-// Reports a mistake in the words. Returns the exit status.
+// Reports a mistake in the words by this text. Returns the exit status of wrong usage.
 fn mistake<E: Sink>(text: &str, err: &mut E) -> u8
     requires { E.failed err.old < 2 ^ 48 }
     ensures { IsMistaken E.taken E.failed err.old err.new text.now result }

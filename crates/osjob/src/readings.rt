@@ -1,4 +1,4 @@
-//! Reading a job's files: the configuration, the stimuli, the schedule.
+//! Reading a job's files: the configuration, the stimuli, the schedule and the log.
 
 ghost use Rattle.std.specs.Prelude.{◌≡◌, ◌≢◌, ◌<◌, ◌≤◌, IfOk, IfErr, IsSome, OnOk, length, max};
 ghost use Rattle.std.specs.Result.{result_map_both};
@@ -16,10 +16,10 @@ use oslog::read_log;
 use std::alloc::Global;
 use std::str;
 
-/// What bytes are that are no text, where JSON is wanted.
+/// The fault if bytes that should be JSON are no text.
 const NOT_JSON: Fault = Fault::Text(ConfFault::NotJson);
 
-/// The configuration, the first file.
+/// Reads the configuration, the first file.
 pub fn config_in<S: Source>(alloc: Global, source: &mut S) -> Result<Config, Fault>
     ensures ok { IfOk result (λ config. Means config_of (text_at (S.files source.new) 0) config) }
     ensures fault { IfErr result (λ fault. fault ≢ Fault.Text NoMemory
@@ -34,7 +34,7 @@ pub fn config_in<S: Source>(alloc: Global, source: &mut S) -> Result<Config, Fau
     Ok(read_config(alloc, text)?)
 }
 
-/// The stimuli, the second file, where the first is read.
+/// Reads the stimuli, the second file, once the first file is read.
 pub fn stimuli_in<S: Source>(
     alloc: Global,
     config: &Config,
@@ -56,7 +56,7 @@ pub fn stimuli_in<S: Source>(
     Ok(read_stimuli(alloc, config, text)?)
 }
 
-/// The schedule, the third file, where the first two are read.
+/// Reads the schedule, the third file, once the first two files are read.
 pub fn schedule_in<S: Source>(
     alloc: Global,
     config: &Config,
@@ -77,7 +77,7 @@ pub fn schedule_in<S: Source>(
     Ok(read_schedule(alloc, config, text)?)
 }
 
-/// The items of a core's log, the second file, where the first is read.
+/// Reads the items of a core's log, the second file, once the first file is read.
 pub fn log_in<S: Source>(
     alloc: Global,
     config: &Config,
@@ -100,7 +100,7 @@ pub fn log_in<S: Source>(
     Ok(read_log(alloc, config, core, text)?)
 }
 
-/// Nothing, where the core is configured.
+/// Checks that the core is configured. If it is not, the fault is `UnknownName`.
 pub fn known_core(config: &Config, core: CoreId) -> Result<(), Fault>
     ensures ok { OnOk result (IsSome (core_of config.now core)) }
     ensures fault { IfErr result (IsUnknownCore config.now core) }
@@ -111,7 +111,8 @@ pub fn known_core(config: &Config, core: CoreId) -> Result<(), Fault>
     }
 }
 
-// The text of a file: unreadable is a fault of its own, and so are bytes that are no text.
+// The text of the file in this place. If the file could not be read or does not exist, the fault is `Unreadable`; if
+// the file is not UTF-8, the fault is `no_text`.
 fn text_at<'a, S: Source>(source: &'a S, at: usize, no_text: Fault) -> Result<&'a str, Fault>
     requires read { at < S.count source.now → at < length (S.files source.now) }
     requires next { at ≤ length (S.files source.now) }

@@ -1,4 +1,4 @@
-//! Replaying a log: one core alone, and its block.
+//! Replaying a log: one core is played alone, and its block is printed.
 
 ghost use Rattle.std.specs.Prelude.{◌≡◌, ◌<◌, ◌≤◌, ◌^◌, IsSome, Ok, Result, length, max};
 ghost use Rattle.ostrace_text.specs.Trace.{block_of};
@@ -17,8 +17,8 @@ use ostrace::{Sink, write_reports};
 use std::alloc::Global;
 use std::slice;
 
-/// Plays the core alone with the items of its log, the second file, and prints its block. Where an item may not be
-/// taken, that is the fault behind the block of the items before.
+/// Plays the core alone with the items of its log, the second file, and prints its block. If an item may not be
+/// taken, prints the block of the items before it, and the fault has the item's number.
 pub fn replay_out<S: Source, O: Sink>(
     alloc: Global,
     core: CoreId,
@@ -39,7 +39,8 @@ pub fn replay_out<S: Source, O: Sink>(
     play(alloc, &config, core, items.as_slice(), out)
 }
 
-// Plays the items and prints the block.
+// Plays the items on the core alone, and prints the core's block. If an item may not be taken, prints the block of the
+// items before it, and the fault has the item's number.
 fn play<O: Sink>(
     alloc: Global,
     config: &Config,
@@ -61,7 +62,7 @@ fn play<O: Sink>(
     }
 }
 
-// Prints a core's block, and answers how the replay ended.
+// Prints the core's block. Answers `ending`, or the fault `WriteFailed` if a write was refused.
 fn print<O: Sink>(
     config: &Config,
     report: &Report,

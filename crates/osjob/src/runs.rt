@@ -21,9 +21,9 @@ use ostrace::{Sink, WriteFailed, write_all, write_reports};
 use osworld::{RunFault, have_all_ended, run_default, run_world};
 use std::alloc::Global;
 
-/// Plays the run of the source's files and prints it, or the log of one core alone. `schedule` is the path of the
-/// listed turns, the third file; without it the default schedule runs. The files' bytes are let go before the run
-/// begins.
+/// Plays the run of the source's files and prints its reports, or the log of the core `items` alone if that is given.
+/// `schedule` is the path of the listed turns, the third file; without it the default schedule runs. The files' bytes
+/// are let go before the run begins.
 pub fn run<S: Source + Drop, O: Sink>(
     alloc: Global,
     schedule: Option<&str>,
@@ -40,11 +40,11 @@ pub fn run<S: Source + Drop, O: Sink>(
     print_reports(alloc, &config, items, out, reports.as_slice())
 }
 
-/// What a run is given: the turns are None where none are listed.
+/// What a run is given. If no turns are listed, the schedule is `None`.
 pub type Input = (Config, Stimuli, Option<Schedule>);
 
-/// Reads the texts, and lets them go. `schedule` is the path of the listed turns, and the core of `items` has to be
-/// configured.
+/// Reads from the files what a run is given, and lets the files go. The turns are read only if `schedule`, the path of
+/// their file, is given. If the core `items` is given but not configured, the fault is `UnknownName`.
 pub fn input_of<S: Source + Drop>(
     alloc: Global,
     schedule: Option<&str>,
@@ -67,7 +67,8 @@ pub fn input_of<S: Source + Drop>(
     }
 }
 
-// Nothing, where the core whose log is to be printed is configured.
+// If the log of the core `items` is to be printed, checks that this core is configured. If it is not, the fault is
+// `UnknownName`.
 fn known_items(config: &Config, items: Option<CoreId>) -> Result<(), Fault>
     ensures ok { OnOk result (are_items_known config.now items ≡ true) }
     ensures fault { IfErr result (HasNoItems config.now items) }
@@ -78,6 +79,7 @@ fn known_items(config: &Config, items: Option<CoreId>) -> Result<(), Fault>
     }
 }
 
+// The reports of the run by these turns, or by the default schedule if no turns are listed.
 fn play(
     alloc: Global,
     config: &Config,
@@ -93,7 +95,8 @@ fn play(
     }
 }
 
-/// Prints the reports, or the log of one core alone, and answers whether the run ended or stalled.
+/// Prints the reports and whether the run ended or stalled, or the log of the core `items` alone if that is given.
+/// Answers whether the run ended or stalled.
 pub fn print_reports<O: Sink>(
     alloc: Global,
     config: &Config,
@@ -111,7 +114,7 @@ pub fn print_reports<O: Sink>(
     }
 }
 
-// Prints the reports, and whether the run ended or stalled; answers which.
+// Prints the reports, and whether the run ended or stalled. Answers that, too.
 fn print<O: Sink>(config: &Config, out: &mut O, reports: &[Report]) -> Result<Outcome, Fault>
     requires { O.failed out.old < 2 ^ 48 }
     ensures { Prints O.taken O.failed out.old out.new (run_text config.now reports.now)
@@ -143,7 +146,7 @@ fn print_log<O: Sink>(
     )
 }
 
-// The items of a core: none of one without a report.
+// The items of a core, or none if it has no report.
 fn items_of(reports: &[Report], core: CoreId) -> &[Item]
     ensures { result.now ≡ items_in reports.now core }
 {
@@ -161,6 +164,7 @@ fn report_of(reports: &[Report], core: CoreId) -> Option<&Report>
         .find(|report| report.core.number == core.number)
 }
 
+// Writes the blocks of the reports, and the last line, which says whether the run ended or stalled.
 fn write_run<O: Sink>(
     config: &Config,
     out: &mut O,
@@ -174,6 +178,7 @@ fn write_run<O: Sink>(
     write_all(out, last_line(ended).as_bytes())
 }
 
+/// The last line of what a run prints: whether every started core ended.
 pub(crate) fn last_line(ended: bool) -> &'static str
     ensures { result.now ≡ last_line ended }
 {

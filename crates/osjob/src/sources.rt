@@ -10,14 +10,14 @@ pub trait Source {
     // The files as far as they are read.
     ghost files: { Self → List File };
 
-    // All files, or `None` where the type does not know them before they are read.
+    // All files, or `None` if the type does not know them before they are read.
     ghost known: { Self → Option (List File) };
 
     // How many files there are.
     ghost count: { Self → ℕ };
 
-    /// Reads the file in this place, if it is there, and none after it. Those before it are read already,
-    /// and stay as they are.
+    /// Reads the file in this place, if it exists, and none after it. The files before it have been read
+    /// already, and do not change.
     fn read(&mut self, at: usize) -> Result<(), AllocError>
         requires { at ≤ length (files self.old) }
         ensures filled { OnOk result (at < count self.new → at < length (files self.new)) }
@@ -27,8 +27,8 @@ pub trait Source {
         ensures keeps { KeepsBelow at (files self.old) (files self.new) }
         ensures known { known self.new ≡ known self.old };
 
-    /// The bytes of the file in this place, which is read already; `None` where it could not be read, or there
-    /// is none.
+    /// The bytes of the file in this place, which has been read already; `None` if it could not be read or does
+    /// not exist.
     fn bytes(&self, at: usize) -> Option<&[u8]>
         requires { at < count self.now → at < length (files self.now) }
         ensures { option_map (λ bytes. bytes.now) result ≡ bytes_at (files self.now) at };
@@ -56,7 +56,7 @@ impl<'a> Source for Given<'a> {
     }
 }
 
-/// The bytes of the file in a place, where it is there and could be read.
+/// The bytes of the file in a place, if it exists and could be read.
 pub fn bytes_at<'a>(files: &'a [Option<Vec<u8>>], at: usize) -> Option<&'a [u8]>
     ensures { option_map (λ bytes. bytes.now) result ≡ bytes_at files.now at }
 {

@@ -23,25 +23,25 @@ use std::sync::atomic::{AtomicU64, Ordering};
 use std::thread::Threads;
 use std::{array, thread};
 
-/// The gate of the program: each thread may start, and a core that found nothing to do for as long as a worker stays awake
-/// gives up its processor before it sleeps. Beside busy programs a processor that is given up comes back late. Also of a core
-/// at work most turns change nothing: of three in a round, the one that serves the other cores, and the look.
+/// The gate of the program: each thread may start. A core that found nothing to do for as long as a worker stays awake
+/// yields its processor before it sleeps. Beside busy programs, a yielded processor comes back late. Most turns of a
+/// working core change nothing, too: in a round of three, the turn that serves the other cores, and the look.
 ///
-/// A store to a word that threads share takes as long as some forty instructions, so most turns of a core that works make one.
-/// It counts its fruitless turns, whatever comes between them, and is watched from a quarter of its patience on: then `before`
-/// finds whether the last turn was one of them, and if it was not, the count begins again.
+/// A store to a word that threads share takes as long as some forty instructions, so most turns of a working core make
+/// only one. Below the count `WATCHED`, each turn that changed nothing is counted, even if other turns come between.
+/// From this count on the core is watched: if its last turn changed something, `before` begins the count again.
 #[derive(Drop)]
 pub struct Yielding {
     // Each core's count, on a cache line of its own, since no other core writes it.
     cores: [CachePadded<AtomicU64>; CORES],
 }
 
-// What a fruitless turn adds to a count, and the mark beside it that the last turn was fruitless.
+// What a turn that changed nothing adds to a count. The bit `WAS_LAST` says that the last turn was such a turn.
 const TURN: u64 = 2;
 
 const WAS_LAST: u64 = 1;
 
-// The count at which a core gives up its processor, and the one from which it is watched.
+// The count at which a core yields its processor. From the count `WATCHED` on, the core is watched.
 const PATIENCE: u64 = AWAKE * ROUND * TURN;
 
 const WATCHED: u64 = PATIENCE / 4;
@@ -60,6 +60,7 @@ impl Gate for Yielding {
         true
     }
 
+    // If the core is watched: begins its count again if its last turn changed something, and else clears `WAS_LAST`.
     fn before(&self, core: CoreId) {
         let Some(count) = self.cores.get(usize::from(core.number)) else {
             return;
@@ -73,6 +74,8 @@ impl Gate for Yielding {
         count.store(left, Ordering::Relaxed);
     }
 
+    // Counts the core's turn, which changed nothing, and sets `WAS_LAST`. At `PATIENCE`, begins the count again and
+    // yields the processor.
     fn idle(&self, core: CoreId) {
         let Some(count) = self.cores.get(usize::from(core.number)) else {
             return;
@@ -87,8 +90,8 @@ impl Gate for Yielding {
     }
 }
 
-/// Runs each core of the source's files on a thread of its own and prints what the job names. The cores' mail is of this
-/// kind. A core gives up once so many turns in a row changed nothing. The files' bytes are let go before the run begins.
+/// Runs each core of the source's files on a thread of its own, with this kind of mail, and prints what `print` names.
+/// A core gives up once `turns` turns in a row changed nothing. The files' bytes are let go before the run begins.
 pub fn run_by_threads<R: Threads + Wait + Sync, S: Source + Drop, O: Sink>(
     rt: &R,
     alloc: Global,
@@ -113,7 +116,7 @@ pub fn run_by_threads<R: Threads + Wait + Sync, S: Source + Drop, O: Sink>(
     }
 }
 
-// Prints the reports, each core's block made in parts, by threads, and whether the run ended or stalled; answers which.
+// Prints the reports, and whether the run ended or stalled; answers that, too. Threads make the parts of each block.
 fn print_by_threads<R: Threads + Sync, O: Sink>(
     rt: &R,
     alloc: Global,
@@ -132,6 +135,7 @@ fn print_by_threads<R: Threads + Sync, O: Sink>(
     )
 }
 
+// Writes the blocks of the reports, whose parts threads make, and the last line.
 fn write_by_threads<R: Threads + Sync, O: Sink>(
     rt: &R,
     alloc: Global,
@@ -147,7 +151,7 @@ fn write_by_threads<R: Threads + Sync, O: Sink>(
     write_all(out, last_line(ended).as_bytes())
 }
 
-// The core whose log is to be printed, if it is a log.
+// The core whose log is to be printed, if a log is to be printed.
 fn logged_core(print: Print) -> Option<CoreId>
     ensures { result ≡ logged_core print }
 {

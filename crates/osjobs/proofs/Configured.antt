@@ -1,4 +1,4 @@
--- What is kept of a core's tasks says of each what the configuration says.
+-- What is kept of a core's tasks says of each task what the configuration says.
 use Rattle.std.proofs.Common.{◌≡◌, ℕ, ◌≤◌, Bool, true, false, cond, Option, Some, None, is_some, option_map, unwrap_or, length, map, refl, ap, sym, subst, ◌∙◌, nat_lt}
 use Rattle.std.specs.{List.slice_get, Option.option_map_or}
 use Rattle.std.proofs.{lemmas.Bool.false≢true, lemmas.List.length-map, lemmas.List.Folds.list_all-map, lemmas.Option.slice_get-map}

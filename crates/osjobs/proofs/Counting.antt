@@ -1,4 +1,4 @@
--- How many jobs there are of each place, and that no job of a runner stands before its first.
+-- How many jobs there are of each place, and that no job of a runner comes before its first.
 use Rattle.std.proofs.Common.{◌≡◌, ℕ, zero, suc, ◌+◌, ◌-◌, ◌<◌, ◌≤◌, nat_eq, Bool, true, false, cond, Some, None, List, [], ◌∷◌, ◌++◌, length, replicate, take, drop, get_or-set_same, get_or-set_other, refl, ap, sym, ◌∙◌, arith}
 use Rattle.std.specs.List.{slice_index_or, slice_set}
 use Rattle.std.proofs.{lemmas.Bool.eq-eqb, lemmas.Bool.eqb-true, lemmas.Bool.false≢true, lemmas.List.get_or-replicate}
@@ -50,7 +50,7 @@ count-few n (j ∷ js) = by (nat_eq (slot_of j.runner) n) (count-few n js)
     by true few = omega (arith, few)
     by false few = omega (arith, few)
 
--- no more jobs of a runner than of its place
+-- a runner has no more jobs than its place
 pub count-at-place : (r : Runner) (js : List Job) → job_count r js ≤ place_count (slot_of r) js
 count-at-place r [] = omega arith
 count-at-place r (x ∷ js) = by (same_runner x.runner r) refl (nat_eq (slot_of x.runner) (slot_of r)) refl (count-at-place r js)
@@ -82,7 +82,7 @@ count-within r (x ∷ js) = by (same_runner x.runner r) (count-within r js)
     by true rest = omega (arith, rest)
     by false rest = omega (arith, rest)
 
--- if none stands before a place, the first is the first from there on
+-- if no job of a runner comes before a place, its first job is the first from there on
 none-first : (b : Bool) (count : ℕ) → cond b (suc count) count ≡ 0 → (b ≡ false) × (count ≡ 0)
 none-first true count none = absurd (omega (arith, none))
 none-first false count none = (refl, none)
@@ -176,6 +176,6 @@ counted-without jobs counts r j is found out = record { each = λ n h. is.each n
 pub none-counted : AreCounted [] (replicate RUNNERS 0)
 none-counted = record { each = λ n h. get_or-replicate RUNNERS n 0 0 h }
 
--- a job for a place where there is none
+-- a default job, for a place without a job
 abbrev pub no-job : Job
 no-job = record { runner = Runner.Task (record { core = record { number = 0 }; index = 0 }); stamp = 0 }

@@ -1,5 +1,5 @@
--- Which jobs have to be compared to find the one to run: the best by the priorities that are configured, the raised one, and of each
--- task that holds resources the oldest. No other job whose task does not wait beats all of these.
+-- Which jobs have to be compared to find the one to run: the best by the configured priorities, the raised job, and the
+-- oldest job of each task that holds resources. No other job whose task does not wait beats all of these.
 use Rattle.std.proofs.Common.{◌≡◌, ◌⊎◌, inl, inr, ℕ, ◌≤◌, ◌<◌, nat_lt, not, Bool, true, false, cond, IfSome, Option, Some, None, filter, length, List, [], ◌∷◌, refl, ap, sym, subst, ◌∙◌, arith, ◌||◌}
 use Rattle.std.specs.{Int.bit_at, List.All, Option.option_map_or}
 use Rattle.std.proofs.lemmas.Bool.{eqb-true, cases_eq, cases_lt, false≢true, le-ltb, ltb-false, ltb-true}
@@ -129,7 +129,7 @@ module _ (able : Job → Bool) where
       by true e rest = (f x (inl refl) e, rest)
       by false e rest = rest
 
-  -- of what is in the queue
+  -- what holds of each entry in the queue holds of the entry of each job that may run
   entry-in : (tasks : OwnTasks) (P : Ready → Type 0) (js : List Job) (j : Job) → All P (queued tasks able js) → OneOf j js → able j ≡ true → P (entry_of tasks j)
   entry-in tasks P [] j all one a = absurd one
   entry-in tasks P (x ∷ js) j all one a = by (able x) refl all one (λ later rest. entry-in tasks P js j later rest a)
@@ -222,7 +222,7 @@ module _ (core : Core) (rows : List Row) (raised : Option Job) (holders : ℕ) (
   one-of-raised : (best : Job) → IfSome raised (λ j. OneOf j jobs) → raised ≡ Some best → OneOf best jobs
   one-of-raised best all e = subst (λ (o : Option Job). IfSome o (λ j. OneOf j jobs)) e all
 
-  -- nothing is passed yet
+  -- no holder is passed yet
   pub begins : (best : Job) → OneOf front jobs → is_awake_in rows front ≡ true → IfSome raised (λ j. OneOf j jobs) → IsBetter (rank_by core rows raised) (is_awake_in rows) front raised best → IsBestSoFar core rows raised holders jobs front best holders
   begins best one able all better = record {
     one = elim better.one [ inl same ↦ subst (λ (j : Job). OneOf j jobs) (sym same) one | inr new ↦ one-of-raised best all new.0 ];
@@ -291,7 +291,7 @@ module _ (core : Core) (rows : List Row) (raised : Option Job) (holders : ℕ) (
 -- ---- the front of the queue
 
 module _ (core : Core) (rows : List Row) (jobs : List Job) (x : Ready) (best : IsBest x (queued (own_tasks core) (is_awake_in rows) jobs)) where
-  -- it is a live job that may run, with its task's priority
+  -- the entry is of a live job that may run, with its task's priority
   record IsEntry (y : Ready) : Type 0 where
     one : OneOf y.job jobs
     able : is_awake_in rows y.job ≡ true

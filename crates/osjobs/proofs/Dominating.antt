@@ -1,4 +1,4 @@
--- In a list of jobs by ascending stamps the first of greatest priority is the one that no other beats.
+-- In a list of jobs by ascending stamps, the first job of the greatest priority is the one that no other beats.
 use Rattle.std.proofs.Common.{◌≡◌, ◌⊎◌, inl, inr, ℕ, ◌<◌, nat_lt, Bool, true, false, cond, Option, Some, None, List, [], ◌∷◌, refl, ap, subst, ◌∙◌, arith}
 use Rattle.std.proofs.lemmas.Bool.{lt-ltb, le-ltb}
 use Rattle.osbase.specs.{declared.histories.Job.Job, History.better_of, History.first_greatest}

@@ -1,4 +1,4 @@
--- A further job of a task is never the best: its oldest one stands before it, and has at least its priority.
+-- A further job of a task is never the best: the task's oldest job comes before it, and has at least its priority.
 use Rattle.std.proofs.Common.{◌≡◌, ◌≤◌, ◌<◌, ◌||◌, ℕ, nat_lt, Bool, true, false, cond, not, Option, Some, None, List, [], ◌∷◌, filter, refl, sym, ap, subst, ◌∙◌, arith}
 use Rattle.std.specs.Option.{option_map_or}
 use Rattle.std.proofs.lemmas.Bool.{and_from, and_parts, eq-eqb, eqb-true, false≢true}
@@ -26,7 +26,7 @@ module _ (p : Job → ℕ) (x : Job) where
 -- ---- the choice of fewer jobs, by priorities that are no greater
 
 module _ (p q : Job → ℕ) (a b : Job → Bool) (fewer : (j : Job) → b j ≡ true → a j ≡ true) (less : (j : Job) → q j ≤ p j) where
-  -- no greater than the choice of all, and the same if that one is among the fewer, with its priority
+  -- the choice among fewer jobs has no greater priority; if the choice among all is there, at its priority, both agree
   record Chosen (o r : Option Job) : Type 0 where
     pub none : o ≡ None → r ≡ None
     pub bound : (k m : Job) → o ≡ Some k → r ≡ Some m → q m ≤ p k
@@ -132,7 +132,7 @@ module _ (p : Job → ℕ) (a : Job → Bool) where
       by true in-a g rest = better (first_greatest p (filter a js)) in-a g rest
       by false in-a g rest = rest g
 
-  -- the oldest of its task, if those before it have no less
+  -- the chosen job is its task's oldest, if each job of the task may be chosen and has at least its priority
   chosen-oldest : (js : List Job) (k : Job) → first_greatest p (filter a js) ≡ Some k → ((i : Job) → i.runner ≡ k.runner → (a i ≡ true) × (p k ≤ p i)) → oldest k.runner js ≡ Some k
   chosen-oldest [] k e elder = absurd (none-some k e)
   chosen-oldest (x ∷ js) k e elder = by (same_runner x.runner k.runner) refl (λ f. chosen-oldest js k f elder)

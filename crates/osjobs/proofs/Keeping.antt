@@ -1,4 +1,4 @@
--- What each call leaves of the queue of a core's jobs, and of the tasks that hold resources.
+-- What the queue of a core's jobs and the tasks that hold resources are after each call.
 use Rattle.std.proofs.Common.{◌≡◌, ℕ, zero, suc, ◌≤◌, ◌<◌, nat_eq, nat_lt, Bool, true, false, cond, not, IfSome, Option, Some, None, is_some, option_map, unwrap_or, List, [], ◌∷◌, ◌++◌, length, drop, refl, ap, sym, subst, ◌∙◌, arith, get_or-set_same, length-set, length-append, replicate}
 use Rattle.std.specs.{Int.bit_at, Option.option_map_or}
 use Rattle.std.specs.List.{All, Contains, slice_get, slice_set}
@@ -79,7 +79,7 @@ queued-agree tasks a b (j ∷ js) same =
     ap (λ (t : Bool). cond t (placed (entry_of tasks j) (queued tasks a js)) (queued tasks a js)) same.0
     ∙ ap (λ (q : List Ready). cond (b j) (placed (entry_of tasks j) q) q) (queued-agree tasks a b js same.1)
 
--- where one test passes no job of a runner, of which there is one at most
+-- if a runner has at most one job, which `a` does not pass, the queue by `a` is the queue by `b` without this job
 queued-quiet : (tasks : OwnTasks) (a b : Job → Bool) (r : Runner) (js : List Job) → Each (λ (j : Job). same_runner j.runner r ≡ true → a j ≡ false) js → Each (λ (j : Job). same_runner j.runner r ≡ false → a j ≡ b j) js → job_count r js ≤ 1 → queued tasks a js ≡ queued tasks b (without_oldest r js)
 queued-quiet tasks a b r [] quiet same few = refl
 queued-quiet tasks a b r (x ∷ js) quiet same few =
@@ -144,7 +144,7 @@ all-older tasks able js j older =
 
 -- ---- one row changed
 
--- what holds of the changed row, if it is the one, and of the row as it was, holds of the row at a place
+-- what holds of the row as it was, and of the changed row if it is at this place, holds of the row at this place
 row-cases : (P : Row → Type 0) (row : Row) (all : List Row) (place k : ℕ) → (k ≡ place → P row) → P (row_at k all) → P (row_at k (slice_set all place row))
 row-cases P row [] place k new old = old
 row-cases P row (x ∷ all) zero zero new old = new refl
@@ -153,7 +153,7 @@ row-cases P row (x ∷ all) (suc place) zero new old = old
 row-cases P row (x ∷ all) (suc place) (suc k) new old = row-cases P row all place k (λ e. new (ap suc e)) old
 
 module _ (r : Runner) (f : Row → Row) (rows : List Row) where
-  -- nobody waits who did not, or the other way round
+  -- each job is awake exactly if it was before
   pub same-awake : is_waiting (f (row_in r rows)).events ≡ is_waiting (row_in r rows).events → (j : Job) → is_awake_in (with_row r f rows) j ≡ is_awake_in rows j
   same-awake same j =
       row-cases (λ (row : Row). not (is_waiting row.events) ≡ is_awake_in rows j) (f (row_in r rows)) rows (slot_of r) (slot_of j.runner)
@@ -204,7 +204,7 @@ own-task tasks t own = by (same_core t.core tasks.core) (slice_get tasks.priorit
     by true None e f is = absurd (false≢true is)
     by false o e f is = absurd (false≢true is)
 
--- two own tasks of one index are one
+-- two own tasks with the same index are the same task
 pub same-index : (tasks : OwnTasks) (t u : TaskRef) → IsOwn tasks t → IsOwn tasks u → u.index ≡ t.index → same_task u t ≡ true
 same-index tasks t u mine yours e =
     let one : u.core ≡ t.core = same_core-true u.core tasks.core yours.here ∙ sym (same_core-true t.core tasks.core mine.here) in
@@ -245,7 +245,7 @@ module _ (priorities room : ℕ) (tasks : OwnTasks) (jobs : List Job) (rows : Li
       all [] = tt
       all (k ∷ ks) = (same k, all ks)
 
-  -- a row changes, and who waits does not
+  -- a row changes, and the same tasks wait as before
   pub keeps : (r : Runner) (f : Row → Row) → is_waiting (f (row_in r rows)).events ≡ is_waiting (row_in r rows).events → AreReady priorities room tasks jobs (with_row r f rows) ready
   keeps r f same = record {
     few = is.few;
@@ -307,7 +307,7 @@ module _ (priorities room : ℕ) (tasks : OwnTasks) (jobs : List Job) (rows : Li
       within : t.index < length rows
       within = let known : t.index < TASKS = omega (arith, mine.index, is.within) in omega (arith, known, is.places)
 
-      -- those of other tasks wait as before
+      -- the jobs of other tasks wait as before
       agree-others : (f : Row → Row) (js : List Job) → Each (λ (k : Job). is_own_task tasks k.runner ≡ true) js → Each (λ (k : Job). same_runner k.runner (Runner.Task t) ≡ false → is_awake_in (with_row (Runner.Task t) f rows) k ≡ is_awake_in rows k) js
       agree-others f [] all = tt
       agree-others f (k ∷ js) all = ((λ differ. other-awake tasks t mine f rows k all.0 differ), agree-others f js all.1)
@@ -421,7 +421,7 @@ module _ (priorities room : ℕ) (tasks : OwnTasks) (jobs : List Job) (rows : Li
                 queue = queue-of j e;
               }
 
--- ---- all that is kept, where one row changes
+-- ---- all that is kept, if one row changes
 
 pub kept : {priorities room : ℕ} {tasks : OwnTasks} {jobs : List Job} {counts : List ℕ} {ready : List Ready} {holders : ℕ} {isr_jobs : List Job} {isr_counts : List ℕ} {rows : List Row} {running : Option TaskRef} {job : Option Job} → IsKept priorities room tasks jobs counts ready holders isr_jobs isr_counts rows running job
     → (r : Runner) (f : Row → Row) → is_waiting (f (row_in r rows)).events ≡ is_waiting (row_in r rows).events → (holds_any (f (row_in r rows)).held ≡ true → holds_any (row_in r rows).held ≡ true)
@@ -435,7 +435,7 @@ kept {priorities} {room} {tasks} {jobs} {ready = ready} {holders = holders} {row
   current = is.current;
 }
 
--- of an optional job
+-- what holds of the job, if one is found, holds of the optional job
 pub if-found : (P : Job → Type 0) (o : Option Job) → ((j : Job) → o ≡ Some j → P j) → IfSome o P
 if-found P None f = tt
 if-found P (Some j) f = f j refl
@@ -452,7 +452,7 @@ places-new = length-replicate RUNNERS first_row
 pub none-held : (k : ℕ) → k < TASKS → holds_any (row_at k (replicate RUNNERS first_row)).held ≡ true → bit_at 0 k ≡ 1
 none-held k within h = absurd (false≢true (sym (ap (λ (row : Row). holds_any row.held) (get_or-replicate RUNNERS k first_row first_row (omega (arith, within)))) ∙ h))
 
--- ---- one that holds nothing any more
+-- ---- a runner that holds nothing any more
 
 pub no-holder : (r : Runner) (rows : List Row) (word new : ℕ) → AreHolders rows word → nat_eq (length (row_in r rows).held) 0 ≡ true → ((k : ℕ) → (k ≡ slot_of r → ⊥) → bit_at new k ≡ bit_at word k) → AreHolders rows new
 no-holder r rows word new is free others = record { each = λ k within h. others k (apart k h) ∙ is.each k within h }

@@ -1,4 +1,5 @@
--- All jobs of tasks are of the core's own, of which no two have one place: so as many are of a task as of its place.
+-- All jobs of tasks are of the core's own tasks, and no two of these have the same place. So a task has as many jobs as
+-- its place.
 use Rattle.std.proofs.Common.{◌≡◌, suc, ◌≤◌, ◌<◌, nat_eq, Bool, true, false, cond, List, [], ◌∷◌, length, refl, ap, sym, ◌∙◌, arith}
 use Rattle.std.proofs.lemmas.Bool.{eqb-true, false≢true}
 use Rattle.osbase.specs.{declared.references.Runner.Runner, declared.histories.Job.Job, declared.limits.TheConstants.RUNNERS, declared.limits.TheConstants.TASKS, History.job_count, History.same_runner, Sets.slot_of}

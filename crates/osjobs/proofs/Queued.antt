@@ -14,7 +14,7 @@ apart' : (tasks : OwnTasks) (j k : Job) → j.stamp < k.stamp → is_same (entry
 apart' tasks j k newer = is-apart (entry_of tasks j) (entry_of tasks k) (λ p s. omega (arith, s, newer))
 
 module _ (tasks : OwnTasks) (able : Job → Bool) where
-  -- no more are ready than live
+  -- no more jobs are ready than live
   pub length-queued : (js : List Job) → length (queued tasks able js) ≤ length js
   length-queued [] = omega arith
   length-queued (j ∷ js) = by (able j) (length-queued js)

@@ -12,7 +12,7 @@ remove_first r js i x h e same first =
     let rest : drop i js ≡ x ∷ drop (suc i) js = drop-cons js i x h ∙ ap (λ (y : Job). y ∷ drop (suc i) js) (sym e) in
     sym (first ∙ ap (λ (ds : List Job). take i js ++ without_oldest r ds) rest ∙ rw same)
 
--- and found there
+-- the runner's first job is the one at this place, if it is the first one from there on
 pub first-there : (r : Runner) (js : List Job) (i : ℕ) (x : Job) → i < length js → x ≡ get_or js i x → same_runner x.runner r ≡ true → oldest r js ≡ oldest r (drop i js) → slice_get js i ≡ oldest r js
 first-there r js i x h e same first =
     let rest : drop i js ≡ x ∷ drop (suc i) js = drop-cons js i x h ∙ ap (λ (y : Job). y ∷ drop (suc i) js) (sym e) in

@@ -4,7 +4,7 @@ use Rattle.std.specs.Option.{option_or}
 use Rattle.osbase.specs.{declared.references.IsrRef.IsrRef, declared.histories.Job.Job, History.first_greatest, Interrupts.oldest_entered}
 use Rattle.osjobs.specs.Jobs.{JobState, current_among, running_among}
 
--- where none is chosen there is none
+-- if no job is chosen, there is none
 pub none-chosen : (priority : Job → ℕ) (jobs : List Job) → first_greatest priority jobs ≡ None → jobs ≡ []
 none-chosen priority [] e = refl
 none-chosen priority (j ∷ jobs) e = cc

@@ -1,4 +1,4 @@
--- The stamps of the live jobs ascend, since each new one is greater than all that there are.
+-- The stamps of the live jobs ascend, since each new stamp is greater than all of theirs.
 use Rattle.std.proofs.Common.{ℕ, ◌<◌, Bool, true, false, cond, Option, Some, None, List, [], ◌∷◌, ◌++◌}
 use Rattle.std.specs.Option.{option_map_or}
 use Rattle.osbase.specs.{declared.references.Runner.Runner, declared.histories.Job.Job}

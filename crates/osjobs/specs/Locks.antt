@@ -1,5 +1,5 @@
--- The lock budgets of the resources that a job holds. That a lock budget is the resource's, for all its holders, and that reaching it is
--- the fault, is this project's own.
+-- The lock budgets of the resources that a job holds. A resource has one lock budget for all its holders, and it is a
+-- fault to reach it. This is the project's own.
 use Rattle.std.specs.Prelude.{ℕ, Bool, slice_get, slice_index_or}
 use Rattle.std.specs.{List.list_any, Option.option_map_or}
 use Rattle.osbase.specs.declared.histories.HeldResource.{HeldResource}
@@ -11,6 +11,7 @@ use Rattle.osplan.specs.{declared.plans.Core.Core, declared.plans.Resource.Resou
 abbrev pub lock_of : Core → ℕ → ℕ
 lock_of core index = option_map_or (λ (r : Resource). r.lock) (slice_get core.resources index) 0
 
--- A job, the oldest of the runner with this row, holds a resource whose lock budget its ticks have reached since it took that.
+-- The oldest job of the runner with this row has reached the lock budget of a resource that it holds. The ticks count
+-- since it took the resource.
 abbrev pub is_overheld : Core → Row → Bool
 is_overheld core row = list_any (λ (x : HeldResource). is_reached (lock_of core x.index) (slice_index_or row.lock_used x.index 0)) row.held

@@ -1,5 +1,5 @@
--- The ready queue that the live jobs make: those whose tasks do not wait, each with the priority of its task as it is configured. And which
--- jobs have to be compared to find the best one. All of it is this project's own.
+-- The ready queue of the live jobs: those whose tasks do not wait, each with the priority of its task as it is
+-- configured. Also, which jobs have to be compared to find the best one. All of it is this project's own.
 use Rattle.std.specs.Prelude.{◌≡◌, ◌⊎◌, ℕ, ◌<◌, ◌≤◌, nat_lt, Bool, true, if◌then◌else◌, Option, Some, None, List, [], ◌∷◌, length}
 use Rattle.std.specs.{Int.bit_at, List.list_all}
 use Rattle.osbase.specs.{declared.histories.Job.Job, declared.references.Runner.Runner, declared.limits.TheConstants.RUNNERS, declared.limits.TheConstants.TASKS, History.oldest}
@@ -15,36 +15,40 @@ abbrev pub OneOf : Job → List Job → Type 0
 OneOf b [] = ⊥
 OneOf b (j ∷ js) = (j ≡ b) ⊎ OneOf b js
 
--- The first job has a greater rank than the second, or the same and no greater stamp.
+-- The first job has a greater rank than the second, or the same rank and a stamp that is not greater.
 abbrev pub Beats : (Job → ℕ) → Job → Job → Type 0
 Beats rank b j = (rank j < rank b) ⊎ ((rank j ≡ rank b) × (b.stamp ≤ j.stamp))
 
--- A job as it stands in the queue, and the queue of those jobs of a list that may stand in it.
+-- A job as the queue holds it: with the static priority of its task.
 abbrev pub entry_of : OwnTasks → Job → Ready
 entry_of tasks j = record { priority = priority_of tasks j.runner; job = j }
 
+-- The queue of the jobs in the list that are able to run, as `able` tests. The job to run first is in front.
 abbrev pub queued : OwnTasks → (Job → Bool) → List Job → List Ready
 queued tasks able [] = []
 queued tasks able (j ∷ js) = if able j then placed (entry_of tasks j) (queued tasks able js) else queued tasks able js
 
--- The queue without a job, if there is one and it stands there; and with one more, if there is one.
+-- The queue without this job. If there is no job, or it is not able to run, the queue stays as it is.
 abbrev pub dequeued : OwnTasks → (Job → Bool) → Option Job → List Ready → List Ready
 dequeued tasks able None q = q
 dequeued tasks able (Some j) q = if able j then without (entry_of tasks j) q else q
 
+-- The queue with this job at its place. If there is no job, the queue stays as it is.
 abbrev pub enqueued : OwnTasks → Option Job → List Ready → List Ready
 enqueued tasks None q = q
 enqueued tasks (Some j) q = placed (entry_of tasks j) q
 
--- The priorities of these tasks have queues.
+-- The priority of each of these tasks is below this bound, so that the ready queue can hold the task's jobs.
 abbrev pub have_queues : ℕ → List Task → Bool
 have_queues priorities tasks = list_all (λ (t : Task). nat_lt t.priority priorities) tasks
 
--- The word has a bit for each task whose oldest job holds a resource.
+-- The word has a bit for each task whose oldest job holds a resource. It may have further bits.
 pub record AreHolders (rows : List Row) (word : ℕ) : Type 0 where
   pub each : (k : ℕ) → k < TASKS → holds_any (row_at k rows).held ≡ true → bit_at word k ≡ 1
 
--- What holds of the queue of a core's jobs.
+-- The queue `ready` has the jobs whose tasks do not wait. There are at most `room` jobs, at most TASKS tasks, and
+-- RUNNERS rows. Each job is of one of the core's tasks. The tasks' priorities are below `priorities` and below
+-- PRIORITIES.
 pub record AreReady (priorities room : ℕ) (tasks : OwnTasks) (jobs : List Job) (rows : List Row) (ready : List Ready) : Type 0 where
   pub few : length jobs ≤ room
   pub own : Each (λ (j : Job). is_own_task tasks j.runner ≡ true) jobs
@@ -54,17 +58,18 @@ pub record AreReady (priorities room : ℕ) (tasks : OwnTasks) (jobs : List Job)
   pub places : length rows ≡ RUNNERS
   pub queue : ready ≡ queued tasks (is_awake_in rows) jobs
 
--- The oldest job of the task of this index.
+-- The oldest job of the core's task of this index.
 abbrev pub oldest_at : Core → List Job → ℕ → Option Job
 oldest_at core jobs index = oldest (Runner.Task (record { core = core.id; index = index })) jobs
 
--- A job that was compared with the best so far: the better of both, of which the second counts only if its task does not wait.
+-- `chosen` is the better of `best` and `job`. If there is no `job`, or it is not able to run, `chosen` is `best`.
 pub record IsBetter (rank : Job → ℕ) (able : Job → Bool) (best : Job) (job : Option Job) (chosen : Job) : Type 0 where
   pub one : (chosen ≡ best) ⊎ ((job ≡ Some chosen) × (able chosen ≡ true))
   pub beats : Beats rank chosen best
   pub also : (j : Job) → job ≡ Some j → able j ≡ true → Beats rank chosen j
 
--- The best of the front of the queue, of the raised job, and of the oldest jobs of those holders that are not left.
+-- `best` is one of the jobs, and its task does not wait. It beats `front`, the raised job, and the oldest job of each
+-- task that has a bit in `holders` and none in `left`. Of the last two, a job whose task waits does not count.
 pub record IsBestSoFar (core : Core) (rows : List Row) (raised : Option Job) (holders : ℕ) (jobs : List Job) (front best : Job) (left : ℕ) : Type 0 where
   pub one : OneOf best jobs
   pub able : is_awake_in rows best ≡ true

@@ -1,4 +1,5 @@
--- How the code compares jobs: a further job of a task counts as its oldest one does. Since it stands behind that one, it is never chosen.
+-- How the code compares jobs: a further job of a task ranks as the task's oldest one. It comes behind the oldest, so it
+-- is never chosen.
 use Rattle.std.specs.Prelude.{ℕ, Bool, false, not, if◌then◌else◌, Option, List}
 use Rattle.std.specs.Option.{option_map_or}
 use Rattle.osbase.specs.declared.histories.Job.{Job}
@@ -12,8 +13,8 @@ use Rattle.osjobs.specs.Priorities.{highest_of, static_priority}
 abbrev pub is_awake_in : List Row → Job → Bool
 is_awake_in rows j = not (is_waiting (events_in j.runner rows))
 
--- The greatest of the priority of the job's task, of the ceilings of what the task's oldest job holds and, if this job is raised, of
--- all tasks.
+-- A job's rank: the greatest of its task's priority and of the ceilings of what the task's oldest job holds. If the job
+-- is raised, the priorities of all tasks count too.
 abbrev pub rank_by : Core → List Row → Option Job → Job → ℕ
 rank_by core rows raised j =
     greater (greater (static_priority core j.runner) (greatest_ceiling (held_in j.runner rows)))

@@ -8,7 +8,8 @@ ghost use Rattle.osjobs.specs.{Jobs.is_current, Live.AreCounted};
 use crate::live::{self, Counts};
 use osbase::{Job, Runner, TaskRef};
 
-/// The task in the running state, once this one left it.
+/// What becomes of `current`, the task in the running state, once `task` leaves that state: none if the two are the
+/// same.
 pub(crate) fn left_by(task: TaskRef, current: Option<TaskRef>) -> Option<TaskRef>
     ensures { result ≡ left_by task current }
 {
@@ -18,7 +19,7 @@ pub(crate) fn left_by(task: TaskRef, current: Option<TaskRef>) -> Option<TaskRef
     }
 }
 
-/// The current job, once this task left the running state.
+/// What becomes of `job`, the current job, once `task` leaves the running state: none if `task` is the current task.
 pub(crate) fn job_left(task: TaskRef, current: Option<TaskRef>, job: Option<Job>) -> Option<Job>
     ensures { result ≡ (if is_current current (Runner.Task task) then None else job) }
 {
@@ -28,7 +29,8 @@ pub(crate) fn job_left(task: TaskRef, current: Option<TaskRef>, job: Option<Job>
     }
 }
 
-/// The current job, once another job stands behind all others.
+/// The current job, once the job `joined` was put behind all others: `job` if there is one; else `joined` if it is a
+/// job of the current task.
 pub(crate) fn job_joined(current: Option<TaskRef>, job: Option<Job>, joined: Job) -> Option<Job>
     ensures { result ≡ option_or job (if is_current current joined.runner then Some joined else None) }
 {
@@ -42,7 +44,8 @@ pub(crate) fn job_joined(current: Option<TaskRef>, job: Option<Job>, joined: Job
     None
 }
 
-/// The current job, once the oldest job of this task stands behind all others.
+/// The current job, once the oldest job of `task` was put behind all others: the oldest of its jobs now, if `task` is
+/// the current task; else `job`.
 pub(crate) fn job_anew(
     jobs: &[Job],
     counts: &Counts,

@@ -1,4 +1,4 @@
-//! The ISRs whose oldest job was entered, the last one first.
+//! The ISRs whose oldest job was entered, the one entered last in front.
 
 ghost use Rattle.std.specs.Prelude.{◌≡◌, ◌<◌, ◌∷◌, length, remove, IfSome, IfNone};
 ghost use Rattle.osbase.specs.Interrupts.{isr_count, without_isr};
@@ -6,7 +6,7 @@ ghost use Rattle.osbase.specs.Interrupts.{isr_count, without_isr};
 use arrayvec::ArrayVec;
 use osbase::{ISRS, IsrRef};
 
-/// The oldest job of the ISR is entered.
+/// The oldest job of the ISR is entered: the ISR is now the first in the list.
 pub(crate) fn enter(isrs: &mut ArrayVec<IsrRef, ISRS>, isr: IsrRef)
     requires room { length (without_isr isr isrs.old.items) < ISRS }
     ensures { isrs.new.items ≡ isr ∷ without_isr isr isrs.old.items }
@@ -15,7 +15,7 @@ pub(crate) fn enter(isrs: &mut ArrayVec<IsrRef, ISRS>, isr: IsrRef)
     isrs.insert(0, isr);
 }
 
-/// The job of the ISR, if it was entered, has ended.
+/// The ISR's entered job, if it has one, has ended: the ISR is taken out of the list.
 pub(crate) fn leave(isrs: &mut ArrayVec<IsrRef, ISRS>, isr: IsrRef)
     ensures { isrs.new.items ≡ without_isr isr isrs.old.items }
 {
@@ -24,7 +24,7 @@ pub(crate) fn leave(isrs: &mut ArrayVec<IsrRef, ISRS>, isr: IsrRef)
     }
 }
 
-/// How often the ISR is among these.
+/// How often the ISR is in the list.
 pub(crate) fn count(isrs: &[IsrRef], isr: IsrRef) -> usize
     ensures { result ≡ isr_count isr isrs.now }
 {
@@ -39,7 +39,7 @@ pub(crate) fn count(isrs: &[IsrRef], isr: IsrRef) -> usize
     count
 }
 
-// The first place of the ISR.
+// The first place of the ISR in the list; `None` if it is not there.
 fn place_of(isrs: &[IsrRef], isr: IsrRef) -> Option<usize>
     ensures found { IfSome result (λ place. remove isrs.now place ≡ without_isr isr isrs.now) }
     ensures within { IfSome result (λ place. place < length isrs.now) }

@@ -7,7 +7,7 @@ ghost use Rattle.osbase.specs.History.{Took, Printed, Noted, ResourceOccupied, R
 ghost use Rattle.osbudget.specs.Budget.{is_reached};
 ghost use Rattle.oscript.specs.{declared.Op.Op as OpValue, Frames.action_at};
 ghost use Rattle.osrunner.specs.Rows.{depth_in, events_in, frame_in, held_in, is_occupied, lock_used_in, row_in, used_in};
-ghost use Rattle.osjobs.specs.Jobs.{Each, best_among, best_task_among, current_among, first_jobs, is_locked_in, is_plain, jobs_by, running_among};
+ghost use Rattle.osjobs.specs.Jobs.{Each, best_among, best_task_among, current_among, first_jobs, has_suspended_interrupts_in, is_plain, jobs_by, running_among};
 ghost use Rattle.osjobs.specs.{Locks.is_overheld, Priorities.holds_any, Priorities.is_newest, Priorities.is_own_runner, OwnTasks.are_below, OwnTasks.is_own_task, OwnTasks.own_tasks, Ranking.is_awake_in};
 ghost use Rattle.osjobs.specs.Queue.{AreHolders, dequeued, enqueued, entry_of, have_queues};
 ghost use Rattle.osqueue.specs.{Ordered.ComesBefore, Ordered.IsBest, declared.ready.TheConstants.PRIORITIES};
@@ -29,8 +29,8 @@ use osqueue::{Reads, Ready, ReadyQueue};
 use osrunner::Rows;
 use std::marker::Model;
 
-/// The live jobs of a core: those of tasks, with room for `J` of them, whose priorities are below `P`, and those of ISRs; the
-/// task in the running state, who gives way, and what belongs to each task and ISR.
+/// The live jobs of a core: up to `J` jobs of tasks, whose priorities are below `P`, and the jobs of ISRs. Also the
+/// task in the running state, the runner that gives way, and the row of each task and ISR.
 #[derive(Drop)]
 pub struct Jobs<const P: usize, const J: usize> {
     // The core's tasks, so that a call knows their priorities.
@@ -38,21 +38,22 @@ pub struct Jobs<const P: usize, const J: usize> {
     // The live jobs of ISRs, in the order of their stamps, and how many each ISR has.
     isr_jobs: ArrayVec<Job, INTERRUPTS>,
     isr_counts: Counts,
-    // The ISRs whose oldest job was entered, the last one first.
+    // The ISRs whose oldest job was entered, the one entered last in front.
     entered: ArrayVec<IsrRef, ISRS>,
     // The task in the running state, and the oldest of its jobs.
     current: Option<TaskRef>,
     current_job: Option<Job>,
-    // Who gives way within the item in hand.
+    // The runner that gives way until the next item is taken.
     giving_way: Option<Runner>,
     rows: Rows,
     // A bit for each task whose oldest job holds a resource.
     holders: u32,
     // How many live jobs each task has.
     counts: Counts,
-    // The live jobs of tasks, in the order of their stamps. What has no fixed size comes last, which makes proofs about sizes short.
+    // The live jobs of tasks, in the order of their stamps. What has no fixed size comes last, which makes proofs about
+    // sizes short.
     jobs: ArrayVec<Job, J>,
-    // Those of them whose tasks do not wait, each with the priority of its task as it is configured.
+    // The live jobs whose tasks do not wait, each with its task's configured priority.
     ready: ReadyQueue<P, J>,
 }
 
@@ -67,7 +68,7 @@ impl<const P: usize, const J: usize> Model for Jobs<P, J> {
 }
 
 impl<const P: usize, const J: usize> Jobs<P, J> {
-    /// No job of this core yet.
+    /// The core has no live job yet.
     pub fn new(core: &Core) -> Self
         requires priorities { have_queues P core.now.tasks ≡ true }
         requires marked { have_queues PRIORITIES core.now.tasks ≡ true }
@@ -90,15 +91,15 @@ impl<const P: usize, const J: usize> Jobs<P, J> {
         }
     }
 
-    /// With an item nobody gives way (OSEK/VDX OS 2.2.3, section 13.2.3.4).
+    /// An item is taken: from now on nobody gives way (OSEK/VDX OS 2.2.3, section 13.2.3.4).
     pub fn take_item(&mut self, _item: &Item)
         ensures { self.new ≡ jobs_by [] (Took _item.now) 0 self.old }
     {
         self.giving_way = None;
     }
 
-    /// A job of the task begins, with a stamp greater than all that there are, and no event set (OSEK/VDX OS 2.2.3,
-    /// section 4.3 and 13.2.3.1).
+    /// The task is activated: a job of it begins, with a stamp greater than all others, and none of its events is set
+    /// (OSEK/VDX OS 2.2.3, section 4.3 and 13.2.3.1).
     pub fn activate(&mut self, task: TaskRef, stamp: u64)
         requires room { length self.old.jobs < J }
         requires own { is_own_task self.old.tasks (Runner.Task task) ≡ true }
@@ -115,8 +116,8 @@ impl<const P: usize, const J: usize> Jobs<P, J> {
         enqueue(&self.tasks, &mut self.ready, job);
     }
 
-    /// The oldest job of a task has ended, if there is one: it gives back all that it holds, resumes interrupts, and runs no
-    /// longer.
+    /// The oldest job of a task has ended, if there is one: it gives back all that it holds, resumes interrupts, and
+    /// runs no longer.
     pub fn end(&mut self, task: TaskRef)
         ensures { self.new ≡ jobs_by [] (Printed (Mark.Terminated task)) 0 self.old }
     {
@@ -126,7 +127,7 @@ impl<const P: usize, const J: usize> Jobs<P, J> {
         let job = live::take_oldest(&mut self.jobs, &mut self.counts, runner);
         dequeue(&self.tasks, &mut self.ready, &self.rows, job);
         self.rows.end(runner);
-        self.holders = if_holder(&self.rows, self.holders, runner);
+        self.holders = without_free(&self.rows, self.holders, runner);
     }
 
     /// An interrupt is accepted: a job of the ISR begins, and is pending (AUTOSAR SWS OS 4.x, section 7.6).
@@ -150,8 +151,8 @@ impl<const P: usize, const J: usize> Jobs<P, J> {
         entered::enter(&mut self.entered, isr);
     }
 
-    /// The oldest job of an ISR has ended, if there is one: it gives back all that it holds, resumes interrupts, and runs no
-    /// longer.
+    /// The oldest job of an ISR has ended, if there is one: it gives back all that it holds, resumes interrupts, and
+    /// runs no longer.
     pub fn end_isr(&mut self, isr: IsrRef)
         ensures { self.new ≡ jobs_by [] (Printed (Mark.IsrLeft isr)) 0 self.old }
     {
@@ -161,21 +162,22 @@ impl<const P: usize, const J: usize> Jobs<P, J> {
     }
 
     /// The oldest job of a runner suspends interrupts once more (OSEK/VDX OS 2.2.3, section 13.3.2.4).
-    pub fn lock_interrupts(&mut self, runner: Runner)
+    pub fn suspend_interrupts(&mut self, runner: Runner)
         ensures { self.new ≡ jobs_by [] (Noted (InterruptsSuspended runner)) 0 self.old }
     {
-        self.rows.lock_interrupts(runner);
+        self.rows.suspend_interrupts(runner);
     }
 
     /// The oldest job of a runner resumes interrupts once (OSEK/VDX OS 2.2.3, section 13.3.2.3).
-    pub fn unlock_interrupts(&mut self, runner: Runner)
+    pub fn resume_interrupts(&mut self, runner: Runner)
         ensures { self.new ≡ jobs_by [] (Noted (InterruptsResumed runner)) 0 self.old }
     {
-        self.rows.unlock_interrupts(runner);
+        self.rows.resume_interrupts(runner);
     }
 
-    /// A tick: the running job, if there is one, has used one more of its budget (AUTOSAR SWS OS 4.x, SWS_Os_00028), and of
-    /// the lock budget of each resource that it holds (the project's own). No script is read.
+    /// A tick: the running job, if there is one, has used one tick more of its budget (AUTOSAR SWS OS 4.x,
+    /// SWS_Os_00028). In the row of that job's task or ISR, one tick more is counted for the lock budget of each
+    /// resource, held or not (the project's own).
     pub fn tick(&mut self)
         requires count { (r : RunnerValue) → used_in r self.old.rows < 2 ^ 63 }
         requires locks { (r : RunnerValue) → All (λ ticks. ticks < 2 ^ 63) (lock_used_in r self.old.rows) }
@@ -221,8 +223,8 @@ impl<const P: usize, const J: usize> Jobs<P, J> {
             .put_events(Runner::Task(task), with_cleared(events, mask));
     }
 
-    /// A task waits for one of these events; once it is released, its job has its whole budget (OSEK/VDX OS 2.2.3, section
-    /// 13.5.3.4; AUTOSAR SWS OS 4.x, SWS_Os_00473).
+    /// A task waits for one of the events in `mask`. Once the task is released, its job has its whole budget (OSEK/VDX
+    /// OS 2.2.3, section 13.5.3.4; AUTOSAR SWS OS 4.x, SWS_Os_00473).
     pub fn wait(&mut self, task: TaskRef, mask: u32)
         requires own { is_own_task self.old.tasks (Runner.Task task) ≡ true }
         requires single { job_count (Runner.Task task) self.old.jobs ≤ 1 }
@@ -234,7 +236,7 @@ impl<const P: usize, const J: usize> Jobs<P, J> {
         self.rows.wait(runner, mask);
     }
 
-    /// A task is released from waiting: its oldest job gets a stamp greater than all that there are, behind all others
+    /// A task is released from waiting: its oldest job gets a stamp greater than all others, and a place behind them
     /// (OSEK/VDX OS 2.2.3, section 4.2.1 and 4.5).
     pub fn release(&mut self, task: TaskRef, stamp: u64)
         requires own { is_own_task self.old.tasks (Runner.Task task) ≡ true }
@@ -257,8 +259,8 @@ impl<const P: usize, const J: usize> Jobs<P, J> {
         enqueue(&self.tasks, &mut self.ready, stamped(job, stamp));
     }
 
-    /// A mark that begins and ends no job is printed, by which no task enters or leaves the running state, no ISR is entered
-    /// and no row changes.
+    /// A mark is printed that begins no job, ends none and changes no row. No task enters or leaves the running state,
+    /// and no ISR is entered. If the mark says that Schedule returned E_OK, the runner that called it gives way.
     pub fn print(&mut self, mark: &Mark)
         requires { IsTrue (is_plain mark.now) }
         ensures { self.new ≡ jobs_by [] (Printed mark.now) 0 self.old }
@@ -282,7 +284,7 @@ impl<const P: usize, const J: usize> Jobs<P, J> {
         ensures { self.new ≡ jobs_by [] (Noted (ResourceReleased runner _index)) 0 self.old }
     {
         self.rows.lower(runner);
-        self.holders = if_holder(&self.rows, self.holders, runner);
+        self.holders = without_free(&self.rows, self.holders, runner);
     }
 
     /// An operation of the oldest job of a runner is done, with this status and value; the script is the runner's.
@@ -299,8 +301,8 @@ impl<const P: usize, const J: usize> Jobs<P, J> {
         self.current
     }
 
-    /// The running job: that of the ISR that was entered last, or else the oldest live job of the task in the running state
-    /// (OSEK/VDX OS 2.2.3, section 4.2 and 6).
+    /// The running job: that of the ISR that was entered last, or else the oldest live job of the task in the running
+    /// state (OSEK/VDX OS 2.2.3, section 4.2 and 6).
     #[inline(always)]
     pub fn running(&self) -> Option<Job>
         ensures { result ≡ running_among self.now }
@@ -311,7 +313,7 @@ impl<const P: usize, const J: usize> Jobs<P, J> {
         }
     }
 
-    // The job of the ISR that was entered last.
+    // The oldest job of the ISR that was entered last.
     fn entered_job(&self) -> Option<Job>
         ensures { result ≡ oldest_entered self.now.isrs.entered self.now.isrs.live }
     {
@@ -323,8 +325,8 @@ impl<const P: usize, const J: usize> Jobs<P, J> {
         )
     }
 
-    /// How many jobs of this task are live. Nobody looks through the jobs: those of each of the core's tasks are counted, and no
-    /// other runner has any here.
+    /// How many live jobs the runner has, if it is one of the core's tasks; 0 for any other runner. This needs no
+    /// search: the number is kept for each task.
     pub fn count(&self, runner: Runner) -> usize
         ensures { result ≡ job_count runner self.now.jobs }
     {
@@ -334,7 +336,8 @@ impl<const P: usize, const J: usize> Jobs<P, J> {
         0
     }
 
-    /// Whether a job of this ISR is pending: more of its jobs are live than were entered (AUTOSAR SWS OS 4.x, section 7.6).
+    /// Whether a job of this ISR is pending: more of its jobs are live than were entered (AUTOSAR SWS OS 4.x, section
+    /// 7.6).
     pub fn is_pending(&self, isr: IsrRef) -> bool
         ensures { result ≡ is_pending_among isr self.now.isrs.entered self.now.isrs.live }
     {
@@ -343,9 +346,9 @@ impl<const P: usize, const J: usize> Jobs<P, J> {
         started < live
     }
 
-    /// The job to run: the running one, if it has suspended interrupts; else of the jobs of ISRs of greatest level the
-    /// oldest; else of the able jobs of tasks of greatest current priority the oldest (OSEK/VDX OS 2.2.3, section 4.4, 4.5, 6
-    /// and 13.3.2.4). The caller knows which job is running, and nobody looks for it twice.
+    /// The job to run: the running job, if it has suspended interrupts; else the oldest ISR job of the greatest level;
+    /// else, of the task jobs that may run, the oldest with the greatest current priority (OSEK/VDX OS 2.2.3, section
+    /// 4.4, 4.5, 6 and 13.3.2.4). The caller passes the running job, so that no second search for it is needed.
     pub fn dispatch(&mut self, core: &Core, running: Option<Job>) -> Option<Job>
         requires tasks { self.old.tasks ≡ own_tasks core.now }
         requires running { running ≡ running_among self.old }
@@ -355,7 +358,7 @@ impl<const P: usize, const J: usize> Jobs<P, J> {
         ensures own { IfSome result (λ j. IsTrue (is_own_runner core.now j.runner)) }
         ensures keeps { self.new ≡ self.old }
     {
-        if self.is_locked_by(running) {
+        if self.has_suspended(running) {
             return running;
         }
         match priorities::first_of_level(core, self.isr_jobs.as_slice()) {
@@ -364,17 +367,17 @@ impl<const P: usize, const J: usize> Jobs<P, J> {
         }
     }
 
-    // Whether this job, if there is one, has suspended interrupts.
-    fn is_locked_by(&self, job: Option<Job>) -> bool
-        ensures { result ≡ is_locked_in self.now.rows job }
+    // Whether there is a job, and it has suspended interrupts.
+    fn has_suspended(&self, job: Option<Job>) -> bool
+        ensures { result ≡ has_suspended_interrupts_in self.now.rows job }
     {
         match job {
-            Some(job) => self.rows.is_locked(job.runner),
+            Some(job) => self.rows.has_suspended_interrupts(job.runner),
             None => false,
         }
     }
 
-    // Of the able jobs of tasks those of greatest current priority, and of these the oldest.
+    // Of the task jobs that may run, the oldest with the greatest current priority.
     fn best_task(&self, core: &Core, current: Option<Job>) -> Option<Job>
         requires tasks { self.now.tasks ≡ own_tasks core.now }
         requires current { current ≡ current_among self.now }
@@ -395,21 +398,22 @@ impl<const P: usize, const J: usize> Jobs<P, J> {
     }
 
     /// Whether the oldest job of a runner has suspended interrupts (OSEK/VDX OS 2.2.3, section 13.3.2.4).
-    pub fn is_locked(&self, runner: Runner) -> bool
+    pub fn has_suspended_interrupts(&self, runner: Runner) -> bool
         ensures { result ≡ nat_lt 0 (depth_in runner self.now.rows) }
     {
-        self.rows.is_locked(runner)
+        self.rows.has_suspended_interrupts(runner)
     }
 
-    /// Whether the oldest job of a runner has reached this budget, of ticks (AUTOSAR SWS OS 4.x, SWS_Os_00064).
+    /// Whether the oldest job of a runner has reached this budget, in ticks; a budget of 0 is none (AUTOSAR SWS OS 4.x,
+    /// SWS_Os_00064).
     pub fn is_spent(&self, runner: Runner, budget: u32) -> bool
         ensures { result ≡ is_reached budget (used_in runner self.now.rows) }
     {
         self.rows.is_spent(runner, budget)
     }
 
-    /// Whether the oldest job of a runner has reached the lock budget of a resource that it holds, of ticks since it took that
-    /// (the project's own).
+    /// Whether the oldest job of a runner has reached the lock budget of a resource that it holds, in ticks since it
+    /// took the resource (the project's own).
     pub fn is_overheld(&self, core: &Core, runner: Runner) -> bool
         ensures { result ≡ is_overheld core.now (row_in runner self.now.rows) }
     {
@@ -424,7 +428,7 @@ impl<const P: usize, const J: usize> Jobs<P, J> {
         self.rows.is_occupied(index)
     }
 
-    /// Whether the resource of this index is the newest that the job of a runner holds.
+    /// Whether the resource of this index is the newest that the oldest job of a runner holds.
     pub fn is_newest(&self, runner: Runner, index: u8) -> bool
         ensures { result ≡ is_newest index (held_in runner self.now.rows) }
     {
@@ -434,7 +438,7 @@ impl<const P: usize, const J: usize> Jobs<P, J> {
         }
     }
 
-    /// Whether the job of a runner holds a resource.
+    /// Whether the oldest job of a runner holds a resource.
     pub fn holds_any(&self, runner: Runner) -> bool
         ensures { result ≡ holds_any (held_in runner self.now.rows) }
     {
@@ -448,7 +452,7 @@ impl<const P: usize, const J: usize> Jobs<P, J> {
         self.rows.events(runner)
     }
 
-    /// Where the oldest job of a runner stands, with the runner's variables.
+    /// Where in its script the oldest job of a runner is, with the runner's variables.
     pub fn frame(&self, runner: Runner) -> Frame
         ensures { result ≡ frame_in runner self.now.rows }
     {
@@ -463,7 +467,7 @@ impl<const P: usize, const J: usize> Jobs<P, J> {
     }
 }
 
-// Whether a service that returned so makes its caller give way (OSEK/VDX OS 2.2.3, section 13.2.3.4).
+// Whether a service that returned with this status makes its caller give way (OSEK/VDX OS 2.2.3, section 13.2.3.4).
 fn gives_way(service: ServiceId, status: Status) -> bool
     ensures { result ≡ gives_way service status }
 {
@@ -498,7 +502,7 @@ fn if_awake(rows: &Rows, job: Job) -> Option<Job>
     }
 }
 
-// The job with this stamp.
+// The job, with this stamp instead of its own.
 fn stamped(job: Option<Job>, stamp: u64) -> Option<Job>
     ensures { result ≡ option_map (λ (j : JobValue). record j { stamp = stamp }) job }
 {
@@ -506,7 +510,7 @@ fn stamped(job: Option<Job>, stamp: u64) -> Option<Job>
     Some(Job { stamp, ..job })
 }
 
-// A job, if there is one, waits for its turn behind all others of its task's priority.
+// Puts a job, if there is one, into the queue, behind all others of its task's priority.
 fn enqueue<const P: usize, const J: usize>(
     tasks: &OwnTasks,
     ready: &mut ReadyQueue<P, J>,
@@ -525,7 +529,7 @@ fn enqueue<const P: usize, const J: usize>(
     }
 }
 
-// A job, if there is one and its task does not wait, waits for its turn no longer.
+// Takes a job, if there is one and its task does not wait, out of the queue.
 fn dequeue<const P: usize, const J: usize>(
     tasks: &OwnTasks,
     ready: &mut ReadyQueue<P, J>,
@@ -553,7 +557,7 @@ fn ready_of(tasks: &OwnTasks, job: Job) -> Ready
     }
 }
 
-// The job that waits first for its turn.
+// The job that is first in the queue.
 fn look_first<const P: usize, const J: usize>(ready: &ReadyQueue<P, J>) -> Option<Ready>
     ensures best { IfSome result (λ x. IsBest x ready.now) }
     ensures none { IfNone result (ready.now ≡ []) }
@@ -562,7 +566,8 @@ fn look_first<const P: usize, const J: usize>(ready: &ReadyQueue<P, J>) -> Optio
     ready.best(&mut reads)
 }
 
-// The tasks that hold a resource, once this runner holds one, if it is a task.
+// The word `holders`, which has a bit for each task that holds a resource, with the bit of this runner set if it is a
+// task.
 fn with_holder(holders: u32, runner: Runner) -> u32
     ensures here { slot_of runner < TASKS → bit_at result (slot_of runner) ≡ 1 }
     ensures others { (k : ℕ) → bit_at holders k ≡ 1 → bit_at result k ≡ 1 }
@@ -575,8 +580,9 @@ fn with_holder(holders: u32, runner: Runner) -> u32
     }
 }
 
-// The tasks that hold a resource, without this runner, unless it holds one still.
-fn if_holder(rows: &Rows, holders: u32, runner: Runner) -> u32
+// The word `holders`, which has a bit for each task that holds a resource, without the bit of this runner if it is a
+// task and holds none.
+fn without_free(rows: &Rows, holders: u32, runner: Runner) -> u32
     requires { AreHolders rows.now holders }
     ensures { AreHolders rows.now result }
 {

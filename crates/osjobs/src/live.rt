@@ -1,4 +1,4 @@
-//! The list of the live jobs, and how many of it each task and ISR has.
+//! The list of the live jobs, and how many of them each task and ISR has.
 
 ghost use Rattle.std.specs.Prelude.{◌≡◌, ◌<◌, ◌≤◌, ◌++◌, ◌∷◌, [], length, remove, slice_get, None, IfSome, IfNone};
 ghost use Rattle.osbase.specs.History.{job_count, oldest, stamped_anew, without_oldest};
@@ -7,11 +7,11 @@ ghost use Rattle.osjobs.specs.Live.{AreCounted};
 use arrayvec::ArrayVec;
 use osbase::{Job, RUNNERS, Runner};
 
-/// How many live jobs there are of the task or ISR with each place: a runner's jobs are looked for from the newest end on,
-/// and no further than there are any.
+/// How many live jobs the task or ISR at each place has. A search for a runner's jobs begins with the newest job and
+/// ends once all are found.
 pub(crate) type Counts = [usize; RUNNERS];
 
-/// One job more, behind all others.
+/// Adds a job behind all others, and counts it for its task or ISR.
 pub(crate) fn push<const J: usize>(jobs: &mut ArrayVec<Job, J>, counts: &mut Counts, job: Job)
     requires room { length jobs.old.items < J }
     requires counted { AreCounted jobs.old.items counts.old }
@@ -49,7 +49,7 @@ pub(crate) fn take_oldest<const J: usize>(
     Some(job)
 }
 
-/// Gives the oldest job of this runner, if it has one, this stamp, and a place behind all others; and what it was before.
+/// Gives the oldest job of this runner, if it has one, this stamp and a place behind all others. Returns the old job.
 pub(crate) fn stamp_anew<const J: usize>(
     jobs: &mut ArrayVec<Job, J>,
     counts: &mut Counts,
@@ -97,7 +97,7 @@ fn most_of(jobs: &[Job], counts: &Counts, runner: Runner) -> usize
     }
 }
 
-// The place of the oldest job of this runner, of which there are so many at most.
+// The place of the oldest job of this runner, which has at most `most` jobs.
 #[inline(always)]
 fn oldest_place(jobs: &[Job], runner: Runner, most: usize) -> Option<usize>
     requires most { job_count runner jobs.now ≤ most }
@@ -120,7 +120,7 @@ fn oldest_place(jobs: &[Job], runner: Runner, most: usize) -> Option<usize>
     found
 }
 
-// How many jobs of this runner there are, which are so many at most.
+// How many jobs there are of this runner, which has at most `most` jobs.
 fn count_jobs(jobs: &[Job], runner: Runner, most: usize) -> usize
     requires most { job_count runner jobs.now ≤ most }
     ensures { result ≡ job_count runner jobs.now }

@@ -8,6 +8,7 @@ use osbase::Runner;
 use osplan::Core;
 use osrunner::Rows;
 
+// The lock budget of the core's resource of this index, in ticks; 0 is none.
 fn lock_of(core: &Core, index: u8) -> u32
     ensures { result ≡ lock_of core.now index }
 {
@@ -17,7 +18,8 @@ fn lock_of(core: &Core, index: u8) -> u32
     }
 }
 
-/// Whether the ticks of the runner's oldest job have reached the lock budget of a resource that it holds.
+/// Whether the runner's oldest job has reached the lock budget of a resource that it holds, in ticks since it took the
+/// resource.
 pub(crate) fn is_overheld(core: &Core, rows: &Rows, runner: Runner) -> bool
     ensures { result ≡ is_overheld core.now (row_in runner rows.now) }
 {

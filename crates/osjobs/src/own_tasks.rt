@@ -1,4 +1,4 @@
-//! What the live jobs know of a core's tasks.
+//! What is kept of a core's tasks for its live jobs.
 
 ghost use Rattle.std.specs.Prelude.{◌≡◌, ◌≤◌, length, map};
 ghost use Rattle.osplan.specs.declared.plans.Task.{Task as TaskValue};
@@ -35,27 +35,28 @@ impl OwnTasks {
         }
     }
 
-    /// Whether the runner is one of them.
+    /// Whether the runner is one of the core's tasks.
     pub(crate) fn has(&self, runner: Runner) -> bool
         ensures { result ≡ is_own_task self.now runner }
     {
         match runner {
-            Runner::Task(task) => self.find(task).is_some(),
+            Runner::Task(task) => self.priority_in(task).is_some(),
             Runner::Isr(_) => false,
         }
     }
 
-    /// The static priority of one of them; no other runner has any (OSEK/VDX OS 2.2.3, section 4.5).
+    /// The static priority of one of the core's tasks; 0 for any other runner (OSEK/VDX OS 2.2.3, section 4.5).
     pub(crate) fn priority(&self, runner: Runner) -> u8
         ensures { result ≡ priority_of self.now runner }
     {
         match runner {
-            Runner::Task(task) => self.find(task).unwrap_or(0),
+            Runner::Task(task) => self.priority_in(task).unwrap_or(0),
             Runner::Isr(_) => 0,
         }
     }
 
-    fn find(&self, task: TaskRef) -> Option<u8>
+    // The static priority of a task, if it is one of the core's.
+    fn priority_in(&self, task: TaskRef) -> Option<u8>
         ensures { result ≡ priority_in self.now task }
     {
         if task.core != self.core {
@@ -68,6 +69,7 @@ impl OwnTasks {
     }
 }
 
+// The static priority of each of the core's tasks, in index order.
 fn priorities_of(core: &Core) -> ArrayVec<u8, TASKS>
     requires { length core.now.tasks ≤ TASKS }
     ensures { result.items ≡ map (λ (t : TaskValue). t.priority) core.now.tasks }

@@ -18,6 +18,7 @@ use osqueue::words::{greatest, unmarked};
 use osres::greater;
 use osrunner::Rows;
 
+// Whether the runner is not one of the core's non-preemptable tasks.
 fn is_preemptable(core: &Core, runner: Runner) -> bool
     ensures { result ≡ is_preemptable core.now runner }
 {
@@ -52,15 +53,15 @@ fn is_giving_way(giving_way: Option<Runner>, runner: Runner) -> bool
     }
 }
 
-/// The running job, if it is raised: that of a task that cannot be preempted, unless it gives way.
+/// The current job, if it is raised: its task is not preemptable and does not give way.
 pub(crate) fn raised_of(
     core: &Core,
     giving_way: Option<Runner>,
-    running: Option<Job>,
+    current: Option<Job>,
 ) -> Option<Job>
-    ensures { result ≡ raised_of core.now giving_way running }
+    ensures { result ≡ raised_of core.now giving_way current }
 {
-    let job = running?;
+    let job = current?;
     if is_preemptable(core, job.runner) || is_giving_way(giving_way, job.runner) {
         return None;
     }
@@ -74,9 +75,9 @@ struct Ranked {
     priority: u8,
 }
 
-/// Of the jobs of greatest rank whose tasks do not wait the first, where these are the runners' rows, this job is raised, and this one
-/// is the first by the priorities that are configured (OSEK/VDX OS 2.2.3, section 4.4 and 4.5). Nobody else can be the best but the
-/// raised one and the oldest jobs of tasks that hold resources.
+/// The first of the jobs of greatest rank whose tasks do not wait. Here `raised` is the raised job, and `first` the
+/// first job by the configured priorities (OSEK/VDX OS 2.2.3, section 4.4 and 4.5). Besides `first`, only the raised
+/// job and the oldest jobs of tasks that hold resources can be the best.
 pub(crate) fn best_of(
     core: &Core,
     rows: &Rows,
@@ -106,8 +107,8 @@ pub(crate) fn best_of(
     Some(best.job)
 }
 
-// The best of this one, which is the best of the front of the queue and the raised job, and of the oldest jobs of tasks that
-// hold resources.
+// The best of `best` and of the oldest jobs of tasks that hold resources;
+// `best` is the best of the front of the queue and the raised job.
 fn best_holder(
     core: &Core,
     rows: &Rows,
@@ -139,7 +140,7 @@ fn best_holder(
     best
 }
 
-// The better of the best so far and one more job, if there is one and its task does not wait.
+// The better of `best` and `job`. If there is no `job`, or its task waits, it is `best`.
 fn consider(core: &Core, rows: &Rows, raised: Option<Job>, job: Option<Job>, best: Ranked) -> Ranked
     requires own { IfSome job (λ j. is_own_task (own_tasks core.now) j.runner ≡ true) }
     requires ranked { best.priority ≡ rank_by core.now rows.now raised best.job }
@@ -169,7 +170,8 @@ pub(crate) fn is_awake(rows: &Rows, job: Job) -> bool
     !rows.is_waiting(job.runner)
 }
 
-// The rank of a job, where these are the runners' rows and this job is raised.
+// The rank of a job: the greatest of its task's priority and of the ceilings of what the task's oldest job holds. For
+// the raised job, the priorities of all tasks count too.
 #[inline(always)]
 fn rank_of(core: &Core, rows: &Rows, raised: Option<Job>, job: Job) -> u8
     requires { IsTrue (is_own_runner core.now job.runner) }
@@ -184,7 +186,7 @@ fn rank_of(core: &Core, rows: &Rows, raised: Option<Job>, job: Job) -> u8
     }
 }
 
-// The greatest static priority of these tasks.
+// The greatest static priority of these tasks; 0 if there are none.
 fn highest_of(tasks: &[Task]) -> u8
     ensures { result ≡ highest_of tasks.now }
 {
@@ -197,7 +199,7 @@ fn highest_of(tasks: &[Task]) -> u8
     highest
 }
 
-/// The priority of one of the core's tasks as it is configured; an ISR has none.
+/// The static priority of one of the core's tasks; 0 for an ISR.
 pub fn static_priority(core: &Core, runner: Runner) -> u8
     requires { IsTrue (is_own_runner core.now runner) }
     ensures { result ≡ static_priority core.now runner }
@@ -216,6 +218,7 @@ fn task_priority(core: &Core, task: TaskRef) -> u8
     own.priority
 }
 
+// The level of one of the core's ISRs; 0 for any other runner.
 fn level_of(core: &Core, runner: Runner) -> u8
     ensures { result ≡ level_of core.now runner }
 {
@@ -228,7 +231,7 @@ fn level_of(core: &Core, runner: Runner) -> u8
     }
 }
 
-/// Of the jobs of greatest level the first (AUTOSAR SWS OS 4.x, section 7.6).
+/// The first of the jobs of greatest level (AUTOSAR SWS OS 4.x, section 7.6).
 pub(crate) fn first_of_level(core: &Core, jobs: &[Job]) -> Option<Job>
     requires own { All (λ j. IsTrue (is_own_runner core.now j.runner)) jobs.now }
     ensures greatest { result ≡ greatest_job (level_by core.now) jobs.now }
@@ -243,7 +246,8 @@ pub(crate) fn first_of_level(core: &Core, jobs: &[Job]) -> Option<Job>
     best
 }
 
-// The better of a job and the best of those behind it: of two of equal level the first.
+// The one of greater level of `job` and `best`, which is the best of the jobs behind `job`. If their levels are equal,
+// it is `job`.
 fn higher_of(core: &Core, job: Job, best: Option<Job>) -> Job
     ensures { result ≡ better_job (level_by core.now) job best }
 {

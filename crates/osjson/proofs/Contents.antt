@@ -9,7 +9,7 @@ pub elements-items_of : (ds : List Data) → elements (items_of ds) ≡ ds
 elements-items_of [] = refl
 elements-items_of (d ∷ ds) = rw (elements-items_of ds) refl
 
--- an entry as the data that it stands for
+-- an entry as its name and the data of its value
 abbrev pub entry_view : String Global × Value → List ℕ × Data
 entry_view e = (string_bytes e.0, view e.1)
 

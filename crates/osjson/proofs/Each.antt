@@ -9,7 +9,7 @@ with_front front read = option_map (λ ys. front ++ ys) read
 pub with_front-nil : {Y : Type 0} (read : Option (List Y)) → with_front [] read ≡ read
 with_front-nil read = grind arith
 
--- what is left of a list at an element
+-- what is left of a list from an element on begins with that element
 pub drop-here : {X : Type 0} (xs : List X) (i : ℕ) (x : X) → i < length xs → x ≡ get_or xs i x → drop i xs ≡ x ∷ drop (i + 1) xs
 drop-here xs i x lt is = drop_more xs i x lt ∙ ap (λ w. w ∷ drop (i + 1) xs) (sym is)
 
@@ -17,7 +17,7 @@ module _ {X Y : Type 0} (f : X → Option Y) (front : List Y) {x : X} {rest whol
   pub each-more : (y : Y) → f x ≡ Some y → with_front front (each f whole) ≡ total → with_front (front ++ y ∷ []) (each f rest) ≡ total
   each-more y e so_far = grind (arith, append_assoc)
 
-  -- a step that was refused, where the element has no reading
+  -- if the reading of an element is refused, so is the reading of the whole list
   pub each-stop : (refusal : Refusal) → Refuses refusal (f x) → with_front front (each f whole) ≡ total → Refuses refusal total
   each-stop OutOfMemory refused so_far = tt
   each-stop Unfit refused so_far = grind arith
@@ -25,7 +25,7 @@ module _ {X Y : Type 0} (f : X → Option Y) (front : List Y) {x : X} {rest whol
 pub each-end : {X Y : Type 0} (f : X → Option Y) {whole : List X} {front : List Y} {total : Option (List Y)} → whole ≡ [] → with_front front (each f whole) ≡ total → total ≡ Some front
 each-end f is so_far = grind (arith, append-nil)
 
--- reading what a list's elements stand for
+-- reading a mapped list: each element is mapped, and then read
 pub each-map : {V X Y : Type 0} (f : X → Option Y) (g : V → X) (vs : List V) → each f (map g vs) ≡ each (λ v. f (g v)) vs
 each-map f g [] = refl
 each-map f g (v ∷ vs) = rw (each-map f g vs) refl

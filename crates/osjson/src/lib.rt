@@ -1,9 +1,9 @@
-//! Reading JSON values by one loop: a reader for each kind of value, and the lists and members of whatever
-//! readers there are.
+//! Reading JSON values by one loop: a reader for each kind of value, and, for any reader, lists and members
+//! that it reads.
 //!
-//! A reader's `shape` defines what a value is read as, or that it is not read. So an object of a kind is a
-//! chain of its members, in code as in its definition. A failed allocation is never taken for a value that is
-//! not in form.
+//! A reader's `shape` defines what a value is read as, or that it is not read. An object is read member by
+//! member, in the code as in its definition. A failed allocation is never taken for a value that is
+//! not well-formed.
 #![tactic(auto)]
 
 mod loops;

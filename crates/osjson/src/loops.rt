@@ -13,17 +13,18 @@ pub trait Reader<'e, T, U> {
     /// What an element is read as.
     ghost shape: { Self → T → Option U };
 
-    /// A test that whatever is read passes.
+    /// A test. Every element that is read passes it.
     ghost passes: { Self → U → Bool };
 
-    /// The element as its shape has it. `Unfit` where it has none; `OutOfMemory` where memory runs out.
+    /// What the element is read as. `Unfit` where it does not have the reader's shape; `OutOfMemory` where memory runs
+    /// out.
     fn read(&self, alloc: Global, element: &'e T) -> Result<U, Refusal>
         ensures shape { Gives (λ x. x) result (shape self.now element.now) }
         ensures passes { IfOk result (λ x. IsTrue (passes self.now x)) };
 }
 
-/// Each element as the reader reads it. `Unfit` where one of them has no shape; `OutOfMemory` where memory
-/// runs out.
+/// Each element as the reader reads it. `Unfit` where one of them does not have the reader's shape; `OutOfMemory` where
+/// memory runs out.
 pub fn read_each<'e, T, U: Drop, R: Reader<'e, T, U>>(
     alloc: Global,
     reader: &R,

@@ -11,8 +11,8 @@ use crate::values::JsonReader;
 use serde_json::{Map, Value};
 use std::alloc::Global;
 
-/// What the reader reads of the member with this key. `Unfit` where the value is no object, where it has no such member,
-/// or where the member's value has not the reader's shape.
+/// What the reader reads of the member with this key. `Unfit` where the value is no object, where it has no such
+/// member, or where the member does not have the reader's shape. `OutOfMemory` where memory runs out.
 pub fn at<'v, U, R: JsonReader<'v, U>>(
     alloc: Global,
     value: &'v Value,
@@ -28,7 +28,8 @@ pub fn at<'v, U, R: JsonReader<'v, U>>(
     }
 }
 
-/// The member, or its default. `Unfit` where the member is there, and its value has no shape.
+/// What the reader reads of the member with this key. The default if there is no such member, or the value is no
+/// object. `Unfit` where the member does not have the reader's shape; `OutOfMemory` where memory runs out.
 pub fn at_or<'v, U: Drop, R: JsonReader<'v, U>>(
     alloc: Global,
     value: &'v Value,
@@ -52,12 +53,14 @@ fn is_one_of(names: &[&str], key: &str) -> bool
     names.contains(&key)
 }
 
+// Whether each member has one of these names.
 fn are_among(names: &[&str], members: &Map<String, Value>) -> bool
     ensures { result ≡ list_all (λ (key : String Global). is_one_of (texts_of names.now) (string_bytes key)) (keys members.now) }
 {
     members.keys().all(|key| is_one_of(names, key.as_str()))
 }
 
+// Whether the value is an object all of whose members have one of these names.
 fn is_object_of(names: &[&str], value: &Value) -> bool
     ensures { result ≡ is_object_of (is_one_of (texts_of names.now)) (view value.now) }
 {
@@ -67,7 +70,7 @@ fn is_object_of(names: &[&str], value: &Value) -> bool
     }
 }
 
-/// Nothing, where the value is an object that has members of these names alone. `Unfit` where it is not.
+/// `Ok` where the value is an object all of whose members have one of these names; else `Unfit`.
 pub fn only_members(value: &Value, names: &[&str]) -> Result<(), Refusal>
     ensures { Gives (λ x. x) result (only_members (texts_of names.now) (view value.now)) }
 {

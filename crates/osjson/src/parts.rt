@@ -14,12 +14,12 @@ pub trait PartReader<U> {
     /// What a part is read as.
     ghost shape: { Self → List ℕ → Option U };
 
-    /// The part as its shape has it; None where it has none.
+    /// What the part is read as; `None` where it does not have the reader's shape.
     fn read(&self, part: &str) -> Option<U>
         ensures { result ≡ shape self.now part.now };
 }
 
-// The first part of a text, and what stands behind the separator at its end.
+// The first part of a text, and the text behind the first separator, if there is a separator.
 #[inline(always)]
 fn first_part(text: &str, separator: u8) -> (&str, Option<&str>)
     requires { separator < 128 }
@@ -31,9 +31,8 @@ fn first_part(text: &str, separator: u8) -> (&str, Option<&str>)
     }
 }
 
-/// Each part of a text between separators as the reader reads it, where there are at most so many. The empty
-/// text has no part. `Unfit` where there are more, or one of them has no shape; `OutOfMemory` where memory runs
-/// out.
+/// Each part of a text between separators, as the reader reads it. The empty text has no part. `Unfit` where there are
+/// more than `most` parts, or one of them does not have the reader's shape. `OutOfMemory` where memory runs out.
 pub fn read_parts<U: Drop, R: PartReader<U>>(
     alloc: Global,
     reader: &R,

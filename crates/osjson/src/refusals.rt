@@ -9,7 +9,7 @@ use std::alloc::{AllocError, AllocFailed};
 #[derive(Clone, Copy, Debug, PartialEq, Eq)]
 pub enum Refusal {
     OutOfMemory,
-    /// The part is missing, unknown, of another type or not in form.
+    /// The part is missing, unknown, of another type or not well-formed.
     Unfit,
 }
 

@@ -8,7 +8,7 @@ use crate::refusals::Refusal;
 use serde_json::Value;
 use std::alloc::Global;
 
-/// The JSON value of a text. `Unfit` exactly where it has none, unless memory runs out.
+/// The JSON value of a text. `Unfit` where the text is not JSON; `OutOfMemory` where memory runs out.
 pub fn value_of(alloc: Global, text: &str) -> Result<Value, Refusal>
     ensures { Gives view result (read text.now) }
 {

@@ -1,4 +1,4 @@
-//! Readers of JSON values: whole numbers, names, texts, and lists of whatever is read, or null in its place.
+//! Readers of JSON values: whole numbers, truth values, names and texts, and, for any reader, lists of values or null.
 
 ghost use Rattle.std.specs.Prelude.{◌≡◌, Bool, true, IfOk, IsTrue, Option, map};
 ghost use Rattle.std.specs.{List.list_all, Option.option_map_or};
@@ -14,15 +14,16 @@ use serde_json::Value;
 use std::alloc::Global;
 use std::marker::Model;
 
-/// Reads one value, which what is read may borrow.
+/// Reads one value; what is read may borrow from it.
 pub trait JsonReader<'v, U> {
     /// What a value is read as.
     ghost shape: { Self → Data → Option U };
 
-    /// A test that whatever is read passes.
+    /// A test. Every value that is read passes it.
     ghost passes: { Self → U → Bool };
 
-    /// The value as its shape has it. `Unfit` where it has none; `OutOfMemory` where memory runs out.
+    /// What the value is read as. `Unfit` where it does not have the reader's shape; `OutOfMemory` where memory runs
+    /// out.
     fn read(&self, alloc: Global, value: &'v Value) -> Result<U, Refusal>
         ensures shape { Gives (λ x. x) result (shape self.now (view value.now)) }
         ensures passes { IfOk result (λ x. IsTrue (passes self.now x)) };
@@ -127,6 +128,7 @@ impl<'v> JsonReader<'v, Text<'v>> for NameReader {
     }
 }
 
+// The text, if it has the form of a name; else `Unfit`.
 fn name_in(text: &str) -> Result<Text<'_>, Refusal>
     ensures shape { Gives (λ x. x) result (if_name text.now) }
     ensures passes { IfOk result (λ name. IsTrue (is_name name)) }
@@ -138,7 +140,7 @@ fn name_in(text: &str) -> Result<Text<'_>, Refusal>
     }
 }
 
-/// Reads null, or such a value.
+/// Reads null, or a value as the reader `of` does.
 #[derive(Clone, Copy)]
 pub struct OrNull<R> {
     pub of: R,
@@ -157,7 +159,7 @@ impl<'v, U: Drop, R: JsonReader<'v, U>> JsonReader<'v, Option<U>> for OrNull<R> 
     }
 }
 
-/// Reads a list of such values.
+/// Reads a list of values, each as the reader `of` does.
 #[derive(Clone, Copy)]
 pub struct ListOf<R> {
     pub of: R,
@@ -176,6 +178,7 @@ impl<'v, U: Drop, R: JsonReader<'v, U>> JsonReader<'v, List<U>> for ListOf<R> {
     }
 }
 
+// Each of these values as the reader reads it.
 fn read_values<'v, U: Drop, R: JsonReader<'v, U>>(
     alloc: Global,
     reader: &R,

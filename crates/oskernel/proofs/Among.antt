@@ -1,5 +1,5 @@
--- A core's history alone, and the same where it was started by another core and passed the second gate with
--- others: it reads the same, with each stamp later by what came before.
+-- A core's history alone, and the same history where another core started it and it passed the second gate with
+-- others. Both read the same, but each stamp in the second is later by what came before.
 use Rattle.std.proofs.Common.{◌≡◌, ◌&&◌, ◌||◌, ℕ, suc, ◌+◌, nat_eq, nat_lt, Bool, true, false, not, cond, Option, Some, None, option_map, List, [], ◌∷◌, length, map, refl, ap, ◌∙◌, arith}
 use Rattle.std.specs.{List.filter, Option.option_map_or, Option.option_or}
 use Rattle.std.proofs.{lemmas.Bool.Decides.nat_tests, lemmas.List.map-append}
@@ -9,11 +9,11 @@ use Rattle.osbase.specs.Interrupts.{entered_after, entered_isrs, isr_count, isr_
 use Rattle.oscript.specs.{declared.Op.Op, Runners.Row, Runners.row_after, Runners.row_of}
 use Rattle.osplan.specs.{declared.plans.Core.Core, View.View}
 use Rattle.osrunner.specs.Rows.{events_in, held_in}
-use Rattle.osjobs.specs.Jobs.{is_locked_in}
+use Rattle.osjobs.specs.Jobs.{has_suspended_interrupts_in}
 use Rattle.osjobs.specs.Priorities.{highest_of, is_able_in, is_oldest, is_preemptable, level_by, priority_by, raised_of, static_priority}
 use Rattle.osstate.specs.Readings.{best_job, best_task, current_priority, is_able, is_pending, rows_of, runner_at, running, script_of}
 
--- The set at the second gate in place of the core's own one.
+-- The entry. If it is the second gate's, it has this set in place of the core's own.
 abbrev pub with_set : CoreSet → Entry → Entry
 with_set s (Took (Item.Pass2 cores)) = Took (Item.Pass2 s)
 with_set s e = e
@@ -22,7 +22,7 @@ abbrev pub among : CoreSet → History → History → History
 among s base [] = base
 among s base (e ∷ k) = with_set s e ∷ among s base k
 
--- What is before: nothing at the master, and that it was started at another core.
+-- What comes before the history: nothing at the master, and at another core that it was started.
 abbrev pub base_of : Bool → History
 base_of true = []
 base_of false = Took Item.On ∷ []
@@ -100,8 +100,8 @@ later-priority : (d : ℕ) (core : Core) (js : List Job) (rows : List Row) (rais
 later-priority d core js rows raised j =
     λ i. greater (greater (static_priority core j.runner) (greatest_ceiling (cond (later-eldest d js j i) (held_in j.runner rows) []))) (cond (later-same d j raised i) (highest_of core.tasks) 0)
 
--- Whether the running job has suspended interrupts is the same, and so the choice of the best one.
-later-locked : (d : ℕ) (rows : List Row) (o : Option Job) → is_locked_in rows (option_map (later d) o) ≡ is_locked_in rows o
+-- Whether the running job has suspended interrupts is the same, and so is the choice of the best one.
+later-locked : (d : ℕ) (rows : List Row) (o : Option Job) → has_suspended_interrupts_in rows (option_map (later d) o) ≡ has_suspended_interrupts_in rows o
 later-locked d rows None = refl
 later-locked d rows (Some j) = refl
 
@@ -147,7 +147,7 @@ module _ (s : CoreSet) (m : Bool) where
   pub open-same : (k : History) → open_call (world k) ≡ open_call k
   open-same = reads-same s m open_call (λ e k p. ap (open_after e) p) (λ a b h. refl) refl
 
-  -- Which spinlocks the core got hangs on the call that was open.
+  -- Which spinlocks the core got depends on the call that was open.
   pub got-same : (k : History) → got_spinlocks (world k) ≡ got_spinlocks k
   got-same = reads-same s m got_spinlocks (λ e k p. λ i. spins_after e (open-same k i) (p i)) (λ a b h. refl) refl
 
@@ -178,7 +178,7 @@ module _ (s : CoreSet) (m : Bool) where
   pub rows-same : (v : View) (k : History) → rows_of v.own (world k) ≡ rows_of v.own k
   rows-same v k = λ i. map (λ (n : ℕ). row-same (script_of v.own (runner_at v.own n)) (runner_at v.own n) v k i) (numbers_from 0 RUNNERS)
 
-  -- A job is able whatever its stamp is.
+  -- Whether a job is able does not depend on its stamp.
   able-later : (v : View) (k : History) → filter (is_able v (world k)) (live_jobs (world k)) ≡ map (later (delay m)) (filter (is_able v k) (live_jobs k))
   able-later v k =
       ap (filter (is_able v (world k))) (jobs-later s m k) ∙ later-filter (delay m) (is_able v (world k)) (live_jobs k)
@@ -203,10 +203,10 @@ module _ (s : CoreSet) (m : Bool) where
   pub best-later : (v : View) (k : History) → best_job v (world k) ≡ option_map (later (delay m)) (best_job v k)
   best-later v k =
       (λ i. cond (locked i) (running-later v k i) (option_or (isr i) (best_task-later v k i)))
-      ∙ later-choice (delay m) (is_locked_in (rows_of v.own k) (running v k)) (running v k) (first_greatest (level_by v.own) (isr_jobs k)) (best_task v k)
+      ∙ later-choice (delay m) (has_suspended_interrupts_in (rows_of v.own k) (running v k)) (running v k) (first_greatest (level_by v.own) (isr_jobs k)) (best_task v k)
     where
-      locked : is_locked_in (rows_of v.own (world k)) (running v (world k)) ≡ is_locked_in (rows_of v.own k) (running v k)
-      locked = (λ i. is_locked_in (rows-same v k i) (running-later v k i)) ∙ later-locked (delay m) (rows_of v.own k) (running v k)
+      locked : has_suspended_interrupts_in (rows_of v.own (world k)) (running v (world k)) ≡ has_suspended_interrupts_in (rows_of v.own k) (running v k)
+      locked = (λ i. has_suspended_interrupts_in (rows-same v k i) (running-later v k i)) ∙ later-locked (delay m) (rows_of v.own k) (running v k)
 
       isr : first_greatest (level_by v.own) (isr_jobs (world k)) ≡ option_map (later (delay m)) (first_greatest (level_by v.own) (isr_jobs k))
       isr = ap (first_greatest (level_by v.own)) (isrs-later s m k) ∙ later-greatest (delay m) (level_by v.own) (isr_jobs k)

@@ -1,4 +1,5 @@
--- A core whose scripts and alarms name no other core's objects, and that takes no mail, keeps no call open and posts nothing.
+-- A core whose scripts and alarms name no other core's objects, and that takes no mail, keeps no call open and posts
+-- nothing.
 use native.Mathlib.Omega.{arith}
 use Rattle.std.proofs.Common.{Bool, ◌≡◌, true, false, None, [], ◌∷◌, refl}
 use Rattle.osbase.specs.{declared.references.CoreId.CoreId, declared.items.Item.Item, Spins.got_spinlocks}

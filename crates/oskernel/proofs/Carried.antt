@@ -1,4 +1,4 @@
--- What a core does at an item it does to every history that reads the same.
+-- At an item, a core does the same to every history that reads the same.
 use native.Mathlib.Omega.{arith}
 use Rattle.std.proofs.Common.{◌≡◌, ◌&&◌, ◌||◌, ℕ, ℤ, not, Bool, true, false, cond, Option, Some, None, option_and_then, List, [], ◌∷◌, refl, subst, sym, ◌∙◌}
 use Rattle.std.specs.{List.list_all, List.slice_get, Option.option_map_or}
@@ -24,21 +24,22 @@ use Rattle.ostick.specs.Faults.{answers_fault, fault_of, faults_with, protects}
 use Rattle.osawait.specs.Free.{may_dispatch}
 use Rattle.oskernel.specs.Step.{after, closes, dispatched, effect, enters, goes_to, performs, resumes_with, service_awaiting, success_value}
 
--- A request comes from a core that may be answered; and the call that it brings, an action and an interrupt are for an object that
--- marks may name.
+-- A request comes from a core that may be answered; and the call that it brings, an action and an interrupt are for an
+-- object that marks may name.
 abbrev pub is_replied : (CoreId → Bool) → (CoreId → Bool) → Item → Bool
 is_replied replies names (Item.Received from number (Message.Request call)) = replies from && names (core_of_call call)
 is_replied replies names (Item.Received from number (Message.Action call)) = names (core_of_call call)
 is_replied replies names (Item.Stim (Stimulus.Irq isr)) = names isr.core
 is_replied replies names item = true
 
--- Each operation of the core's scripts names the own core, or one that may be asked, if it names one, and asks for a spinlock, for what
--- all cores share, or for their shutdown, only if it may; and each alarm and each schedule table acts on one of these cores.
+-- If an operation of the core's scripts names a core, this is the own core or one that may be asked. It asks for a
+-- spinlock, for what all cores share, or for their shutdown, only if it may. Each alarm and each schedule table acts on
+-- one of these cores.
 pub record NamesAllow (v : View) (may : Partner → Bool) : Type 0 where
   pub scripts : (r : Runner) (n : ℕ) (op : Op) → slice_get (script_of v.own r) n ≡ Some op → IsAllowed v may op
   pub actions : ActionsAllow v may
 
--- Where every core may be asked, and every spinlock asked for, nothing is demanded of the objects that are named.
+-- If every core may be asked, and every spinlock may be asked for, nothing is required of the objects that are named.
 pub allow-cores : (v : View) (may : Partner → Bool) → ((core : CoreId) → may (Partner.Core core) ≡ true) → ((l : SpinlockId) → may (Partner.Spinlock l) ≡ true)
     → ((r : Runner) (n : ℕ) (op : Op) → slice_get (script_of v.own r) n ≡ Some op → asks_shared op ≡ true → may Partner.Shared ≡ true)
     → ((r : Runner) (n : ℕ) (op : Op) → slice_get (script_of v.own r) n ≡ Some op → halts_all op ≡ true → may Partner.Halt ≡ true)
@@ -52,7 +53,7 @@ allow-cores v may each_core each_lock shared halt = record {
     each [] core_of = refl
     each (x ∷ xs) core_of = and_from _ _ (or_right _ _ (each_core (core_of x))) (each xs core_of)
 
--- Where all may be asked and answered, nothing is demanded.
+-- If all may be asked and answered, nothing is required.
 pub allow-anybody : (v : View) → NamesAllow v anybody
 allow-anybody v = allow-cores v anybody (λ core. refl) (λ l. refl) (λ r n op e asks. refl) (λ r n op e halts. refl)
 
@@ -61,24 +62,24 @@ replied-anybody item = grind arith
 
 -- ---- who acts
 
--- Whatever is there passes the test.
+-- The value, if there is one, passes the test.
 abbrev pub passes : {A : Type 0} → Option A → (A → Bool) → Bool
 passes o test = option_map_or test o true
 
--- The runner that dispatch goes to, if any: the best job's, unless that one runs.
+-- The runner that dispatch switches to, if any: the best job's, unless that job runs.
 abbrev pub next_job : Option Job → Option Job → Option Runner
 next_job best runs = option_and_then (λ (j : Job). cond (option_map_or (same_job j) runs false) None (Some j.runner)) best
 
 abbrev pub next_of : View → History → Option Runner
 next_of v h = cond (may_dispatch (state_of v h)) (next_job (best_job v h) (running v h)) None
 
--- What a core reads is its own; and marks may name the task that it leaves, and the runner that it goes to.
+-- What a core reads is its own; and marks may name the task that it leaves, and the runner that it switches to.
 pub record NamesActing (l : Leave) (h : History) : Type 0 where
   pub seen : IsSeen l (seen_of l.view h)
   pub current : passes (current_task h) (λ t. l.names t.core) ≡ true
   pub next : passes (next_of l.view h) (λ r. l.names (core_of_runner r)) ≡ true
 
--- Where marks may name whatever there is, so it is.
+-- What a core may do if its marks may name any object.
 abbrev pub leave_all : View → (Partner → Bool) → (CoreId → Bool) → Leave
 leave_all v may answered = record { view = v; may = may; answered = answered; names = anybody; named = λ core within. refl; own_named = refl }
 
@@ -88,7 +89,7 @@ acting-anybody v may answered h = record { seen = record { id = refl; core = ref
     always : {A : Type 0} (o : Option A) → passes o (λ x. true) ≡ true
     always o = grind arith
 
--- Dispatch by what is read: the task that a core leaves, and the runner that it goes to.
+-- Dispatch by what is read: the task that a core leaves, and the runner that it switches to.
 abbrev goes : View → Option TaskRef → Option Runner → History → History
 goes v current next h = option_map_or (λ (r : Runner). does (enters current r) v h) next h
 
@@ -188,7 +189,7 @@ module _ (l : Leave) (allowed : NamesAllow l.view l.may) where
         rw (dispatched-is l.view h, dispatched-is (seen_as l.view around) k)
         (subst (R (goes l.view (current_task h) (next_of l.view h) h)) (λ i. goes (seen_as l.view around) (same.0 i) (same.1 i) k) (goes-carried (current_task h) (next_of l.view h) h k acts.current acts.next p))
 
-    -- Two items that are taken, with the same effect.
+    -- Two items with the same effect are taken.
     pub after-carried : (h k : History) (item item' : Item) → is_replied l.answered l.names item ≡ true → effect item ≡ effect item' → R (Took item ∷ h) (Took item' ∷ k) → R (after l.view h item) (after (seen_as l.view around) k item')
     after-carried h k item item' m same p =
         dispatch-carried (does (effect item) l.view (Took item ∷ h)) (does (effect item') (seen_as l.view around) (Took item' ∷ k))

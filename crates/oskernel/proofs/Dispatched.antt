@@ -1,4 +1,4 @@
--- What a step's functions say of the state they say of every history: what follows from an item, and dispatch.
+-- What a step's functions do to the state they do to every history: what follows from an item, and dispatch.
 use Rattle.std.proofs.Common.{◌≡◌, ℕ, ◌+◌, Bool, true, false, Option, Some, None, List, ◌∷◌, ◌++◌, refl, ap, sym, subst, ◌∙◌, append_assoc, Vec, Global, arith}
 use Rattle.std.specs.Option.{option_map_or}
 use Rattle.std.proofs.lemmas.Bool.{cond_both}
@@ -13,7 +13,7 @@ use Rattle.oskernel.specs.Step.{dispatched, dispatches, enters, goes_to}
 
 -- ---- dispatch
 
--- It prints lines alone.
+-- Dispatch only prints lines.
 pub dispatch-permitted : (s q : KernelState) → are_permitted (dispatches s) q ≡ true
 dispatch-permitted s q = cond_both (may_dispatch s) (are_permitted (goes_to s (best_in s)) q) true (λ (b : Bool). b ≡ true) (λ goes. gone (best_in s)) (λ waits. refl)
   where
@@ -40,7 +40,7 @@ took {v} {h} item within t = record {
   shows = t.shows;
 }
 
--- What was done by these acts was done to every history for which the state stands.
+-- These acts do to every history of the state what they do to the state.
 pub tracked : {v : View} {h : History} {earlier base : List Mark} {most marks : ℕ} {s s' : KernelState} {vec vec' : Vec Mark Global} (x : Acts) → are_clocks_within s.view.own ≡ true → are_permitted x s ≡ true
     → Steps most marks x s s' vec vec' → Tracks v h earlier base s vec.items → Tracks v (does x v h) earlier base s' vec'.items
 tracked {v} {h} {earlier} {base} {s = s} x within permitted steps t = record {
@@ -50,13 +50,13 @@ tracked {v} {h} {earlier} {base} {s = s} x within permitted steps t = record {
   shows = sym (append_assoc earlier t.added (says x s)) ∙ ap (λ (ms : List Mark). ms ++ says x s) t.shows ∙ sym (lines-after x within permitted t.stands);
 }
 
--- Dispatch was dispatch of every such history.
+-- Dispatch does to every history of the state what it does to the state.
 pub dispatch-tracked : {v : View} {h : History} {earlier base : List Mark} {most marks : ℕ} {s s' : KernelState} {vec vec' : Vec Mark Global} → are_clocks_within s.view.own ≡ true
     → Steps most marks (dispatches s) s s' vec vec' → Tracks v h earlier base s vec.items → Tracks v (dispatched v h) earlier base s' vec'.items
 dispatch-tracked {v} {h} {earlier} {base} {s = s} {s' = s'} {vec' = vec'} within steps t =
     subst (λ (k : History). Tracks v k earlier base s' vec'.items) (ap (λ (q : KernelState). does (dispatches q) v h) t.stands.is) (tracked (dispatches s) within (dispatch-permitted s s) steps t)
 
--- What acts do after an item counts no other item.
+-- The acts after an item count no other item.
 pub counted : {most marks most' marks' : ℕ} (s : KernelState) {s' s'' : KernelState} {vec vec' vec'' : Vec Mark Global} (item : Item) (x y : Acts) → Steps most marks x (state_after (Took item) s) s' vec vec' → Steps most' marks' y s' s'' vec' vec'' → s''.progress.items ≡ s.progress.items + 1
 counted s {s' = s'} item x y first second =
     let items : KernelState → ℕ = λ q. q.progress.items in

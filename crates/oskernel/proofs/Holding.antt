@@ -1,4 +1,4 @@
--- What the entries that a core may add keep holds after an item as it did with it.
+-- If each entry that a core may add keeps a property, it holds after an item if it holds when the item is taken.
 use Rattle.std.proofs.Common.{◌≡◌, Bool, true, ◌∷◌, refl, ap, sym, subst, ℤ, Option, ◌∙◌}
 use Rattle.std.proofs.lemmas.Bool.{false≢true}
 use Rattle.osbase.specs.{declared.statuses.Status.Status, declared.references.CoreId.CoreId, declared.messages.Message.Message, declared.items.Item.Item, declared.marks.Mark.Mark, declared.histories.OpenCall.OpenCall, Answers.reply, Marks.core_of_runner}
@@ -11,15 +11,16 @@ use Rattle.osservice.proofs.Partners.{Partner}
 use Rattle.oskernel.specs.Step.{after}
 use Rattle.oskernel.proofs.Carried.{NamesActing, NamesAllow, acting-anybody, after-carried, allow-anybody, is_replied, leave_all, next_of, replied-anybody}
 
--- Each kind of entry that follows from an item keeps it: one of the core itself, a letter to a core that may be
--- asked, a reply to one that may be answered, and a call whose answer may be asked for, of a runner that marks may name.
+-- Each kind of entry that follows from an item keeps the property: one of the core itself, a letter to a core that may
+-- be asked, a reply to one that may be answered, and a call whose answer may be asked for, of a runner that marks may
+-- name.
 pub record Holds (may : Partner → Bool) (replies names : CoreId → Bool) (P : History → Type 0) : Type 0 where
   pub local : (e : Entry) (h : History) → is_local names e ≡ true → P h → P (e ∷ h)
   pub asked : (core : CoreId) (message : Message) (h : History) → may (Partner.Core core) ≡ true → P h → P (act (Sends core message) h)
   pub replied : (core : CoreId) (s : Status) (value : Option ℤ) (h : History) → replies core ≡ true → P h → P (act (Sends core (reply s value)) h)
   pub opened : (call : OpenCall) (h : History) → may_open may call ≡ true → names (core_of_runner call.runner) ≡ true → P h → P (Noted (Opened call) ∷ h)
 
--- Where nobody is asked or answered, only entries of the core itself follow.
+-- If nobody is asked or answered, only entries of the core itself follow.
 pub holds-local : (names : CoreId → Bool) (P : History → Type 0) → ((e : Entry) (h : History) → is_local names e ≡ true → P h → P (e ∷ h)) → Holds nobody nobody names P
 holds-local names P local = record {
   local = local;
@@ -28,9 +29,10 @@ holds-local names P local = record {
   opened = λ call h m n p. absurd (false≢true m);
 }
 
--- Where marks may name objects of the own core, of those that may be asked, and who acts, it holds after an item.
+-- The property holds after an item if marks may name who acts, and objects of the own core and of those that may be
+-- asked.
 module _ (l : Leave) (P : History → Type 0) (holds : Holds l.may l.answered l.names P) (allowed : NamesAllow l.view l.may) (acting : (h : History) → P h → NamesActing l h) where
-  -- One history, which has it.
+  -- The histories are the same, and have the property.
   record Same (h k : History) : Type 0 where
     pub same : h ≡ k
     pub has : P k
@@ -56,11 +58,11 @@ module _ (l : Leave) (P : History → Type 0) (holds : Holds l.may l.answered l.
   holds-named h item m p =
       (after-carried l allowed l.view.around Same kept (λ h k p. (ap current_task p.same, ap (next_of l.view) p.same)) (λ h k p. rw p.same (acting k p.has)) h h item item m refl (record { same = refl; has = p })).has
 
--- So it does where marks may name whatever there is.
+-- The property also holds after an item if marks may name any object.
 pub holds-after : (v : View) (may : Partner → Bool) (replies : CoreId → Bool) (P : History → Type 0) → Holds may replies anybody P → NamesAllow v may → (h : History) (item : Item) → is_replied replies anybody item ≡ true → P (Took item ∷ h) → P (after v h item)
 holds-after v may replies P holds allowed = holds-named (leave_all v may replies) P holds allowed (λ h p. acting-anybody v may replies h)
 
--- What every mark and every note keeps, whichever services there are.
+-- A property that every mark and every note keeps holds after an item, whichever services there are.
 pub kept_after : (P : History → Type 0) → ((m : Mark) (h : History) → P h → P (Printed m ∷ h)) → ((n : Note) (h : History) → P h → P (Noted n ∷ h)) → (v : View) (h : History) (item : Item) → P (Took item ∷ h) → P (after v h item)
 kept_after P printed noted v h item =
     holds-after v anybody anybody P (record {
@@ -75,7 +77,7 @@ kept_after P printed noted v h item =
     local (Noted n) k is p = noted n k p
     local (Took i) k is p = absurd (false≢true is)
 
--- A reading that no mark and no note changes is after an item what it is with the item.
+-- A reading that no mark and no note changes is the same after an item as when the item is taken.
 pub quiet_after : {A : Type 0} (f : History → A) → ((m : Mark) (h : History) → f (Printed m ∷ h) ≡ f h) → ((n : Note) (h : History) → f (Noted n ∷ h) ≡ f h) → (v : View) (h : History) (item : Item) → f (after v h item) ≡ f (Took item ∷ h)
 quiet_after f printed noted v h item =
     kept_after (λ (k : History). f k ≡ f (Took item ∷ h)) (λ m k p. printed m k ∙ p) (λ n k p. noted n k ∙ p) v h item refl

@@ -9,7 +9,7 @@ use Rattle.osbase.specs.Interrupts.{entered_isrs, isr_jobs, oldest_entered}
 use Rattle.osbase.proofs.Same.{same_runner-refl, same_runner-true}
 use Rattle.osplan.specs.View.{View}
 use Rattle.osplan.proofs.Tests.{all-filter}
-use Rattle.osjobs.specs.Jobs.{is_locked_in}
+use Rattle.osjobs.specs.Jobs.{has_suspended_interrupts_in}
 use Rattle.osjobs.proofs.Running.{no-entered, none-chosen}
 use Rattle.osjobs.specs.Priorities.{held_by_job, highest_of, is_able_in, is_oldest, is_preemptable, level_by, level_of, priority_by, raised_of, static_priority}
 use Rattle.osstate.specs.Readings.{best_job, best_task, current_priority, is_able, rows_of, running}
@@ -18,7 +18,7 @@ use Rattle.osacts.specs.Acts.{does}
 use Rattle.oskernel.specs.Step.{after, enters, goes_to, leaves}
 use Rattle.oskernel.proofs.JobLists.{anew-all, greatest-passes, oldest-passes, without-all}
 
--- ---- whose the jobs are: those of tasks, and those of ISRs
+-- ---- the runners of jobs: tasks and ISRs
 
 abbrev is_task_runner : Runner → Bool
 is_task_runner (Runner.Task t) = true
@@ -42,7 +42,7 @@ all-isrs (e ∷ h) = grind (arith, list_all-append is_isr_job (isr_jobs h), with
 among : (p : Job → Bool) (q : Job → ℕ) (js : List Job) (j : Job) → list_all p js ≡ true → first_greatest q js ≡ Some j → p j ≡ true
 among p q js j all e = rw e at (greatest-passes p q js all)
 
--- What all live jobs pass, the running one passes, and the best one.
+-- If all live jobs pass a test, the running job and the best job pass it.
 module _ (v : View) (h : History) (p : Job → Bool) (tasks : list_all p (live_jobs h) ≡ true) (isrs : list_all p (isr_jobs h) ≡ true) where
   first-passes : (o q : Option Job) → option_map_or p o true ≡ true → option_map_or p q true ≡ true → option_map_or p (option_or o q) true ≡ true
   first-passes o q e f = grind (arith, e, f)
@@ -62,10 +62,10 @@ module _ (v : View) (h : History) (p : Job → Bool) (tasks : list_all p (live_j
   best-passes =
       let isr = first_greatest (level_by v.own) (isr_jobs h) in
       let task = all-filter p (is_able v h) (live_jobs h) tasks in
-      cond_both (is_locked_in (rows_of v.own h) (running v h)) (running v h) (option_or isr (best_task v h)) (λ (o : Option Job). option_map_or p o true ≡ true) (λ locked. running-passes)
+      cond_both (has_suspended_interrupts_in (rows_of v.own h) (running v h)) (running v h) (option_or isr (best_task v h)) (λ (o : Option Job). option_map_or p o true ≡ true) (λ locked. running-passes)
       (λ free. first-passes isr (best_task v h) (greatest-passes p (level_by v.own) (isr_jobs h) isrs) (greatest-passes p (current_priority v h) (filter (is_able v h) (live_jobs h)) task))
 
--- ---- a job stays the best where it gets no less and another gets no more
+-- ---- a job stays the best if its value does not fall and another's does not rise
 
 -- the greatest is no less than another choice
 greatest-bound : (p q : Job → ℕ) (js : List Job) → option_map_or (λ (i : Job). option_map_or (λ (j : Job). nat_le (p i) (p j)) (first_greatest p js) false) (first_greatest q js) true ≡ true
@@ -81,7 +81,8 @@ stays-best p q (x ∷ js) j i e f up down = grind (arith, nat_tests, greatest-bo
 abbrev raised_by : (Job → ℕ) → ℕ → (Job → Bool) → Job → ℕ
 raised_by base top is_raised j = greater (base j) (cond (is_raised j) top 0)
 
--- The best job stays so where others are raised: it was not raised before, and the other choice is not now.
+-- The best job stays the best when others are raised, if it was not raised before and the other choice is not raised
+-- now.
 raised-best : (base : Job → ℕ) (top : ℕ) (was is : Job → Bool) (js : List Job) (j i : Job) → first_greatest (raised_by base top was) js ≡ Some j → first_greatest (raised_by base top is) js ≡ Some i
     → was j ≡ false → is i ≡ false → j ≡ i
 raised-best base top was is js j i e f before now =
@@ -98,7 +99,7 @@ not-raised v way (Some i) j e =
 abbrev BestRuns : View → History → Type 0
 BestRuns v h = (j : Job) → best_job v h ≡ Some j → option_map_or (same_job j) (running v h) false ≡ true
 
--- So it does if the core is still going, and nobody gives way any more.
+-- The best job runs if the core is still going; and no runner gives way any more.
 pub record Idle (v : View) (h : History) : Type 0 where
   pub runs : is_going (course_of h) ≡ true → BestRuns v h
   pub stays : giving_way h ≡ None
@@ -112,14 +113,14 @@ filtered-all p (j ∷ js) = grind (arith, filtered-all p js)
 abbrev able_jobs : View → History → List Job
 able_jobs v h = filter (is_able v h) (live_jobs h)
 
--- The histories after a runner is entered, and after going to a job.
+-- The histories after a runner is entered, and after a switch to a job.
 abbrev entering : View → Runner → History → History
 entering v r h = does (enters (current_task h) r) v h
 
 abbrev gone_to : View → Option Job → History → History
 gone_to v o h = does (goes_to (state_of v h) o) v h
 
--- What no hook of a task changes is the same after a task is entered.
+-- A reading that no hook of a task changes is the same after a task is entered.
 entered-same : {A : Type 0} (f : History → A) → ((t : TaskRef) (k : History) → f (Printed (Mark.PostTaskHook t) ∷ k) ≡ f k) → ((t : TaskRef) (k : History) → f (Printed (Mark.PreTaskHook t) ∷ k) ≡ f k)
     → (v : View) (t : TaskRef) (h : History) → f (entering v (Runner.Task t) h) ≡ f h
 entered-same f post pre v t h = pre t (does (leaves (current_task h)) v h) ∙ by (current_task h)
@@ -169,10 +170,10 @@ same-self j = eq-eqb j.stamp j.stamp refl
 -- If the running job has suspended interrupts, it is the best one.
 best-is : (v : View) (h : History) → ((i : Job) → option_or (first_greatest (level_by v.own) (isr_jobs h)) (best_task v h) ≡ Some i → option_map_or (same_job i) (running v h) false ≡ true) → BestRuns v h
 best-is v h other i =
-    cond_both (is_locked_in (rows_of v.own h) (running v h)) (running v h) (option_or (first_greatest (level_by v.own) (isr_jobs h)) (best_task v h))
+    cond_both (has_suspended_interrupts_in (rows_of v.own h) (running v h)) (running v h) (option_or (first_greatest (level_by v.own) (isr_jobs h)) (best_task v h))
     (λ (o : Option Job). o ≡ Some i → option_map_or (same_job i) (running v h) false ≡ true) (λ locked e. ap (λ (o : Option Job). option_map_or (same_job i) o false) e ∙ same-self i) (λ free. other i)
 
--- The greatest job of a runner, none of whose jobs is less, is its oldest.
+-- If the greatest job is a runner's, and no job of the runner is less, it is the runner's oldest.
 greatest-oldest : (p : Job → ℕ) (r : Runner) (js : List Job) (j : Job) → first_greatest p js ≡ Some j → j.runner ≡ r → ((i : Job) → i.runner ≡ r → p j ≤ p i) → oldest r js ≡ Some j
 greatest-oldest p r [] j e is least = absurd (none-some j e)
 greatest-oldest p r (x ∷ js) j e is least =
@@ -213,10 +214,11 @@ task-runs v h j t none best task apart = best-is v next same
         ∙ task-stays v h j t best task (ap (λ (o : Option Job). option_map_or (same_job j) o false) (sym (current-runs v h none)) ∙ apart) i
         (sym (ap (λ (js : List Job). option_or (first_greatest (level_by v.own) js) (best_task v next)) none_next) ∙ e)
 
--- If the best job does not run, the running one has not suspended interrupts. The best one is an ISR's or, if there is none, a task's.
+-- If the best job does not run, the running one has not suspended interrupts. The best one is an ISR's or, if there is
+-- none, a task's.
 best-entered : (v : View) (h : History) (j : Job) → best_job v h ≡ Some j → option_map_or (same_job j) (running v h) false ≡ false → BestRuns v (entering v j.runner h)
 best-entered v h j best apart =
-    cond_both (is_locked_in (rows_of v.own h) (running v h)) (running v h) (option_or (first_greatest (level_by v.own) (isr_jobs h)) (best_task v h)) (λ (o : Option Job). o ≡ Some j → BestRuns v (entering v j.runner h))
+    cond_both (has_suspended_interrupts_in (rows_of v.own h) (running v h)) (running v h) (option_or (first_greatest (level_by v.own) (isr_jobs h)) (best_task v h)) (λ (o : Option Job). o ≡ Some j → BestRuns v (entering v j.runner h))
     (λ locked e. absurd (false≢true (sym apart ∙ ap (λ (o : Option Job). option_map_or (same_job j) o false) e ∙ same-self j)))
     (λ free. either j.runner (first_greatest (level_by v.own) (isr_jobs h)) refl refl) best
   where
@@ -243,7 +245,7 @@ gone-way v (Some j) h = cond_both (option_map_or (same_job j) (running v h) fals
     entered (Runner.Task t) = entered-same giving_way (λ u k. refl) (λ u k. refl) v t h
     entered (Runner.Isr i) = refl
 
--- A core drains, and goes to its best job unless it is down; the end of the pass changes nothing.
+-- A core drains, and switches to its best job unless it is down; the end of the pass changes nothing.
 abbrev is_unbound : History → Bool
 is_unbound h = is_none (open_call h) && not (is_owing (got_spinlocks h))
 
@@ -254,7 +256,7 @@ drained-idle v h none unowed =
     (λ dispatches. record { runs = λ going. idle-gone v next; stays = gone-way v (best_job v next) next })
     (λ rests. record { runs = λ going. absurd (false≢true (sym rests ∙ λ i. (is_none (none i) && not (unowed i)) && going i)); stays = refl })
 
--- where the best job runs, a core goes to none
+-- if the best job runs, a core switches to none
 stays : (v : View) (h : History) → BestRuns v h → gone_to v (best_job v h) h ≡ h
 stays v h runs = by (best_job v h) refl
   where
@@ -271,5 +273,5 @@ end-idle v h idle =
     next = Took Item.PassEnd ∷ h
 
     same : best_job v h ≡ best_job v next
-    same = ap (λ (way : Option Runner). cond (is_locked_in (rows_of v.own h) (running v h)) (running v h)
+    same = ap (λ (way : Option Runner). cond (has_suspended_interrupts_in (rows_of v.own h) (running v h)) (running v h)
         (option_or (first_greatest (level_by v.own) (isr_jobs h)) (first_greatest (priority_by v.own (live_jobs h) (rows_of v.own h) (raised_of v.own way (current_job h))) (filter (is_able v h) (live_jobs h))))) idle.stays

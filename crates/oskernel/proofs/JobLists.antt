@@ -1,4 +1,4 @@
--- What all jobs of a list pass, the oldest of a runner passes, and the greatest, and all where one ends or is stamped anew.
+-- If all jobs of a list pass a test, the oldest and the greatest pass it, and all still do if one ends or is restamped.
 use native.Mathlib.Omega.{arith}
 use Rattle.std.proofs.Common.{◌≡◌, ℕ, Bool, true, List, [], ◌∷◌, refl}
 use Rattle.std.specs.{List.list_all, Option.option_map_or}

@@ -22,7 +22,7 @@ module _ (may : Partner → Bool) where
   abbrev pub Got : History → Type 0
   Got h = list_all may_get (got_spinlocks h) ≡ true
 
-  -- Who has a spinlock doesn't matter.
+  -- Which job has a spinlock makes no difference.
   owed-passes : (r : Runner) (got : List GotSpinlock) → list_all may_get got ≡ true → list_all may_get (owed_by r got) ≡ true
   owed-passes r [] all = refl
   owed-passes r (g ∷ got) all = grind (arith, owed-passes r got, all)
@@ -49,7 +49,7 @@ module _ (may : Partner → Bool) where
     opened = λ call h m n p. p;
   }
 
-  -- What an open call awaits of a spinlock, it asks of that one.
+  -- An open call that awaits something of a spinlock asks that spinlock.
   get-of : (l : SpinlockId) (a : Awaited) → is_get_of l a ≡ true → partner_of a ≡ Partner.Spinlock l
   get-of l (Awaited.Get k) e = λ i. Partner.Spinlock (record { index = eqb-true k.index l.index e i })
   get-of l a e = absurd (false≢true e)
@@ -73,7 +73,7 @@ module _ (may : Partner → Bool) where
   got-took v h (Item.Halt core status) taken asks p = all_owed-passes (got_spinlocks h) p
   got-took v h i taken asks p = p
 
-  -- What the core wishes of a spinlock, it wishes of one that it may ask for.
+  -- If the core wants something of a spinlock, it may ask for that spinlock.
   abbrev may_want : Want → Bool
   may_want (Want.Spin wish) = may (Partner.Spinlock (lock_of wish))
   may_want want = true

@@ -1,4 +1,4 @@
--- A core's open call awaits the answer of one that it may ask, whatever it takes.
+-- Whatever a core takes, its open call awaits the answer of a partner that it may ask.
 use Rattle.std.proofs.Common.{◌≡◌, Bool, true, ◌∷◌, arith}
 use Rattle.osbase.specs.{declared.references.CoreId.CoreId, declared.histories.OpenCall.OpenCall, declared.items.Item.Item}
 use Rattle.osbase.specs.History.{Entry, History, Took, open_call}
@@ -7,7 +7,7 @@ use Rattle.osservice.proofs.{Kept.anybody, Kept.is_local, Kept.may_open, Partner
 use Rattle.oskernel.specs.Step.{after}
 use Rattle.oskernel.proofs.{Carried.NamesAllow, Carried.passes, Carried.replied-anybody, Holding.Holds, Holding.holds-after}
 
--- An open call that passes a test stays so: it is not changed, but closed.
+-- An open call that passes a test passes it until it is closed, for it is never changed.
 module _ (test : OpenCall → Bool) where
   abbrev pub Opens : History → Type 0
   Opens h = passes (open_call h) test ≡ true

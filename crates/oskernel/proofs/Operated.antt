@@ -1,4 +1,4 @@
--- Which acts an operation does: they are allowed where what it names is.
+-- The acts of an operation are allowed if the objects that it names are.
 use Rattle.std.proofs.Common.{◌≡◌, Option, Some, None, refl}
 use Rattle.osbase.specs.{declared.references.Runner.Runner, declared.messages.RemoteCall.RemoteCall, declared.statuses.ServiceId.ServiceId, declared.statuses.Status.TheVariants.EOsDisabledint}
 use Rattle.oscript.specs.{declared.Op.Op, Calls.call_of_op}

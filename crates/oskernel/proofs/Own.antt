@@ -1,4 +1,5 @@
--- A core prints marks of its own objects, and of those of cores that it may ask; and the runner whose call is open is of one of these.
+-- A core prints marks of its own objects, and of those of cores that it may ask; and the runner whose call is open is
+-- of one of these.
 use native.Mathlib.Omega.{arith}
 use Rattle.std.proofs.Common.{◌≡◌, Bool, true, Some, List, [], ◌∷◌, refl, ap, ◌∙◌}
 use Rattle.std.specs.List.{list_all}
@@ -32,7 +33,7 @@ module _ (own : CoreId → Bool) where
     pub isrs : list_all own_job (isr_jobs h) ≡ true
     pub current : passes (current_task h) (λ t. own t.core) ≡ true
 
-  -- An entry keeps it whose mark, if it is one, names objects of such cores alone.
+  -- An entry keeps this if it is no mark, or if its mark names objects of such cores alone.
   more-own : (e : Entry) (h : History) → list_all (names_only own) (marks_of (e ∷ h)) ≡ true → ActOwn h → ActOwn (e ∷ h)
   more-own e h all p = record {
     jobs = grind (arith, list_all-append (names_only own) (marks_of h), list_all-append own_job (live_jobs h), anew-all own_job, without-all own_job, p.jobs, all);
@@ -49,7 +50,7 @@ module _ (own : CoreId → Bool) where
 
 -- ---- what the core prints
 
--- Its marks name objects of such cores alone, and the runner whose call is open is of one.
+-- Its marks name objects of such cores alone, and the runner whose call is open is of such a core.
 pub record Inside (names : CoreId → Bool) (h : History) : Type 0 where
   pub own : list_all (names_only names) (marks_of h) ≡ true
   pub caller : Opens (λ (call : OpenCall). names (core_of_runner call.runner)) h
@@ -84,7 +85,7 @@ module _ (v : View) (may : Partner → Bool) (names : CoreId → Bool) (allowed 
   item-named : (h : History) (i : Item) → admits outbox_size (state_of v h) i ≡ true → is_replied anybody names i ≡ true
   item-named h i may = grind (arith, isr-own, call-own, may)
 
-  -- So it stays by items that may be taken in turn.
+  -- Items that may be taken in turn keep this.
   pub inside-items : (items : List Item) (h : History) → solo_from v h items ≡ Some (history_from v h items) → Inside names h → Inside names (history_from v h items)
   inside-items [] h each p = p
   inside-items (i ∷ is) h each p =

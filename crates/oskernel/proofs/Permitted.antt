@@ -9,14 +9,15 @@ use Rattle.osservice.proofs.{Kept.Leave, Kept.anybody, Permitted.permitted}
 use Rattle.oskernel.specs.Step.{effect}
 use Rattle.oskernel.proofs.Carried.{acting-anybody, allow-anybody, effect-ok, is_replied, leave_all}
 
--- A core answers those whose numbers a configuration may have.
+-- The core has a number that a configuration may have.
 abbrev is_numbered : CoreId → Bool
 is_numbered core = nat_lt core.number CORES
 
 sender-replied : (item : Item) → is_sender_known item ≡ true → is_replied is_numbered anybody item ≡ true
 sender-replied item known = grind (arith, known)
 
--- At a state that stands for a history of a core whose clocks are within their limits, of an item whose sender has a core number.
+-- The state stands for a history of a core whose clocks are within their limits, and the item's sender has a core
+-- number.
 pub effect-permitted : (item : Item) {v : View} {h : History} {s : KernelState} → are_clocks_within s.view.own ≡ true → is_sender_known item ≡ true → Stands v h s → are_permitted (effect item) s ≡ true
 effect-permitted item {v} {h} within known stands =
     let inside = subst (λ (q : KernelState). are_clocks_within q.view.own ≡ true) stands.is within in

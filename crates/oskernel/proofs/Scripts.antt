@@ -16,14 +16,14 @@ use Rattle.osstate.specs.Readings.{script_of}
 use Rattle.osservice.proofs.{Called.locks-any, Called.locks-none, Called.may_lock, Kept.is_within, Kept.nobody, Partners.Partner}
 use Rattle.oskernel.proofs.Carried.{NamesAllow, allow-cores}
 
--- Every core but this one, every spinlock, and what all cores share; but not that all shut down.
+-- Every core but this one, every spinlock, and what all cores share; but not the shutdown of all cores.
 abbrev pub all_but : CoreId → Partner → Bool
 all_but id (Partner.Core core) = not (same_core core id)
 all_but id (Partner.Spinlock l) = true
 all_but id Partner.Shared = true
 all_but id Partner.Halt = false
 
--- Whatever there is, but not that all cores shut down.
+-- Every partner, but not the shutdown of all cores.
 abbrev pub but_halt : Partner → Bool
 but_halt (Partner.Core core) = true
 but_halt (Partner.Spinlock l) = true
@@ -47,7 +47,7 @@ script-fails own test none r n op e = by r e
     by (Runner.Task t) g = of own.tasks (λ (task : Task). task.script) t.index (same_core t.core own.id) (slice_get own.tasks t.index) parts.0 refl g
     by (Runner.Isr i) g = of own.isrs (λ (isr : Isr). isr.script) i.index (same_core i.core own.id) (slice_get own.isrs i.index) parts.1 refl g
 
--- So none that a runner reaches passes it, whatever would follow from it.
+-- An operation that a runner reaches never passes the test, so anything follows if one does.
 pub script-none : (own : Core) (test : Op → Bool) → has_operation test own ≡ false → {A : Type 0} (r : Runner) (n : ℕ) (op : Op) → slice_get (script_of own r) n ≡ Some op → test op ≡ true → A
 script-none own test none r n op e passes = absurd (true≢false (sym passes ∙ script-fails own test none r n op e))
 
@@ -55,8 +55,9 @@ script-none own test none r n op e passes = absurd (true≢false (sym passes ∙
 pub none-all : (p q : Object → Bool) → ((object : Object) → p object ≡ false → q object ≡ true) → (objects : List Object) → list_any p objects ≡ false → list_all q objects ≡ true
 none-all p q then objects none = all-weaker (λ object. not (p object)) q (λ object fails. then object (not-true (p object) fails)) objects (all-not p objects none)
 
--- A core that names no object that passes one test, by a script, an alarm or a schedule table: all that it names pass another, which each does that
--- fails the first. It asks for spinlocks, for what all share, and that they shut down, only if it may.
+-- If a core's scripts, alarms and tables name no object that passes a test, and each object that fails it is on the own
+-- core or on one that may be asked, it names only objects there. It asks for spinlocks, for what all share, and for a
+-- shutdown, only if it may.
 pub names-allow : (v : View) (may : Partner → Bool) (test : Object → Bool) → names_object test v.own ≡ false → ((object : Object) → test object ≡ false → is_within v may object.place.core ≡ true)
     → ((r : Runner) (n : ℕ) (op : Op) → slice_get (script_of v.own r) n ≡ Some op → list_all (may_lock may) (objects_of op) ≡ true)
     → ((r : Runner) (n : ℕ) (op : Op) → slice_get (script_of v.own r) n ≡ Some op → asks_shared op ≡ true → may Partner.Shared ≡ true)
@@ -74,7 +75,7 @@ names-allow v may test none then locks shared halt =
           (all-not (λ (action : RemoteCall). test (object_of_call action)) (core_actions v.own) parts.1);
     }
 
--- A core of a configuration in which no script takes all cores down has no such script.
+-- If no script of a configuration shuts all cores down, no script of a core of it does.
 unhalted-own : (plan : Plan) (id : CoreId) → halts_somewhere plan ≡ false → has_operation halts_all (view_of plan id).own ≡ false
 unhalted-own plan id unhalted = by (core_of plan id) refl
   where
@@ -100,7 +101,8 @@ own-allow plan core id found same parts =
     own : (test : Core → Bool) → test core ≡ false → test (view_of plan id).own ≡ false
     own test none = ap (λ (o : Option Core). test (unwrap_or o (no_core id))) found ∙ none
 
--- Every other core's scripts and alarms name none of the objects of a core that is not named elsewhere, where none takes all cores down.
+-- If a core is not named elsewhere and no script shuts all cores down, all other cores' scripts and alarms name none of
+-- its objects.
 pub other-allow : (plan : Plan) (id other : CoreId) → is_named_elsewhere plan id ≡ false → halts_somewhere plan ≡ false → same_core other id ≡ false → NamesAllow (view_of plan other) (all_but id)
 other-allow plan id other unnamed unhalted differs =
     names-allow (view_of plan other) (all_but id) (is_on id) (by (core_of plan other) refl)

@@ -7,13 +7,14 @@ use Rattle.osstate.specs.{Readings.phase_at, State.state_of}
 use Rattle.osadmit.specs.Admission.{admits}
 use Rattle.oskernel.specs.Step.{after, history_from, outbox_size, solo_from, takes}
 
--- A letter goes, or comes.
+-- The item posts a letter, or receives one.
 abbrev pub is_mail : Item → Bool
 is_mail (Item.Posted to) = true
 is_mail (Item.Received from number message) = true
 is_mail item = false
 
--- The phase in which the item is taken, if it is taken in one only. Mail is taken in each in which a core schedules.
+-- The phase in which the item is taken, if it is taken in only one. Mail is taken in each phase in which a core
+-- schedules.
 abbrev pub stage_of : Item → Option Phase
 stage_of Item.On = Some Phase.Off
 stage_of (Item.Began core status) = Some Phase.Boot
@@ -37,11 +38,11 @@ stage v h i m t = grind (arith, m, t)
 pub mail-schedules : (v : View) (h : History) (i : Item) → is_mail i ≡ true → admits outbox_size (state_of v h) i ≡ true → is_scheduling (phase_at v h) ≡ true
 mail-schedules v h i m t = grind (arith, m, t)
 
--- A core that is off takes nothing but that it is turned on.
+-- A core that is off takes only the item `On`.
 pub only-on : (v : View) (h : History) (i : Item) → admits outbox_size (state_of v h) i ≡ true → phase_at v h ≡ Phase.Off → i ≡ Item.On
 only-on v h i taken off = grind (arith, taken, off)
 
--- Where a core's items may be taken in turn, so may the first, and then the others.
+-- If a core's items may be taken in turn, the first may be taken, and then the others in turn.
 pub solo-parts : (v : View) (h : History) (i : Item) (is : List Item) → solo_from v h (i ∷ is) ≡ Some (history_from v h (i ∷ is)) → (admits outbox_size (state_of v h) i ≡ true) × (solo_from v (after v h i) is ≡ Some (history_from v (after v h i) is))
 solo-parts v h i is each =
     cond_both (takes outbox_size v h i) (solo_from v (after v h i) is) None

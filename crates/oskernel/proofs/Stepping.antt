@@ -1,4 +1,4 @@
--- What a core that names no object of another core does at an item, it does alone.
+-- A core that names no object of another core does the same at an item as it does alone.
 use native.Mathlib.Omega.{arith}
 use Rattle.std.proofs.Common.{◌≡◌, ◌&&◌, ℕ, true, cond, not, Option, None, is_none, option_map, List, [], ◌∷◌, refl, sym, ap, ◌∙◌}
 use Rattle.std.proofs.lemmas.Bool.{false≢true}
@@ -19,7 +19,7 @@ use Rattle.oskernel.proofs.Carried.{NamesAllow, acting-anybody, after-carried, i
 abbrev pub around_master : List CoreId → Around
 around_master ids = record { is_master = true; cores = ids; links = [] }
 
--- What the core alone sees.
+-- What the core sees alone.
 abbrev pub alone_view : View → List CoreId → View
 alone_view v ids = seen_as v (around_master ids)
 
@@ -87,14 +87,14 @@ module _ (v : View) (ids : List CoreId) (s : CoreSet) where
   }
 
   module _ (allowed : NamesAllow v nobody) where
-    -- Two items with one effect, the first taken in the world and the second alone.
+    -- Two items with the same effect: the first is taken in the world and the second alone.
     same-after : (k : History) (item item' : Item) → is_replied nobody anybody item ≡ true → effect item ≡ effect item' → Along (Took item ∷ here k) (Took item' ∷ k) → after v (here k) item ≡ here (after self k item')
     same-after k item item' replied same along = (after-carried (leave_all v nobody nobody) allowed (around_master ids) Along kept steers (λ h n p. acting-anybody v nobody nobody h) (here k) k item item' replied same along).same
 
     replied : (stimulus : Stimulus) → is_replied nobody anybody (Item.Stim stimulus) ≡ true
     replied stimulus = grind arith
 
-    -- So it is with the next stimulus, the end of the stimuli, and the second gate.
+    -- The same holds for the next stimulus, the end of the stimuli, and the second gate.
     pub same-stimulus : (stimulus : Stimulus) (k : History) → knows_started (here k) v.core ≡ true → knows_started k v.core ≡ true → after v (here k) (Item.Stim stimulus) ≡ here (after self k (Item.Stim stimulus))
     same-stimulus stimulus k there alone = same-after k (Item.Stim stimulus) (Item.Stim stimulus) (replied stimulus) refl (record { same = refl; started = there ∙ sym alone })
 

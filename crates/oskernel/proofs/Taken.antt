@@ -6,7 +6,7 @@ use Rattle.osbase.specs.Phases.{is_before_live, is_past_first_gate}
 use Rattle.osprogress.specs.Border.{is_grant_known, is_posted, is_sender_known}
 use Rattle.osstate.specs.{State.KernelState, Sound.is_awaited_known}
 use Rattle.osadmit.specs.Admission.{admits}
-use Rattle.oskernel.specs.Taking.{is_acting, is_filling, is_going_on, is_known, is_second_gate}
+use Rattle.oskernel.specs.Taking.{is_acting, may_fill_outbox, is_stimulus, is_known, is_second_gate}
 
 pub acting : (places : ℕ) (s : KernelState) (item : Item) → admits places s item ≡ true → is_acting item ≡ true → is_before_live (phase_after (Took item) s.progress.phase) ≡ false
 acting places s item a b = grind (arith, a, b)
@@ -28,10 +28,10 @@ fresh places s item a b = grind (arith, a, b)
 pub front : (places : ℕ) (s : KernelState) (item : Item) → admits places s item ≡ true → is_posted item ≡ true → 0 < length s.border.outbox
 front places s item a b = grind (arith, a, b)
 
-pub filling : (places : ℕ) (s : KernelState) (item : Item) → 1 ≤ places → admits places s item ≡ true → is_filling item ≡ true → length (outbox_after (Took item) s.border.outbox) < places
+pub filling : (places : ℕ) (s : KernelState) (item : Item) → 1 ≤ places → admits places s item ≡ true → may_fill_outbox item ≡ true → length (outbox_after (Took item) s.border.outbox) < places
 filling places s item some a b = grind (arith, nat_tests, some, a, b)
 
-pub going_on : (places : ℕ) (s : KernelState) (item : Item) → admits places s item ≡ true → is_going_on item ≡ true → outbox_after (Took item) s.border.outbox ≡ []
+pub going_on : (places : ℕ) (s : KernelState) (item : Item) → admits places s item ≡ true → is_stimulus item ≡ true → outbox_after (Took item) s.border.outbox ≡ []
 going_on places s item a b = grind (arith, a, b)
 
 -- an admitted item is a stimulus that the core knows, or a message for it, or neither kind

@@ -7,8 +7,8 @@ use Rattle.osplan.specs.Objects.{outbox_needed}
 abbrev pub step_entries : ℕ
 step_entries = 1024
 
--- The outbox has places for all that the core's alarms and schedule tables, and its calls, may post at once. The history has no more
--- entries than its steps may have added.
+-- The outbox has places for all that the core's alarms and schedule tables, and its calls, may post at once. The
+-- history has at most `step_entries` entries for each item that was taken.
 pub record IsBounded (places : ℕ) (s : KernelState) : Type 0 where
   pub outbox : outbox_needed s.view.own ≤ places
   pub entries : s.progress.entries ≤ step_entries * s.progress.items

@@ -1,5 +1,5 @@
--- What an operation of a job does: the call that it is, or what the table says that has a row for it; but while the job has suspended
--- interrupts, nearly all services are refused or ignored.
+-- What an operation of a job does: it makes a call, which may cross to another core, or what its family's table says.
+-- While the job has suspended interrupts, nearly all services are refused or ignored.
 use Rattle.std.specs.Prelude.{◌&&◌, Bool, true, false, if◌then◌else◌, Option, Some, None, unwrap_or}
 use Rattle.osbase.specs.{declared.statuses.Status.TheVariants.EOsDisabledint, declared.statuses.ServiceId.ServiceId, declared.messages.RemoteCall.RemoteCall, declared.references.Runner.Runner}
 use Rattle.osbase.specs.declared.statuses.ServiceId.TheVariants as Service
@@ -15,11 +15,13 @@ use Rattle.oscall.specs.{Border.calls, Shutdown.core_acts, Shutdown.is_ignored, 
 use Rattle.oschain.specs.Chaining.{chain_acts}
 use Rattle.osexpiry.specs.Incrementing.{increment_acts}
 
--- An operation on what all cores share, the spinlocks, or on the cores themselves, by the table of its family.
+-- Does an operation on spinlocks or on the cores themselves, as the table of its family says. Any other operation does
+-- nothing here.
 abbrev pub acts_on_shared : Runner → Op → Acts
 acts_on_shared r op = unwrap_or (spin_acts r op) (unwrap_or (core_acts r op) nothing)
 
--- An operation of the core alone, by the table of its family; what calls for an object of any core is in none of these.
+-- Does what the table of the operation's family says. Operations that are calls (`call_of_op`), such as ActivateTask,
+-- are in no table.
 -- [own: one operation is one unit of a script]
 abbrev pub acts_alone : Runner → Op → Acts
 acts_alone r op =
@@ -30,37 +32,39 @@ acts_alone r op =
     (unwrap_or (increment_acts r op)
     (unwrap_or (table_acts r op) (acts_on_shared r op))))))
 
--- An operation that calls for an object of any core is that call. [own]
+-- If the operation is a call, makes it, whichever core has the object. Else does what the table of the operation's
+-- family says. [own]
 abbrev pub operates_by : Runner → Op → Option (ServiceId × Option RemoteCall) → Acts
 operates_by r op None = acts_alone r op
 operates_by r op (Some c) = calls r c.0 c.1
 
--- The services of spinlocks act in full while their caller has suspended interrupts. [own]
-abbrev pub acts_suspended : ServiceId → Bool
-acts_suspended Service.GetSpinlock = true
-acts_suspended Service.TryToGetSpinlock = true
-acts_suspended Service.ReleaseSpinlock = true
-acts_suspended service = false
+-- The service takes effect even while its caller has suspended interrupts: those of spinlocks do. [own]
+abbrev pub acts_while_suspended : ServiceId → Bool
+acts_while_suspended Service.GetSpinlock = true
+acts_while_suspended Service.TryToGetSpinlock = true
+acts_while_suspended Service.ReleaseSpinlock = true
+acts_while_suspended service = false
 
--- The service that is refused while its caller has suspended interrupts: each that answers a status, but for these.
+-- The service, if it is refused while interrupts are suspended: each that answers a status, but not those of spinlocks.
 abbrev pub refused_of : Option ServiceId → Option ServiceId
 refused_of None = None
-refused_of (Some service) = if acts_suspended service then None else Some service
+refused_of (Some service) = if acts_while_suspended service then None else Some service
 
--- The service of an operation that is refused now.
+-- The service of the operation, if it is refused because the runner's job has suspended interrupts.
 abbrev pub refused_now : Seen → Runner → Op → Option ServiceId
 refused_now s r op = if has_suspended s r then refused_of (service_of_op op) else None
 
--- Such a service answers E_OS_DISABLEDINT and has no effect; whatever else it would check comes after this.
--- [AUTOSAR SWS OS 4.x, SWS_Os_00093]
+-- These acts, if no service is refused. A refused service answers E_OS_DISABLEDINT and has no effect; all its other
+-- checks come after this one. [AUTOSAR SWS OS 4.x, SWS_Os_00093]
 abbrev pub operates_unless : Runner → Option ServiceId → Acts → Acts
 operates_unless r None acts = acts
 operates_unless r (Some service) acts = returns r service EOsDisabledint None
 
--- An operation that is ignored now.
+-- Whether the operation is ignored because the runner's job has suspended interrupts.
 abbrev pub is_ignored_now : Seen → Runner → Op → Bool
 is_ignored_now s r op = is_ignored op && has_suspended s r
 
--- One that is ignored has no effect but to be done. [AUTOSAR SWS OS 4.x, SWS_Os_00093]
+-- An operation of a job is ignored, refused or done. One that is ignored only counts as done.
+-- [AUTOSAR SWS OS 4.x, SWS_Os_00093]
 abbrev pub operates : Runner → Op → Acts
 operates r op = look (λ s. when (is_ignored_now s r op) (is_done r) (operates_unless r (refused_now s r op) (operates_by r op (call_of_op op))))

@@ -13,7 +13,7 @@ use osawait::may_dispatch;
 use osbase::{Job, Mark, Runner, TaskRef};
 use osstate::CoreState;
 
-/// Dispatch, where the core schedules, is neither down nor halted, no call is open, and nothing is owed.
+/// Dispatches if the core schedules, is neither down nor halted, has no open call, and owes no spinlock release.
 pub(crate) fn dispatch<const P: usize, const J: usize, const OUT: usize>(
     state: &mut CoreState<'_, P, J, OUT>,
     marks: &mut Vec<Mark>,
@@ -28,7 +28,7 @@ pub(crate) fn dispatch<const P: usize, const J: usize, const OUT: usize>(
     }
 }
 
-// Going to the best job: nothing if it is the running one (OSEK/VDX OS 2.2.3, section 4.4 and 4.6).
+// Switches to the best job, if there is one and it does not run already (OSEK/VDX OS 2.2.3, section 4.4 and 4.6).
 fn go_to<const P: usize, const J: usize, const OUT: usize>(
     state: &mut CoreState<'_, P, J, OUT>,
     running: Option<Job>,
@@ -56,8 +56,8 @@ fn is_running(running: Option<Job>, job: Job) -> bool
     }
 }
 
-// PostTaskHook of the current task, if there is one, and PreTaskHook of the runner's
-// (OSEK/VDX OS 2.2.3, section 11.5).
+// If the runner is a task, calls PostTaskHook of the current task, if there is one, and the runner's PreTaskHook
+// (OSEK/VDX OS 2.2.3, section 11.5); else enters the ISR.
 fn enter<const P: usize, const J: usize, const OUT: usize>(
     state: &mut CoreState<'_, P, J, OUT>,
     runner: Runner,
@@ -72,6 +72,7 @@ fn enter<const P: usize, const J: usize, const OUT: usize>(
     }
 }
 
+// Calls PostTaskHook of the current task, if there is one, and then PreTaskHook of this task.
 fn enter_task<const P: usize, const J: usize, const OUT: usize>(
     state: &mut CoreState<'_, P, J, OUT>,
     task: TaskRef,
@@ -84,6 +85,7 @@ fn enter_task<const P: usize, const J: usize, const OUT: usize>(
     state.enter(task, marks);
 }
 
+// Calls PostTaskHook of the current task, if there is one.
 fn leave_current<const P: usize, const J: usize, const OUT: usize>(
     state: &mut CoreState<'_, P, J, OUT>,
     marks: &mut Vec<Mark>,

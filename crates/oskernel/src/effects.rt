@@ -12,7 +12,7 @@ ghost use Rattle.osacts.specs.{Acts.look, Acts.prints, Steps.Steps};
 ghost use Rattle.osadmit.specs.Admission.{admits};
 ghost use Rattle.oskernel.specs.Bounded.{step_entries};
 ghost use Rattle.oskernel.specs.Step.{calls_shutdown_hook, closes, effect, ends_core, gate_mark, next_operation, receives, service_awaiting, stimulates, success_value};
-ghost use Rattle.oskernel.specs.Taking.{is_acting, is_filling, is_for_core, is_going_on, is_known, is_request, is_second_gate};
+ghost use Rattle.oskernel.specs.Taking.{is_acting, may_fill_outbox, is_for_core, is_stimulus, is_known, is_request, is_second_gate};
 
 use crate::interrupts::raise;
 use crate::starting::start;
@@ -53,8 +53,8 @@ fn follow<const P: usize, const J: usize, const OUT: usize>(
     requires live { IsTrue (is_acting item.now) → is_before_live state.old.progress.phase ≡ false }
     requires past { IsTrue (is_second_gate item.now) → IsTrue (is_past_first_gate state.old.progress.phase) }
     requires fresh { IsTrue (is_second_gate item.now) → state.old.tasks.jobs ≡ [] }
-    requires outbox { IsTrue (is_filling item.now) → length state.old.border.outbox < OUT }
-    requires empty { IsTrue (is_going_on item.now) → state.old.border.outbox ≡ [] }
+    requires outbox { IsTrue (may_fill_outbox item.now) → length state.old.border.outbox < OUT }
+    requires empty { IsTrue (is_stimulus item.now) → state.old.border.outbox ≡ [] }
     requires places { outbox_needed state.old.view.own ≤ OUT }
     requires room { HasRoom item_entries item_marks state.old marks.old }
     ensures { Steps item_entries item_marks (effect item.now) state.old state.new marks.old marks.new }
@@ -69,7 +69,7 @@ fn follow<const P: usize, const J: usize, const OUT: usize>(
         }
         Item::Pass1(agreement) => state.print(first_gate_mark(*agreement), marks),
         Item::Pass2(_) => start(state, marks),
-        Item::Stim(stimulus) => dispatch_stimulus(state, *stimulus, marks),
+        Item::Stim(stimulus) => stimulate(state, *stimulus, marks),
         Item::Received {
             from,
             number: _,
@@ -87,14 +87,14 @@ fn follow<const P: usize, const J: usize, const OUT: usize>(
     }
 }
 
-// What TryToGetSpinlock answers: whether it took the spinlock (AUTOSAR SWS OS 4.x, TryToGetSpinlockType).
+// The value that TryToGetSpinlock gives: 1 if it took the spinlock, else 0 (AUTOSAR SWS OS 4.x, TryToGetSpinlockType).
 fn success_value(taken: bool) -> i64
     ensures { result ≡ success_value taken }
 {
     if taken { 1 } else { 0 }
 }
 
-// The core is halted by the request of this core, with this status.
+// Prints that this core is halted by the request of `core`, with this status.
 fn print_halt<const P: usize, const J: usize, const OUT: usize>(
     state: &mut CoreState<'_, P, J, OUT>,
     core: CoreId,
@@ -122,7 +122,7 @@ fn end<const P: usize, const J: usize, const OUT: usize>(
     }
 }
 
-// ShutdownHook is called, but not by a core that is down: it has called it already.
+// ShutdownHook is called, unless the core is down: then it was called already.
 fn call_shutdown_hook<const P: usize, const J: usize, const OUT: usize>(
     state: &mut CoreState<'_, P, J, OUT>,
     status: Status,
@@ -136,6 +136,7 @@ fn call_shutdown_hook<const P: usize, const J: usize, const OUT: usize>(
     }
 }
 
+// What a core prints at the first gate: StartupHook, or that the modes conflict.
 fn first_gate_mark(agreement: Agreement) -> Mark
     ensures value { result ≡ gate_mark agreement }
     ensures plain { IsTrue (is_plain result) }
@@ -147,9 +148,9 @@ fn first_gate_mark(agreement: Agreement) -> Mark
     }
 }
 
-// A stimulus: one operation of the running job or its end, a tick, or an interrupt.
+// Does what a stimulus asks for: one operation of the running job or its end, a tick, or an interrupt.
 #[inline(always)]
-fn dispatch_stimulus<const P: usize, const J: usize, const OUT: usize>(
+fn stimulate<const P: usize, const J: usize, const OUT: usize>(
     state: &mut CoreState<'_, P, J, OUT>,
     stimulus: Stimulus,
     marks: &mut Vec<Mark>,
@@ -165,7 +166,7 @@ fn dispatch_stimulus<const P: usize, const J: usize, const OUT: usize>(
     }
 }
 
-// With nothing running it does nothing.
+// Does the next operation of the running job, or ends the job. If no job runs, does nothing.
 fn do_next_operation<const P: usize, const J: usize, const OUT: usize>(
     state: &mut CoreState<'_, P, J, OUT>,
     marks: &mut Vec<Mark>,
@@ -178,6 +179,7 @@ fn do_next_operation<const P: usize, const J: usize, const OUT: usize>(
     }
 }
 
+// Does the next operation of the runner's job, or ends the job at the end of its script.
 fn do_next_action<const P: usize, const J: usize, const OUT: usize>(
     state: &mut CoreState<'_, P, J, OUT>,
     runner: Runner,
@@ -192,6 +194,7 @@ fn do_next_action<const P: usize, const J: usize, const OUT: usize>(
     }
 }
 
+// Serves a request or an action of another core, or gives the reply to the job whose call is open.
 fn receive<const P: usize, const J: usize, const OUT: usize>(
     state: &mut CoreState<'_, P, J, OUT>,
     from: CoreId,
@@ -212,7 +215,7 @@ fn receive<const P: usize, const J: usize, const OUT: usize>(
     }
 }
 
-// A core that is down or halted answers E_OS_CORE.
+// Serves a request and answers it. A core that is down or halted answers E_OS_CORE instead.
 fn serve_request<const P: usize, const J: usize, const OUT: usize>(
     state: &mut CoreState<'_, P, J, OUT>,
     from: CoreId,
@@ -231,7 +234,7 @@ fn serve_request<const P: usize, const J: usize, const OUT: usize>(
     }
 }
 
-// A core that is down or halted drops the action.
+// Serves an action. A core that is down or halted drops it.
 fn serve_action<const P: usize, const J: usize, const OUT: usize>(
     state: &mut CoreState<'_, P, J, OUT>,
     from: CoreId,
@@ -247,7 +250,7 @@ fn serve_action<const P: usize, const J: usize, const OUT: usize>(
     }
 }
 
-// The service whose call awaits this. ShutdownAllCores does not return.
+// The service of an open call, by what the call awaits; none for ShutdownAllCores, which does not return.
 fn service_awaiting(awaits: Awaited) -> Option<ServiceId>
     ensures { result ≡ service_awaiting awaits }
 {
@@ -260,7 +263,7 @@ fn service_awaiting(awaits: Awaited) -> Option<ServiceId>
     }
 }
 
-// The job whose call is open gets its answer; if no call is open, as when an owed spinlock is freed, nothing happens.
+// The job whose call is open gets the answer. If no call is open, as when an owed spinlock is freed, nothing happens.
 fn close<const P: usize, const J: usize, const OUT: usize>(
     state: &mut CoreState<'_, P, J, OUT>,
     status: Status,

@@ -10,8 +10,8 @@ ghost use Rattle.osacts.specs.Steps.{Steps};
 use osbase::{IsrRef, Mark};
 use osstate::CoreState;
 
-/// An interrupt: a job of one of the core's ISRs is pending from here on. It is lost if one is pending already (AUTOSAR SWS OS 4.x,
-/// section 7.6).
+/// Takes an interrupt: a job of the ISR becomes pending. If one is pending already, the interrupt is lost (AUTOSAR SWS
+/// OS 4.x, section 7.6).
 pub(crate) fn raise<const P: usize, const J: usize, const OUT: usize>(
     state: &mut CoreState<'_, P, J, OUT>,
     isr: IsrRef,

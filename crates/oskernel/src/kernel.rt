@@ -19,10 +19,10 @@ use osplan::Config;
 use osstate::CoreState;
 use std::marker::Model;
 
-// A core takes at most so many items.
+// The most items that a core may take.
 const MOST_ITEMS: u64 = 1 << 48;
 
-/// How many marks a step prints at most: the worst item is a tick, with all alarms and schedule tables of
+/// The most marks that a step prints. The worst item is a tick, with all alarms and schedule tables of
 /// a core.
 pub const STEP_MARKS: usize = 512;
 
@@ -44,8 +44,9 @@ impl<'a, const P: usize, const J: usize, const OUT: usize> Model for Kernel<'a, 
 }
 
 impl<'a, const P: usize, const J: usize, const OUT: usize> Kernel<'a, P, J, OUT> {
-    /// The kernel of a configured core that took no item. `OUT` is at least what the actions of its
-    /// alarms and schedule tables may fill at once, and 16 more: its own call, and fifteen replies.
+    /// The kernel of a configured core that has taken no item. The kernel's size has to be large enough for the core
+    /// (`fits`). `OUT` is at least what the actions of the core's alarms and schedule tables may fill at once, and
+    /// 16 more: one for its own call, and 15 for replies.
     pub fn new(config: &'a Config, core: CoreId) -> Self
         requires configured { IsSome (core_of config.now core) }
         requires priorities { IsTrue (list_all (λ (t : TaskValue). nat_lt t.priority P) (view_of config.now core).own.tasks) }
@@ -59,8 +60,8 @@ impl<'a, const P: usize, const J: usize, const OUT: usize> Kernel<'a, P, J, OUT>
         }
     }
 
-    /// Whether a kernel of this size is large enough for a core: exactly where `new` may be called. A core that is not configured
-    /// fits nowhere.
+    /// Whether a kernel of this size is large enough for the core, so that `new` may be called. False for a core that
+    /// is not configured.
     pub fn fits(config: &Config, core: CoreId) -> bool
         ensures value { result ≡ fits_in P J OUT (core_of config.now core) }
         ensures configured { IsTrue result → IsSome (core_of config.now core) }
@@ -72,7 +73,7 @@ impl<'a, const P: usize, const J: usize, const OUT: usize> Kernel<'a, P, J, OUT>
         osfit::fits(config, core, P, J, OUT)
     }
 
-    /// Where the core stands between off and ended.
+    /// The core's phase, from off to ended.
     pub fn phase(&self) -> Phase
         ensures state { result ≡ self.now.progress.phase }
         ensures reads { Reads (λ v h. phase_at v h) self.now result }
@@ -100,7 +101,8 @@ impl<'a, const P: usize, const J: usize, const OUT: usize> Kernel<'a, P, J, OUT>
         }
     }
 
-    // An open call goes before what is owed, and this before the core's next step.
+    // What the own turn of a live core would do once its outbox is empty. An open call comes before owed spinlocks, and
+    // owed spinlocks come before the core's next step.
     #[inline(always)]
     fn live_want(&self) -> Want
         ensures value { result ≡ call_or_want self.now.border.open_call (owed_or_want self.now.border.spins (go_on_want self.now.progress.course)) }
@@ -110,7 +112,7 @@ impl<'a, const P: usize, const J: usize, const OUT: usize> Kernel<'a, P, J, OUT>
         want_call(self.state.awaited_call(), owed)
     }
 
-    // The front of the outbox goes before anything else.
+    // If the outbox has a letter, the core posts the one at its front. Else it does what it would do otherwise, `want`.
     #[inline(always)]
     fn post_or(&self, want: Want) -> Want
         requires lock { IsTrue (is_want_known want) }
@@ -142,7 +144,7 @@ impl<'a, const P: usize, const J: usize, const OUT: usize> Kernel<'a, P, J, OUT>
         }
     }
 
-    // A live core that may look for a shutdown of all cores watches for it.
+    // A live core watches for a shutdown of all cores, if it may look for one. Else it watches for nothing.
     fn watch_halt(&self) -> Watch
         ensures { result ≡ watch_halt self.now }
     {
@@ -153,7 +155,7 @@ impl<'a, const P: usize, const J: usize, const OUT: usize> Kernel<'a, P, J, OUT>
         }
     }
 
-    /// The front of the outbox in its envelope, with the core that it is for.
+    /// The letter at the front of the outbox, in its envelope, and the core to which it goes.
     pub fn front(&self) -> Option<(CoreId, Envelope)>
         ensures state { result ≡ front_of self.now.border.outbox }
         ensures reads { Reads (λ v h. front_of (outbox h)) self.now result }
@@ -178,7 +180,8 @@ impl<'a, const P: usize, const J: usize, const OUT: usize> Kernel<'a, P, J, OUT>
         false
     }
 
-    /// Whether the core may serve: it may take one item more, schedules, and has a place for the reply to a request.
+    /// Whether the core may serve whichever message comes next: it may take one more item, is in a phase in which it
+    /// schedules, and has a place in its outbox for a reply.
     pub fn may_serve(&self) -> bool
         ensures state { result ≡ serves_in OUT self.now }
         ensures reads { Reads (λ v h. serves OUT v h) self.now result }
@@ -189,7 +192,7 @@ impl<'a, const P: usize, const J: usize, const OUT: usize> Kernel<'a, P, J, OUT>
         false
     }
 
-    /// Takes an item that may be taken, and prints its marks.
+    /// Takes an item that may be taken, does what follows from it, and dispatches. Adds the marks that this prints.
     #[inline(always)]
     pub fn step(&mut self, item: Item, marks: &mut Vec<Mark>)
         requires taken { IsTrue (takes_in OUT self.old item) }

@@ -5,7 +5,7 @@ ghost use Rattle.osstate.specs.Does.{service_entries, service_marks};
 ghost use Rattle.osplan.specs.Objects.{most_posts_per_tick};
 ghost use Rattle.osservice.specs.Terms.{MayAct, MayOperate};
 ghost use Rattle.oscript.specs.Calls.{call_of_op};
-ghost use Rattle.oskernel.specs.Operations.{acts_alone, acts_on_shared, acts_suspended, is_ignored_now, operates, operates_by, refused_now, refused_of};
+ghost use Rattle.oskernel.specs.Operations.{acts_alone, acts_on_shared, acts_while_suspended, is_ignored_now, operates, operates_by, refused_now, refused_of};
 ghost use Rattle.osacts.specs.{Runs.seen_in, Steps.Steps};
 
 use osbase::{Mark, ServiceId, Status};
@@ -14,9 +14,9 @@ use oscript::call_of_op;
 use osservice::{Step, refuse};
 use osstate::CoreState;
 
-/// One operation of the running job of one of the core's tasks or ISRs. While the job has suspended interrupts, nearly all
-/// services have no effect: those that answer a status answer E_OS_DISABLEDINT, others are ignored (AUTOSAR SWS OS 4.x,
-/// SWS_Os_00093).
+/// Does one operation of the running job of one of the core's tasks or ISRs. While the job has suspended interrupts,
+/// nearly all services have no effect: those that answer a status answer E_OS_DISABLEDINT, others are ignored (AUTOSAR
+/// SWS OS 4.x, SWS_Os_00093).
 pub(crate) fn operate<const P: usize, const J: usize, const OUT: usize>(
     state: &mut CoreState<'_, P, J, OUT>,
     step: Step,
@@ -34,42 +34,43 @@ pub(crate) fn operate<const P: usize, const J: usize, const OUT: usize>(
     }
 }
 
-// The operation is ignored now.
+// Whether the operation is ignored because its job has suspended interrupts.
 fn is_ignored_now<const P: usize, const J: usize, const OUT: usize>(
     state: &CoreState<'_, P, J, OUT>,
     step: Step,
 ) -> bool
     ensures { result ≡ is_ignored_now (seen_in state.now) step.runner step.op }
 {
-    shutdown::is_ignored(step.op) && state.is_locked(step.runner)
+    shutdown::is_ignored(step.op) && state.has_suspended_interrupts(step.runner)
 }
 
-// The service of the operation, if it is refused now.
+// The service of the operation, if it is refused because its job has suspended interrupts.
 fn refused_now<const P: usize, const J: usize, const OUT: usize>(
     state: &CoreState<'_, P, J, OUT>,
     step: Step,
 ) -> Option<ServiceId>
     ensures { result ≡ refused_now (seen_in state.now) step.runner step.op }
 {
-    if state.is_locked(step.runner) {
+    if state.has_suspended_interrupts(step.runner) {
         refused_of(step.op.service())
     } else {
         None
     }
 }
 
-// The service that is refused while its caller has suspended interrupts: each but those of spinlocks.
+// The service, if it is refused while interrupts are suspended: each but those of spinlocks.
 fn refused_of(service: Option<ServiceId>) -> Option<ServiceId>
     ensures { result ≡ refused_of service }
 {
     match service {
-        Some(service) if !acts_suspended(service) => Some(service),
+        Some(service) if !acts_while_suspended(service) => Some(service),
         _ => None,
     }
 }
 
-fn acts_suspended(service: ServiceId) -> bool
-    ensures { result ≡ acts_suspended service }
+// Whether the service takes effect even while its caller has suspended interrupts: those of spinlocks do.
+fn acts_while_suspended(service: ServiceId) -> bool
+    ensures { result ≡ acts_while_suspended service }
 {
     matches!(
         service,
@@ -77,7 +78,7 @@ fn acts_suspended(service: ServiceId) -> bool
     )
 }
 
-// The call that the operation is, or what its family does.
+// If the operation is a call, makes it, whichever core has the object. Else the family of the operation does it.
 #[inline(always)]
 fn do_operation<const P: usize, const J: usize, const OUT: usize>(
     state: &mut CoreState<'_, P, J, OUT>,
@@ -93,7 +94,8 @@ fn do_operation<const P: usize, const J: usize, const OUT: usize>(
     }
 }
 
-// An operation of the core alone: the families of services are tried in turn, those first that scripts use most.
+// Does an operation that is no call (`call_of_op`), by its family. Tries the families in turn, those first that scripts
+// use most.
 fn act_alone<const P: usize, const J: usize, const OUT: usize>(
     state: &mut CoreState<'_, P, J, OUT>,
     step: Step,
@@ -123,7 +125,7 @@ fn act_alone<const P: usize, const J: usize, const OUT: usize>(
     act_on_shared(state, step, marks);
 }
 
-// An operation on what all cores share, the spinlocks, or on the cores themselves.
+// Does an operation on spinlocks or on the cores themselves.
 fn act_on_shared<const P: usize, const J: usize, const OUT: usize>(
     state: &mut CoreState<'_, P, J, OUT>,
     step: Step,

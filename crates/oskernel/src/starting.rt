@@ -1,4 +1,4 @@
-//! What starts by itself.
+//! What is autostarted.
 
 ghost use Rattle.std.specs.Prelude.{◌≡◌, ◌==◌, ◌+◌, ◌<◌, ◌≤◌, ◌^◌, [], IsTrue, Some, false};
 ghost use Rattle.std.specs.List.{list_any, slice_get};
@@ -13,7 +13,8 @@ use osbase::{Agreement, AlarmRef, List, Mark, ModeId, TableRef, TaskRef};
 use osplan::{Alarm, Table, Task};
 use osstate::CoreState;
 
-/// The second gate is passed: the tasks of the agreed mode start by themselves, then its alarms, and then its schedule tables.
+/// The second gate is passed: the tasks of the agreed mode are autostarted, then its alarms, and then its schedule
+/// tables.
 pub(crate) fn start<const P: usize, const J: usize, const OUT: usize>(
     state: &mut CoreState<'_, P, J, OUT>,
     marks: &mut Vec<Mark>,

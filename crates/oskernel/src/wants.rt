@@ -10,15 +10,15 @@ use osbase::{Awaited, CoreId, CoreSet, Course, OpenCall, SpinlockId, Status};
 /// What a core wants of a spinlock.
 #[derive(Clone, Copy, Debug, PartialEq, Eq)]
 pub enum SpinWish {
-    /// GetSpinlock tries to take it, once more: it returns once it took the spinlock.
+    /// GetSpinlock tries once more to take the spinlock, and returns once it took it.
     Get(SpinlockId),
-    /// TryToGetSpinlock tries to take it: it returns by either answer.
+    /// TryToGetSpinlock tries to take the spinlock, and returns with either answer.
     Try(SpinlockId),
     /// The spinlock is given back.
     Free(SpinlockId),
 }
 
-/// What `Own` would do with a core.
+/// What a core's own turn would do.
 #[derive(Clone, Copy, Debug, PartialEq, Eq)]
 pub enum Want {
     /// Starts the next core of its start list.
@@ -44,7 +44,7 @@ pub enum Want {
 /// What a core's look at the board waits for.
 #[derive(Clone, Copy, PartialEq, Eq)]
 pub enum Watch {
-    /// That it is started.
+    /// That the core is started.
     On,
     /// That all started cores have entered StartOS.
     FirstGate,
@@ -60,6 +60,7 @@ pub enum Watch {
     Nothing,
 }
 
+/// The next core of the start list is started. If none is left, the core enters StartOS.
 pub(crate) fn start_or_enter(next: Option<CoreId>) -> Want
     ensures { result ≡ next_or_enter next }
 {
@@ -69,7 +70,7 @@ pub(crate) fn start_or_enter(next: Option<CoreId>) -> Want
     }
 }
 
-/// An open call goes before what the core would do without it.
+/// If a call is open, the core does what the call needs; else what it would do without one.
 pub(crate) fn want_call(open_call: Option<OpenCall>, want: Want) -> Want
     ensures { result ≡ want_call open_call want }
 {
@@ -79,7 +80,8 @@ pub(crate) fn want_call(open_call: Option<OpenCall>, want: Want) -> Want
     }
 }
 
-// A spinlock is requested or given back, ShutdownAllCores requests the shutdown of all cores, and a call that awaits a reply only waits.
+// What the core does for an open call: it requests the spinlock, gives it back, or requests the shutdown of all cores.
+// If the call awaits a reply, the core only waits.
 fn want_for(awaits: Awaited) -> Want
     ensures { result ≡ want_for awaits }
 {
@@ -95,7 +97,7 @@ fn want_for(awaits: Awaited) -> Want
     }
 }
 
-/// What is owed is freed before what the core would do without it.
+/// If the release of a spinlock is owed, the core frees that spinlock. Else it does what it would do otherwise, `want`.
 pub(crate) fn want_owed(owed: Option<SpinlockId>, want: Want) -> Want
     ensures { result ≡ option_map_or (λ l. Spin (Wish.Free l)) owed want }
 {
@@ -105,7 +107,7 @@ pub(crate) fn want_owed(owed: Option<SpinlockId>, want: Want) -> Want
     }
 }
 
-/// A core that is down or halted drains, whatever stimuli are left.
+/// A core goes on with its next stimulus. One that is down or halted drains, whatever stimuli are left.
 pub(crate) fn go_on_by(course: Course) -> Want
     ensures { result ≡ go_on_by course }
 {

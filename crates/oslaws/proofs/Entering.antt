@@ -13,7 +13,7 @@ isr-tells a b = grind (arith, same_isr-true a b)
 abbrev isrs : Keyed IsrRef IsrRef
 isrs = record { key = λ i. i; same = same_isr; tells = isr-tells; without = without_isr; without_none = λ i. refl; without_front = λ i x xs. refl }
 
--- In each history: the entered ISRs are each there once, and without the later ones they are those that have not left.
+-- Each entered ISR is in the list once, and without the `later` ones the list is that of the ISRs that have not left.
 record Right (h : History) : Type 0 where
   pub apart : Apart isrs (entered_isrs h)
   pub order : (later : List IsrRef) → outside isrs later (entered_isrs h) ≡ unleft later h

@@ -22,7 +22,7 @@ spin-tells a b = grind (arith, nat_tests, by-number a b)
 abbrev pub spins : Keyed GotSpinlock SpinlockId
 spins = record { key = λ g. g.lock; same = same_spinlock; tells = spin-tells; without = without_spinlock; without_none = λ l. refl; without_front = λ l g got. refl }
 
--- A core has each spinlock once, just those that were granted, in the order in which they were.
+-- A core has exactly the spinlocks that were granted, each once, in the order in which they were granted.
 pub record Has (got : List GotSpinlock) (granted : SpinlockId → Bool) (order : List SpinlockId → List SpinlockId) : Type 0 where
   pub apart : Apart spins got
   pub each : (l : SpinlockId) → has_spinlock l got ≡ granted l
@@ -32,7 +32,7 @@ abbrev pub Right : History → Type 0
 Right h = Has (got_spinlocks h) (λ (l : SpinlockId). is_granted l h) (λ (freed : List SpinlockId). unfreed freed h)
 
 module _ {got : List GotSpinlock} {granted : SpinlockId → Bool} {order : List SpinlockId → List SpinlockId} (has : Has got granted order) where
-  -- whoever has them
+  -- who has them makes no difference
   owed-has : (f : GotSpinlock → GotSpinlock) → ((g : GotSpinlock) → (f g).lock ≡ g.lock) → Has (map f got) granted order
   owed-has f keeps = record {
     apart = apart-map spins f keeps got has.apart;
@@ -58,7 +58,7 @@ module _ {got : List GotSpinlock} {granted : SpinlockId → Bool} {order : List 
     ordered = λ freed. grind (arith, has.each k, has.ordered freed);
   }
 
-  -- by the call that awaits it
+  -- a grant adds the spinlock by the call that awaits it
   called-has : (awaits : OpenCall → Bool) (k : SpinlockId) (calling : Option OpenCall) → option_map_or awaits calling false ≡ true
       → Has (with_spinlock k calling got) (λ (l : SpinlockId). same_spinlock k l || granted l) (λ (freed : List SpinlockId). one_more (is_one_of k freed || granted k) k (order freed))
   called-has awaits k None is = absurd (false≢true is)
@@ -82,7 +82,7 @@ took v h (Item.Freed k) may right = freed-has right k
 took v h (Item.Halt core status) may right = owed-has right owed (λ g. refl)
 took v h i may right = right
 
--- What each entry keeps, items that may be taken in turn keep.
+-- Items that may be taken in turn keep a property that each entry keeps.
 pub always : (P : History → Type 0) → ((m : Mark) (h : History) → P h → P (Printed m ∷ h)) → ((n : Note) (h : History) → P h → P (Noted n ∷ h)) → (v : View)
     → ((h : History) (i : Item) → admits outbox_size (state_of v h) i ≡ true → P h → P (Took i ∷ h)) → (items : List Item) (h next : History) → solo_from v h items ≡ Some next → P h → P next
 always P marks notes v takes_item [] h next is p = subst P (ap (λ (o : Option History). unwrap_or o h) is) p

@@ -29,13 +29,13 @@ without-same : (k l : SpinlockId) (got : List GotSpinlock) → same_spinlock k l
 without-same k l [] other = refl
 without-same k l (g ∷ got) other = grind (arith, nat_tests, without-same k l got, other)
 
--- One more, by the call that awaits it, unless the core has it: then it was granted before.
+-- A spinlock is added by the call that awaits it, unless the core has the spinlock: then it was granted before.
 with-holder : (k l : SpinlockId) (got : List GotSpinlock) (calling : Option OpenCall) (awaits : OpenCall → Bool) (has granted : Bool) (before : Option Runner) → option_map_or awaits calling false ≡ true
     → has_spinlock k got ≡ has → (same_spinlock k l ≡ true → has ≡ granted) → (granted ≡ true → holder_in l got ≡ before) → (same_spinlock k l || granted) ≡ true
     → holder_in l (with_spinlock k calling got) ≡ cond (same_spinlock k l && not granted) (option_map (λ (call : OpenCall). call.runner) calling) before
 with-holder k l got calling awaits has granted before awaited is alike same known = grind (arith, awaited, is, alike, same, known)
 
--- The end of a job of this runner gives up what it has.
+-- A job of this runner gives up its spinlocks when it ends.
 module _ (r : Runner) where
   abbrev given_up : Option Runner → Option Runner
   given_up o = cond (option_map_or (same_runner r) o false) None o

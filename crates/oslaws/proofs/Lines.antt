@@ -2,18 +2,18 @@
 use Rattle.std.proofs.Common.{◌≡◌, ◌==◌, ◌&&◌, ◌||◌, ◌<◌, ◌+◌, ℕ, zero, suc, nat_lt, Bool, true, false, not, Option, is_none, map, get_or, ap, ◌∙◌, refl, arith}
 use Rattle.std.specs.Option.{option_map_or}
 use Rattle.std.proofs.lemmas.Bool.{and_parts, ltb-true}
-use Rattle.osbase.specs.{declared.statuses.Status.Status, declared.references.CoreId.CoreId, declared.references.SpinlockId.SpinlockId, declared.messages.Message.Message, declared.items.Item.Item, declared.histories.OpenCall.OpenCall, declared.histories.Phase.Phase, declared.limits.TheConstants.CORES, Phases.is_scheduling, Phases.stands_in, Sets.core_ids, Sets.has_core, Sets.numbers_from, Spins.got_spinlocks, Spins.newest_owed, Spins.same_spinlock}
+use Rattle.osbase.specs.{declared.statuses.Status.Status, declared.references.CoreId.CoreId, declared.references.SpinlockId.SpinlockId, declared.messages.Message.Message, declared.items.Item.Item, declared.histories.OpenCall.OpenCall, declared.histories.Phase.Phase, declared.limits.TheConstants.CORES, Phases.is_scheduling, Phases.same_phase, Sets.core_ids, Sets.has_core, Sets.numbers_from, Spins.got_spinlocks, Spins.newest_owed, Spins.same_spinlock}
 use Rattle.osbase.specs.History.{History, open_call, outbox, received_count, same_core, started_cores}
 use Rattle.osplan.specs.{Stimuli.knows_stimulus, View.View}
 use Rattle.osstate.specs.{Readings.phase_at, State.state_of}
 use Rattle.osawait.specs.Free.{is_get}
 use Rattle.osawait.specs.Messages.{is_awaited}
 use Rattle.osadmit.specs.Admission.{admits, asks_halt, is_front_for, is_release_of, is_start_answer}
-use Rattle.oslaws.specs.Takes.{admits_by, awaits, has_no_call, has_posted_all, is_answer_for, is_at, is_expected, is_next_entry, is_up, owes_nothing}
+use Rattle.oslaws.specs.Takes.{admits_by, awaits, has_no_call, has_posted_all, is_answer_for, is_at, is_expected, is_next_to_start, is_up, owes_nothing}
 
 -- ---- the phases
 
-live-schedules : (p : Phase) → is_scheduling p ≡ (stands_in Phase.Live p || stands_in Phase.Drained p || stands_in Phase.Closing p)
+live-schedules : (p : Phase) → is_scheduling p ≡ (same_phase Phase.Live p || same_phase Phase.Drained p || same_phase Phase.Closing p)
 live-schedules p = grind arith
 
 -- ---- chains of conditions
@@ -61,7 +61,7 @@ halt-same asked up settled o = grind arith
 -- ---- the lines
 
 pub lines : (places : ℕ) (v : View) (h : History) (item : Item) → admits places (state_of v h) item ≡ admits_by places v h item
-lines places v h (Item.Began core status) = ap (λ (b : Bool). (is_at Phase.Boot v h && is_next_entry v h core) && b) (answer-same v core status)
+lines places v h (Item.Began core status) = ap (λ (b : Bool). (is_at Phase.Boot v h && is_next_to_start v h core) && b) (answer-same v core status)
 lines places v h (Item.Stim stimulus) =
     stimulus-flat (is_at Phase.Live v h) (knows_stimulus v.own stimulus) (has_no_call h) (owes_nothing h) (is_up h) (has_posted_all h)
 lines places v h (Item.Posted core) = ap (λ (b : Bool). b && is_front_for core (outbox h)) (live-schedules (phase_at v h))

@@ -1,8 +1,8 @@
--- A list that has each key once: one with the key that is taken out, and what is left without several keys.
+-- A list that has each key once: the list without one key, and the list without several keys.
 use Rattle.std.proofs.Common.{◌≡◌, ◌≢◌, ◌⊎◌, ◌&&◌, Bool, true, false, not, cond, List, [], ◌∷◌, map, refl, ◌∙◌, arith}
 use Rattle.std.specs.{Bool.⊤, List.list_any}
 
--- What tells one key from another, and a list without the first element of a key.
+-- What distinguishes one key from another, and a list without the first element of a key.
 pub record Keyed (A K : Type 0) : Type 0 where
   pub key : A → K
   pub same : K → K → Bool
@@ -19,7 +19,7 @@ module _ {A K : Type 0} (d : Keyed A K) where
   Apart [] = ⊤
   Apart (x ∷ xs) = (is_in (d.key x) xs ≡ false) × Apart xs
 
-  -- The keys that are none of these.
+  -- The keys of a list that are none of these.
   abbrev pub outside : List K → List A → List K
   outside ks [] = []
   outside ks (x ∷ xs) = cond (list_any (d.same (d.key x)) ks) (outside ks xs) (d.key x ∷ outside ks xs)

@@ -13,13 +13,13 @@ none-left : (ns : List ℕ) → without_all ns [] ≡ []
 none-left [] = refl
 none-left (n ∷ ns) = none-left ns
 
--- One that was taken after those is given back by the first release of it, or stays in front.
+-- A resource that was taken after those is given back by its first release, or stays in front.
 newest-first : (ns : List ℕ) (x : HeldResource) (held : List HeldResource)
     → without_all ns (x ∷ held) ≡ cond (is_among x.index ns) (without_all (without_one x.index ns) held) (x ∷ without_all ns held)
 newest-first [] x held = refl
 newest-first (n ∷ ns) x held = grind (arith, newest-first ns x (without_resource n held))
 
--- With releases that are newer than the history, what is left is what the job holds without those.
+-- If releases are newer than the history, what is left is what the job holds without the resources that they release.
 left-of : (script : List Op) (r : Runner) (h : History) (ns : List ℕ) → without_all ns (row_of script r h).held ≡ unreleased r ns (since_end r h)
 left-of script r [] ns = none-left ns
 left-of script r (e ∷ h) ns =

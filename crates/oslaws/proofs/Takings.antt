@@ -14,7 +14,7 @@ held-without : (k n : ℕ) (held : List HeldResource) → Apart resources held �
 held-without = in-without resources
 
 module _ (script : List Op) (r : Runner) where
-  -- A job holds each resource once, and those that it took last.
+  -- A job holds each resource at most once, and exactly those that are taken.
   record AsSaid (h : History) : Type 0 where
     pub apart : Apart resources (row_of script r h).held
     pub each : (n : ℕ) → is_held n (row_of script r h).held ≡ is_taken r n h

@@ -9,15 +9,17 @@ use Rattle.osbase.specs.Interrupts.{entered_isrs, isr_jobs, oldest_entered, runn
 abbrev pub is_isr_of : IsrRef → List IsrRef → Bool
 is_isr_of i isrs = list_any (same_isr i) isrs
 
--- The ISRs that were entered and have not left since, the one that was entered last first. The entries are read from the newest back,
--- with the ISRs that a later entry enters or lets leave. [OSEK/VDX OS 2.2.3, section 6]
+-- The ISRs that were entered and have not left since, the one that was entered last first. The entries are read from
+-- the newest back. `later` has the ISRs that newer entries enter or leave, whose older entries count no more.
+-- [OSEK/VDX OS 2.2.3, section 6]
 abbrev pub unleft : List IsrRef → History → List IsrRef
 unleft later [] = []
 unleft later (Printed (Mark.IsrEntered i) ∷ h) = if is_isr_of i later then unleft (i ∷ later) h else i ∷ unleft (i ∷ later) h
 unleft later (Printed (Mark.IsrLeft i) ∷ h) = unleft (i ∷ later) h
 unleft later (e ∷ h) = unleft later h
 
--- The running job is the oldest of the ISR that was entered last and has not left, or else the current one of a task.
+-- The entered ISRs are those that were entered and have not left since. The running job is the oldest job of the one
+-- that was entered last, or else the current task's.
 -- [OSEK/VDX OS 2.2.3, section 4.2 and 6]
 pub record RunsTheLastEntered (h : History) : Type 0 where
   pub isrs : entered_isrs h ≡ unleft [] h

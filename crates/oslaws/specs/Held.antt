@@ -6,16 +6,18 @@ use Rattle.osbase.specs.History.{History, Noted, ResourceOccupied, ResourceRelea
 use Rattle.oscript.specs.{declared.Op.Op, Runners.row_of}
 use Rattle.oslaws.specs.Jobs.{since_end}
 
--- The number is among these, and these without one of it.
+-- Whether the number is in the list.
 abbrev pub is_among : ℕ → List ℕ → Bool
 is_among n numbers = list_any (λ (m : ℕ). n == m) numbers
 
+-- The list without the first occurrence of the number.
 abbrev pub without_one : ℕ → List ℕ → List ℕ
 without_one n [] = []
 without_one n (m ∷ numbers) = if n == m then numbers else m ∷ without_one n numbers
 
--- The runner's takings that no later release gave back, the newest first. The entries are read from the newest back, with the releases
--- that were met so far: each gives back the next older taking of its resource. [OSEK/VDX OS 2.2.3, section 8.2]
+-- The resources that the runner took and no later release gave back, the newest first. The entries are read from the
+-- newest back. `released` has the numbers of resources that newer entries release: each cancels the next older taking
+-- of its resource. [OSEK/VDX OS 2.2.3, section 8.2]
 abbrev pub unreleased : Runner → List ℕ → History → List HeldResource
 unreleased r released [] = []
 unreleased r released (Noted (ResourceReleased q n) ∷ h) = unreleased r (if same_runner q r then n ∷ released else released) h
@@ -25,7 +27,8 @@ unreleased r released (Noted (ResourceOccupied q x) ∷ h) =
     else unreleased r released h
 unreleased r released (e ∷ h) = unreleased r released h
 
--- What the oldest job of the runner holds is what it took since the last end and did not release, whatever its script.
+-- The oldest job of the runner holds what the runner took, and did not release, since its last job ended. This holds
+-- whatever the runner's script is.
 -- [OSEK/VDX OS 2.2.3, section 8.2; AUTOSAR SWS OS 4.x, SWS_Os_00070, that an end gives all back]
 pub record HoldsWhatItTook (r : Runner) (h : History) : Type 0 where
   pub held : (script : List Op) → (row_of script r h).held ≡ unreleased r [] (since_end r h)

@@ -1,9 +1,9 @@
--- What a runner's job has done: the entries since the last of its jobs ended.
+-- What a runner's job has done: the entries since the last job of that runner ended.
 use Rattle.std.specs.Prelude.{ℕ, suc, Bool, false, if◌then◌else◌, [], ◌∷◌}
 use Rattle.osbase.specs.{declared.marks.Mark.Mark, declared.references.Runner.Runner}
 use Rattle.osbase.specs.History.{History, Entry, Printed, same_runner}
 
--- By the entry a job of the runner ends: of a task by its termination, of an ISR by its return.
+-- The entry ends a job of the runner: a task's job by its termination, an ISR's by its return.
 -- [OSEK/VDX OS 2.2.3, section 4.3 and 6]
 abbrev pub ends_job : Runner → Entry → Bool
 ends_job r (Printed (Mark.Terminated t)) = same_runner (Runner.Task t) r

@@ -16,12 +16,13 @@ is_granted l (e ∷ h) = is_granted l h
 abbrev pub is_one_of : SpinlockId → List SpinlockId → Bool
 is_one_of l locks = list_any (λ (k : SpinlockId). same_spinlock l k) locks
 
--- One more granted spinlock, unless the grant counts for nothing.
+-- The list with one more granted spinlock, unless the grant counts for nothing.
 abbrev pub one_more : Bool → SpinlockId → List SpinlockId → List SpinlockId
 one_more is_void l locks = if is_void then locks else l ∷ locks
 
--- The spinlocks that an item granted and no later one freed, the newest first. The entries are read from the newest back, with those
--- that were freed later. A grant of a spinlock that the core has already counts for nothing.
+-- The spinlocks that an item granted and no later one freed, the newest first. The entries are read from the newest
+-- back. `freed` has the spinlocks that newer items free. A grant of a spinlock that the core has already counts for
+-- nothing.
 -- [AUTOSAR SWS OS 4.x, GetSpinlock, TryToGetSpinlock and ReleaseSpinlock]
 abbrev pub unfreed : List SpinlockId → History → List SpinlockId
 unfreed freed [] = []
@@ -30,7 +31,8 @@ unfreed freed (Took (Item.Tried l true) ∷ h) = one_more (is_one_of l freed || 
 unfreed freed (Took (Item.Freed l) ∷ h) = unfreed (l ∷ freed) h
 unfreed freed (e ∷ h) = unfreed freed h
 
--- The core has the spinlocks that an item granted and no later one freed, in that order, whichever job requested each.
+-- The core has the spinlocks that an item granted and no later one freed, the newest first, whichever jobs requested
+-- them. So it has a spinlock exactly if `is_granted` says so.
 -- [AUTOSAR SWS OS 4.x, GetSpinlock, TryToGetSpinlock and ReleaseSpinlock]
 pub record HasWhatWasGranted (h : History) : Type 0 where
   pub locks : map (λ (g : GotSpinlock). g.lock) (got_spinlocks h) ≡ unfreed [] h

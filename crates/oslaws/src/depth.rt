@@ -3,9 +3,9 @@
 ghost use Rattle.osbase.specs.{History.History, declared.references.Runner.Runner};
 ghost use Rattle.oslaws.specs.Depth.{CountsSuspensions};
 
-/// If a job never resumes interrupts more often than it suspended them, and never has more than 255 suspensions, it has them suspended
-/// as often as it suspended and did not resume them since its runner's last job ended (OSEK/VDX OS 2.2.3, section 13.3.2.3 and
-/// 13.3.2.4). In any case that is 255 at most.
+/// A job's depth is its suspensions of interrupts less its resumptions, since the last job of its task or ISR ended
+/// (OSEK/VDX OS 2.2.3, section 13.3.2.3 and 13.3.2.4). This holds if the resumptions are never more than the
+/// suspensions, and the suspensions never over 255 more than the resumptions. In any case the depth is 255 at most.
 pub fn suspensions_are_counted()
     ensures { (r : Runner) (h : History) → CountsSuspensions r h }
 {}

@@ -1,7 +1,7 @@
 //! Laws of every history: what a core's history means, in the standard's words.
 //!
-//! A definition that follows the kernel step by step is judged step by step. A law says the same of every history at once, so a
-//! reviewer reads the law instead.
+//! A definition that follows the kernel step by step is judged step by step. A law says the same of every history at
+//! once, so a reviewer reads the law instead.
 #![tactic(auto)]
 
 pub mod depth;

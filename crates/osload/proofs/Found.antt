@@ -1,4 +1,4 @@
--- The numbers of a text within their limits are those of its plan, and what its names find there.
+-- If a text's numbers keep their limits, its plan has the same numbers. The text's names refer to objects of the plan.
 use Rattle.std.proofs.Common.{◌≡◌, ℕ, ◌≤◌, ◌<◌, Bool, true, eqb, List, [], ◌∷◌, length, map, get_or, Option, Some, None, is_some, option_map, refl, sym, ap, ◌∙◌, subst, arith, zero-add}
 use Rattle.std.specs.List.{All, AllByRecursion, enumerate_from, find, flat_map, list_all, slice_get}
 use Rattle.std.proofs.lemmas.Bool.{Decides.nat_tests, le-leb, lt-ltb, and_parts, leb-true}
@@ -45,37 +45,37 @@ numbers-kept t h = map-same (λ (c : Core). number_of c.id) (core_plan (declarat
 pub bytes-equal : (a b : Option ℕ) → same_number a b ≡ true → eqb (byte_of a) (byte_of b) ≡ true
 bytes-equal a b same = grind (arith, nat_tests)
 
--- ---- what is so of each object that a text declares
+-- ---- what holds of each object that a text declares
 
--- of each of the lists that are joined,
+-- If `P` holds of the elements of each list, it holds of the elements of the joined lists.
 flat-are : {X Y : Type 0} (P : Y → Type 0) (Q : X → Type 0) (f : X → List Y) → ((x : X) → Q x → All P (f x)) → (xs : List X) → All Q xs → All P (flat_map f xs)
 flat-are P Q f each [] has = All-nil P
 flat-are P Q f each (x ∷ xs) has = All-append P (f x) (flat_map f xs) (each x (All-head Q x xs has)) (flat-are P Q f each xs (All-tail Q x xs has))
 
 module _ (P : Declaration → Type 0) where
-  -- of the objects of a kind, by their indexes,
+  -- If `P` holds of the object at each index, it holds of all objects of the kind.
   each-is : (id : CoreId) (kind : ObjectKind) (objects : List Named) → ((i : ℕ) (object : Named) → slice_get objects i ≡ Some object → P (declaration id kind (i, object))) → All P (declared_as id kind objects)
   each-is id kind objects each = All-map P (declaration id kind) (enumerate_from 0 objects) (λ i d lt.
       let low : i < length objects = omega (arith, length-enumerate_from 0 objects) in
       rw (get_or-enumerate_from 0 objects i d low, zero-add i) (each i (get_or objects i d.1) (slice_get-get_or objects i d.1 low)))
 
-  -- of all kinds,
+  -- If `P` holds of the objects of each kind, it holds of the objects of all kinds.
   kinds-are : (id : CoreId) (objects : ObjectKind → List Named) → ((kind : ObjectKind) (i : ℕ) (object : Named) → slice_get (objects kind) i ≡ Some object → P (declaration id kind (i, object))) → (kinds : List ObjectKind)
       → All P (flat_map (λ (kind : ObjectKind). declared_as id kind (objects kind)) kinds)
   kinds-are id objects each kinds = flat-are P (λ _. Unit {0}) (λ (kind : ObjectKind). declared_as id kind (objects kind)) (λ kind _. each-is id kind (objects kind) (each kind)) kinds (λ _ _ _. tt)
 
-  -- and of all cores, and what these have in common.
+  -- If `P` holds of each core's objects and of those that all cores share, it holds of all the text's objects.
   all-are : (Q : CoreText → Type 0) → ((core : CoreText) → Q core → (kind : ObjectKind) (i : ℕ) (object : Named) → slice_get (objects_in kind core) i ≡ Some object → P (declaration (id_of core) kind (i, object))) → (t : ConfigText)
       → ((kind : ObjectKind) (i : ℕ) (object : Named) → slice_get (common_in kind t) i ≡ Some object → P (declaration NOBODY kind (i, object))) → AllByRecursion Q t.cores → All P (declarations t)
   all-are Q each t common has =
       All-append P (flat_map (common_of t) COMMON) (flat_map declared_by t.cores) (kinds-are NOBODY (λ kind. common_in kind t) common COMMON)
       (flat-are P Q declared_by (λ core here. kinds-are (id_of core) (λ kind. objects_in kind core) (each core here) KINDS) t.cores (All-from_recursion Q t.cores has))
 
-  -- So it is of the one that is found.
+  -- So `P` holds of an object that is found.
   found-is : (p : Declaration → Bool) (objects : List Declaration) (d : Declaration) → All P objects → find p objects ≡ Some d → P d
   found-is p objects d all found = let at = sym (find_at p objects) ∙ found in subst P (get_or_from_slice_get objects _ d d at) (all _ d (slice_get_within objects _ d at))
 
--- ---- each object is there
+-- ---- each declared object is one of the plan
 
 abbrev object_of : Declaration → Object
 object_of d = record { kind = d.kind; place = record { core = d.core; index = byte_of (Some d.index) } }
@@ -93,7 +93,7 @@ module _ (t : ConfigText) where
   common-many : (kind : ObjectKind) → length (common_in kind t) ≡ length (common_names kind (plan_of t))
   common-many kind = grind (arith, length-map)
 
-  -- What is so of each core that is found.
+  -- If a statement holds of each core that is found and is within its limits, it holds of all cores of a list of such.
   pub each-core : (Q : CoreText → Type 0) → ((core : CoreText) → IsFound (plan_of t).cores (planned core) → is_inside (declarations t) core ≡ true → Q core) → (cores : List CoreText)
       → AllByRecursion (IsFound (plan_of t).cores) (map planned cores) → list_all (is_inside (declarations t)) cores ≡ true → AllByRecursion Q cores
   each-core Q each [] found inside = tt
@@ -108,11 +108,11 @@ module _ (t : ConfigText) where
 
 -- ---- what a name refers to
 
--- The object that has a name which has a place.
+-- A name that has a place is the name of a declared object.
 declared-as : (objects : List Declaration) (kind : ObjectKind) (name : List ℕ) → is_some (place_of objects kind name) ≡ true → (d : Declaration) × (find (has_name name) objects ≡ Some d) × (same_kind d.kind kind ≡ true)
 declared-as objects kind name known = grind arith
 
--- A name that has a place stands for an object of the plan.
+-- A name that has a place refers to an object of the plan.
 pub place-known : (t : ConfigText) → AllByRecursion (λ core. IsFound (plan_of t).cores (core_plan (declarations t) core)) t.cores → core_of (plan_of t) NOBODY ≡ None → (kind : ObjectKind) (name : List ℕ) (place : Place) → place_of (declarations t) kind name ≡ Some place
     → is_object (plan_of t) (record { kind = kind; place = place }) ≡ true
 place-known t found alone kind name place is =
@@ -131,7 +131,7 @@ pub record HasCounters (plan : Plan) (text : CoreText) : Type 0 where
   pub same : map limits.counter_sizes core.counters ≡ map counter_sizes text.counters
   pub within : are_counters_within (map counter_sizes text.counters) ≡ true
 
--- What is declared as a counter has the numbers of the configuration's counter at its place, which are within their limits.
+-- A declared counter has the numbers of the configuration's counter at its place. They are within their limits.
 abbrev IsSized : Plan → Declaration → ObjectKind → Type 0
 IsSized plan d ObjectKind.Counter = (option_map limits.counter_sizes (counter_in plan (counter_of (object_of d).place)) ≡ Some (declared_sizes d)) × (is_counter_within (declared_sizes d) ≡ true)
 IsSized plan d kind = Unit {0}

@@ -1,4 +1,5 @@
--- What a text without a fault means is a configuration with the text's numbers: it keeps the limits, and a text can say it.
+-- What a text without a fault means is a configuration with the text's numbers: it keeps the limits, and is
+-- representable.
 use Rattle.std.proofs.Common.{◌≡◌, ℕ, ◌&&◌, ◌||◌, ◌≤◌, Bool, true, cond, count_by, sum_by, List, [], ◌∷◌, length, map, Option, Some, None, is_some, option_and_then, option_map, unwrap_or, refl, sym, ap, ◌∙◌, arith}
 use Rattle.std.specs.{List.AllByRecursion, List.list_all, List.sum, Option.option_map_or, Str.bytes_eq}
 use Rattle.std.proofs.lemmas.Bool.{Decides.nat_tests, and_from, and_parts, cond_both}
@@ -20,7 +21,7 @@ use Rattle.osschema.specs.Shape.{common_in, has_named_common, has_named_objects,
 use Rattle.osschema.proofs.Lists.{map-same, list_all-by, map-back, all-apart, all-same, list_all-total, list_any-by}
 use Rattle.osschema.proofs.{Alone.alone_if, Naming.names-text}
 use Rattle.osvalidate.specs.Words.{Alarm, AlarmText, ConfigText, Core, CoreId, CoreMode, CoreText, CounterText, Declaration, ExpiryPoint, Isr, IsrText, Named, ObjectKind, Op, Place, Plan, PointText, RemoteCall, ResourceText, Spinlock, SpinlockText, TableStart, TableStartText, TableText, Task, TaskText}
-use Rattle.osvalidate.specs.Check.{alarm_modes, alarm_sizes, are_known, are_masks, are_near, are_operations, are_ordered, are_timed, core_scripts, core_sizes, counter_sizes, is_core_known, is_core_mode_known, has_local_references, is_core_script, is_each_once, is_isr_script}
+use Rattle.osvalidate.specs.Check.{alarm_modes, alarm_sizes, are_known, are_masks, have_local_references, are_operations, are_ordered, are_timed, core_scripts, core_sizes, counter_sizes, is_core_known, is_core_mode_known, has_local_references, is_core_script, is_each_once, is_isr_script}
 use Rattle.osvalidate.specs.Check.{is_mode_known, is_operation_local, is_script, is_script_masked, is_script_local, is_spinlock_known, is_task_script, is_text_within, is_unreserved, isr_sizes, numbers_of, point_sizes, resource_sizes, sizes_of, table_modes, table_sizes, task_sizes, tests_of}
 use Rattle.osvalidate.specs.Verdict.{action_verdict, alarm_verdict, core_verdict, point_verdict, table_verdict, isr_verdict, task_verdict}
 use Rattle.osvalidate.specs.{Action.action_of, Operation.is_operation, Operation.op_of, Operation.operations_of, Posted.most_posts_of_table, Posted.is_posting, Posted.posted_at, Posted.most_posts_per_tick}
@@ -43,7 +44,7 @@ module _ (objects : List Declaration) (apart : are_distinct (names_of objects) �
   abbrev planned : Core
   planned = core_plan objects core
 
-  -- Each name with an object is that object's alone.
+  -- Each name that has an object belongs to that object alone.
   alone-everywhere : place_alone objects ≡ place_of objects
   alone-everywhere = fun_ext (λ kind. fun_ext (λ name. grind (arith, alone_if objects name apart)))
 
@@ -83,12 +84,12 @@ table-limits s within timed =
     let last : last_offset s.points ≤ 1000000000 = grind (arith, nat_tests) in
     record { duration = grind arith; offsets = offsets-low 1000000000 s.points (grind arith) last; start = (and_parts _ (option_map_or (is_table_start_within s) s.auto true) within).1 }
 
--- ---- the plan of a text has the text's numbers, those of the counters that alarms and tables name too
+-- ---- the plan of a text has the text's numbers, also those of the counters that alarms and tables name
 
 alarm-sized : (plan : Plan) (objects : List Declaration) (id : CoreId) (alarm : AlarmText) → NamedCounter plan objects alarm.counter (counter_ref objects id alarm.counter) → is_alarm_within (alarm_sizes objects alarm) ≡ true → limits.alarm_sizes (counter_in plan) (alarm_plan objects id alarm) ≡ alarm_sizes objects alarm
 alarm-sized plan objects id alarm counter within = grind (arith, nat_tests)
 
--- Parts that are right have the sizes of their texts, where these pass a test.
+-- The plans of parts that are right have the sizes of their texts, if these sizes pass a test.
 sizes-same : {X Y Z : Type 0} (f : Y → Z) (g : X → Y) (h : X → Z) (right : X → Bool) (p : Z → Bool) → ((x : X) → right x ≡ true → p (h x) ≡ true → f (g x) ≡ h x) → (xs : List X) → list_all right xs ≡ true → list_all p (map h xs) ≡ true → map f (map g xs) ≡ map h xs
 sizes-same f g h right p same xs rights all =
     map-same f g h (λ x. right x && p (h x)) (λ x e. let both = and_parts (right x) (p (h x)) e in same x both.0 both.1) xs (all-both right (λ x. p (h x)) xs rights (sym (list_all-map p h xs) ∙ all))
@@ -104,7 +105,7 @@ table-sized plan objects id table counter limit =
       counter.declared,
     ) (grind (arith, nat_tests, limit.duration))
 
--- ---- the scripts, the alarms and the tables of a text's plan stay on their cores as the text's do
+-- ---- the scripts, the alarms and the tables of a text's plan have local references where the text's have
 
 near-ops : (objects : List Declaration) (id : CoreId) (texts : List (List ℕ)) → list_all is_operation texts ≡ true → list_all (limits.is_local_to id) (map (op_of objects) texts) ≡ list_all (is_operation_local objects id) texts
 near-ops objects id = all-same (limits.is_local_to id) (op_of objects) (is_operation_local objects id) is_operation (named-same (place_of objects) (limits.is_local_to id) (stays-alike objects id))
@@ -122,8 +123,8 @@ near-core objects core formed =
       list_all-map (limits.is_table_local id) (table_plan objects id) core.tables,
     ) refl
 
--- The plan's scripts stay on their cores where the text's do, if these are in form and in range, and so do the counters of its alarms
--- and tables.
+-- If a text's scripts are in form and in range, the references in its plan are local to their cores exactly where
+-- those in the text are.
 pub near_kept : (objects : List Declaration) (cores : List CoreText) → list_all (is_core_script objects) cores ≡ true → list_all limits.has_local_references (map (core_plan objects) cores) ≡ list_all (has_local_references objects) cores
 near_kept objects = all-same limits.has_local_references (core_plan objects) (has_local_references objects) (is_core_script objects) (near-core objects)
 
@@ -136,7 +137,7 @@ pub record Faultless (t : ConfigText) : Type 0 where
   pub unreserved : list_all is_unreserved t.modes ≡ true
   pub master : has_number (numbers_of t.cores) t.master ≡ true
   pub spinlocks : list_all (is_spinlock_known (declarations t)) t.spinlocks ≡ true
-  pub near : are_near t ≡ true
+  pub near : have_local_references t ≡ true
   pub ordered : are_ordered t ≡ true
   pub timed : are_timed t ≡ true
   pub formed : are_operations t ≡ true
@@ -148,22 +149,22 @@ all-pass a b c d e f g h none = grind arith
 
 faultless : (t : ConfigText) → failing (tests_of t) ≡ [] → Faultless t
 faultless t none =
-    let passed = all-pass (is_text_within t) (is_each_once t) (are_known t) (are_near t) (are_ordered t) (are_masks t) (are_timed t) (are_operations t) none in
+    let passed = all-pass (is_text_within t) (is_each_once t) (are_known t) (have_local_references t) (are_ordered t) (are_masks t) (are_timed t) (are_operations t) none in
     search (of-each (core_verdict (declarations t)) t.cores, arith)
 
--- ---- the parts of the plan: their numbers are the text's, what each names is there, and a text can say it
+-- ---- the parts of the plan: their numbers are the text's, what each names exists, and each is representable
 
--- The plans of what has names in form and is right.
+-- If parts of a text have names in form and are right, their plans pass both tests.
 each-kept : {X Y : Type 0} (named right : X → Bool) (plan : X → Y) (p q : Y → Bool) → ((x : X) → named x ≡ true → right x ≡ true → (p (plan x) && q (plan x)) ≡ true) → (xs : List X) → list_all named xs ≡ true → list_all right xs ≡ true
     → (list_all p (map plan xs) && list_all q (map plan xs)) ≡ true
 each-kept named right plan p q each xs names rights =
     all-apart p q (map plan xs) (list_all-by (λ x. named x && right x) (λ y. p y && q y) plan (λ x h. let both = and_parts (named x) (right x) h in each x both.0 both.1) xs (all-both named right xs names rights))
 
--- An alarm, or a table: its counter, what it does, its modes, and its name.
+-- An alarm or a table passes both tests if its counter, its actions, its modes and its name pass.
 acting-kept : (counter known modes name said : Bool) → counter ≡ true → (known && said) ≡ true → modes ≡ true → name ≡ true → ((counter && known && modes) && (name && said)) ≡ true
 acting-kept counter known modes name said c k m n = grind arith
 
--- What the sizes of a core that is within its limits say, one by one.
+-- The tests that the sizes of a core within its limits pass, one by one.
 pub record CoreParts (s : CoreSizes) : Type 0 where
   pub number : is_between 0 15 s.number ≡ true
   pub start : list_all is_start s.start ≡ true
@@ -177,11 +178,11 @@ pub record CoreParts (s : CoreSizes) : Type 0 where
 pub core-parts : (s : CoreSizes) → is_core_within s ≡ true → CoreParts s
 core-parts s h = search arith
 
--- An ISR is one that a text can say, if its script is.
+-- An ISR is representable if its script is.
 isr-said : (objects : List Declaration) (id : CoreId) (isr : IsrText) → is_name isr.name ≡ true → is_right (isr_verdict objects id isr.script) ≡ true → said.is_script_representable (isr_plan objects isr).script ≡ true → said.is_isr_representable (isr_plan objects isr) ≡ true
 isr-said objects id isr name right script = grind arith
 
--- A core is known and one that a text can say, if its parts are.
+-- A core is known and representable if its parts are.
 core-joined : (plan : Plan) (core : Core) → limits.is_core_mode plan core.mode ≡ true → list_all (limits.is_script_known plan) (plans.core_scripts core) ≡ true
     → (list_all (limits.is_task_known plan) core.tasks && list_all said.is_task_representable core.tasks) ≡ true
     → list_all said.is_isr_representable core.isrs ≡ true → list_all said.is_resource_representable core.resources ≡ true → list_all said.is_counter_representable core.counters ≡ true
@@ -260,11 +261,11 @@ module _ (t : ConfigText) (passes : Faultless t) where
 
   -- ---- what names refer to
 
-  -- None of its cores has nobody's number.
+  -- A name that has a place refers to an object of the plan, since no core of the plan has the number of NOBODY.
   places : (kind : ObjectKind) (name : List ℕ) (place : Place) → place_of objects kind name ≡ Some place → limits.is_object plan (record { kind = kind; place = place }) ≡ true
   places = place-known t (cores _ (λ core found inside. found)) (nobody plan (sym (list_all-map is_core_within (limits.core_sizes plan) plan.cores) ∙ cores-within (limits.sizes_of plan) within))
 
-  -- What a name with a place stands for.
+  -- If each object of the plan passes a test, so does the object that a known name refers to.
   place-kept : (kind : ObjectKind) (name : List ℕ) (p : Option Place → Bool) → ((place : Place) → limits.is_object plan (record { kind = kind; place = place }) ≡ true → p (Some place) ≡ true) → is_some (place_of objects kind name) ≡ true → p (place_of objects kind name) ≡ true
   place-kept kind name p each known = let place = there (place_of objects kind name) known in ap p place.1 ∙ each place.0 (places kind name place.0 place.1)
 
@@ -366,7 +367,7 @@ names-said t = (simp (map-map, map-id, flat_map-map)) ∙ sym (names-text t)
 
 -- ---- the plan
 
--- It is a configuration that keeps the limits, and that a text can say.
+-- The plan is a configuration that keeps the limits and is representable.
 pub plan-kept : (t : ConfigText) → is_named t ≡ true → failing (tests_of t) ≡ [] → (limits.is_within_limits (plan_of t) ≡ true) × (said.is_representable (plan_of t) ≡ true)
 plan-kept t named none =
     let objects = declarations t in

@@ -1,4 +1,4 @@
--- What is right of a text, but for where its names stand: what is right of the whole is right of each part.
+-- If a whole text is right, so is each of its parts. The cores of the named objects are not considered here.
 use Rattle.std.proofs.Common.{◌≡◌, ℕ, ◌&&◌, ◌||◌, not, Bool, true, Some, is_some, List, [], ◌∷◌, refl, sym, ap, ◌∙◌, arith}
 use Rattle.std.proofs.Math.Bool.{and_assoc}
 use Rattle.std.specs.List.{list_all}
@@ -23,12 +23,12 @@ each-right f (x ∷ xs) = rw (← each-right f xs) (grind arith)
 pub of-each : {X : Type 0} (f : X → Verdict) (xs : List X) → is_right (each f xs) ≡ true → list_all (λ x. is_right (f x)) xs ≡ true
 of-each f xs h = sym (each-right f xs) ∙ h
 
--- ---- its parts. Each is of tests that are given, whatever they are.
+-- ---- its parts; each lemma holds for any tests
 
 pub three-parts : (a b c : Bool) → (a && b && c) ≡ true → (a ≡ true) × (b ≡ true) × (c ≡ true)
 three-parts a b c h = grind arith
 
--- Of an alarm, or of a table, its counter, its action or its points, and its modes,
+-- An alarm or a table is right exactly if its counter, its action or its points, and its modes are.
 acting-parts : (counter known modes masked formed : Bool) → ((counter && known && modes) && masked && formed) ≡ true → (counter ≡ true) × ((known && masked && formed) ≡ true) × (modes ≡ true)
 acting-parts counter known modes masked formed h = grind arith
 
@@ -45,7 +45,7 @@ table-parts objects id table h =
     let parts = acting-parts (is_some (place_of objects ObjectKind.Counter table.counter)) (list_all (is_point_known objects) table.points) (list_all (is_mode_known objects) (table_modes table)) (is_table_masked table) (is_table_acting table) h in
     (parts.0, of-each (point_verdict objects) table.points parts.1, parts.2)
 
--- Of a core, its mode, and those of its objects that say anything but numbers.
+-- The parts of a core are right: its mode, and its tasks, ISRs, alarms and tables. Its other objects have only numbers.
 pub record CoreRight (objects : List Declaration) (core : CoreText) : Type 0 where
   pub mode : is_core_mode_known objects core.mode ≡ true
   pub tasks : list_all (λ (task : TaskText). is_right (task_verdict objects (id_of core) task)) core.tasks ≡ true
@@ -62,7 +62,7 @@ core-right objects core h = record {
   tables = of-each (table_verdict objects (id_of core)) core.tables (grind arith);
 }
 
--- A core is judged in two steps: what runs on it, and then what goes off by its counters.
+-- A core is judged in two steps: its tasks and ISRs, and then its alarms and schedule tables.
 verdict-joined : (mode : Bool) (tasks isrs alarms tables : Verdict) → with_names mode (both (both tasks isrs) (both alarms tables)) ≡ with_names mode (both (both (both tasks isrs) alarms) tables)
 verdict-joined mode tasks isrs alarms tables = ap (with_names mode) (simp and_assoc)
 
@@ -72,7 +72,7 @@ pub core-joined : (objects : List Declaration) (core : CoreText)
 core-joined objects core =
     verdict-joined (is_core_mode_known objects core.mode) (each (task_verdict objects (id_of core)) core.tasks) (each (λ (isr : IsrText). isr_verdict objects (id_of core) isr.script) core.isrs) (each (alarm_verdict objects (id_of core)) core.alarms) (each (table_verdict objects (id_of core)) core.tables)
 
--- ---- an action that is right means an operation that is one
+-- ---- an action that is right means an operation that is an action
 
 pub record Acting (objects : List Declaration) (text : List ℕ) : Type 0 where
   pub op : Op

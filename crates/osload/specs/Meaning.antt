@@ -9,14 +9,17 @@ use Rattle.osschema.specs.Shape.{config_shape}
 use Rattle.osvalidate.specs.{Action.action_of, Operation.operations_of, Operation.op_of, Check.successor, Check.tests_of}
 use Rattle.osschema.specs.Declarations.{byte_of, counter_ref, declarations, mode_ref, number_id, id_of, word_of}
 
--- The mode of a core: the first where it says nothing of it, and none where it goes with any. [AUTOSAR SWS OS 4.x, DONOTCARE; the first is own]
+-- A core's mode: the first mode if the core's text gives none, any mode for the word DONOTCARE, otherwise the mode of
+-- this name (the first if there is none). [AUTOSAR SWS OS 4.x, DONOTCARE; the first is own]
 abbrev pub core_mode : List Declaration → Option (List ℕ) → CoreMode
 core_mode objects None = Named (record { index = 0 })
 core_mode objects (Some name) = if bytes_eq name dont_care then DontCare else Named (mode_ref objects name)
 
+-- The spinlock that a text means; its successor's name is looked up in `objects`.
 abbrev pub spinlock_plan : List Declaration → SpinlockText → Spinlock
 spinlock_plan objects spinlock = record { name = spinlock.name; next = successor objects spinlock }
 
+-- The task that a text means; the names in the text are looked up in `objects`.
 abbrev pub task_plan : List Declaration → TaskText → Task
 task_plan objects task = record {
   name = task.name;
@@ -29,6 +32,7 @@ task_plan objects task = record {
   script = map (op_of objects) (operations_of task.script);
 }
 
+-- The ISR that a text means; the names in the text are looked up in `objects`.
 abbrev pub isr_plan : List Declaration → IsrText → Isr
 isr_plan objects isr = record {
   name = isr.name;
@@ -37,16 +41,19 @@ isr_plan objects isr = record {
   script = map (op_of objects) (operations_of isr.script);
 }
 
+-- The resource that a text means.
 abbrev pub resource_plan : ResourceText → Resource
 resource_plan resource = record { name = resource.name; ceiling = byte_of resource.ceiling; lock = word_of resource.lock }
 
+-- The counter that a text means.
 abbrev pub counter_plan : CounterText → Counter
 counter_plan counter = record { name = counter.name; max = word_of counter.max; min = word_of counter.min; software = counter.software }
 
+-- The alarm's autostart that a text means; the names in the text are looked up in `objects`.
 abbrev pub start_plan : List Declaration → AlarmStartText → AlarmStart
 start_plan objects auto = record { modes = map (mode_ref objects) auto.modes; start = word_of auto.start; cycle = word_of auto.cycle }
 
--- Of an alarm of the core of this number.
+-- The alarm that a text means, on this core; the names in the text are looked up in `objects`.
 abbrev pub alarm_plan : List Declaration → CoreId → AlarmText → Alarm
 alarm_plan objects id alarm = record {
   name = alarm.name;
@@ -55,13 +62,15 @@ alarm_plan objects id alarm = record {
   auto = option_map (start_plan objects) alarm.auto;
 }
 
+-- The expiry point that a text means; the names in the text are looked up in `objects`.
 abbrev pub point_plan : List Declaration → PointText → ExpiryPoint
 point_plan objects point = record { offset = word_of point.offset; actions = map (action_of objects) point.actions }
 
+-- The schedule table's autostart that a text means; the names in the text are looked up in `objects`.
 abbrev pub table_start_plan : List Declaration → TableStartText → TableStart
 table_start_plan objects auto = record { modes = map (mode_ref objects) auto.modes; offset = word_of auto.offset }
 
--- Of a schedule table of the core of this number.
+-- The schedule table that a text means, on this core; the names in the text are looked up in `objects`.
 abbrev pub table_plan : List Declaration → CoreId → TableText → Table
 table_plan objects id table = record {
   name = table.name;
@@ -72,6 +81,7 @@ table_plan objects id table = record {
   auto = option_map (table_start_plan objects) table.auto;
 }
 
+-- The core that a text means; the names in the text are looked up in `objects`.
 abbrev pub core_plan : List Declaration → CoreText → Core
 core_plan objects core = record {
   id = id_of core;
@@ -86,6 +96,7 @@ core_plan objects core = record {
   tables = map (table_plan objects (id_of core)) core.tables;
 }
 
+-- The configuration that a text means, whether the text has faults or not.
 abbrev pub plan_of : ConfigText → Plan
 plan_of t = record {
   version = byte_of t.version;
@@ -96,26 +107,27 @@ plan_of t = record {
   cores = map (core_plan (declarations t)) t.cores;
 }
 
--- ---- a text's faults, in ascending order: past the first or the second nothing more is judged
+-- ---- a text's faults, in ascending order: after NotJson or Shape nothing more is judged
 
--- If the data have not the shape of a configuration, that is their only fault. Otherwise they have those of its tests that fail. [own]
+-- The faults of JSON data: Shape alone if the data do not have the shape of a configuration; otherwise the faults whose
+-- tests fail. [own]
 abbrev pub faults_of_data : Data → List ConfFault
 faults_of_data d = option_map_or (λ t. failing (tests_of t)) (config_shape d) (Shape ∷ [])
 
--- The faults of a text. If it is no JSON, that is its only fault. [own]
+-- The faults of a text: NotJson alone if the text is not JSON; otherwise the faults of its data. [own]
 abbrev pub faults_of : List ℕ → List ConfFault
 faults_of text = option_map_or faults_of_data (read text) (NotJson ∷ [])
 
--- The least fault that a text has. [own]
+-- The text has this fault, and none of a smaller number. [own]
 abbrev pub IsLeastFault : ConfFault → List ℕ → Type 0
 IsLeastFault fault text = IsLeast fault (faults_of text)
 
 -- ---- the configuration of a text without a fault
 
--- The plan of a text of the shape of a configuration, if none of its tests fails. [own]
+-- The configuration that a text of the right shape means. None if the text has a fault. [own]
 abbrev pub config_of_shape : ConfigText → Option Plan
 config_of_shape t = if_faultless (failing (tests_of t)) (plan_of t)
 
--- The configuration that a text means, if it has no fault. [own]
+-- The configuration that a text means. None if the text has a fault. [own]
 abbrev pub config_of : List ℕ → Option Plan
 config_of text = option_and_then config_of_shape (option_and_then config_shape (read text))

@@ -15,7 +15,7 @@ use osvalidate::{Judged, are_objects_few, fault_of, is_numbered};
 use serde_json::Value;
 use std::alloc::Global;
 
-// The JSON value of a text.
+// The JSON value of a text. `NotJson` where the text is not JSON; `NoMemory` where memory runs out.
 fn json_of(alloc: Global, text: &str) -> Result<Value, ConfFault>
     ensures { GivesOr ConfFault.NotJson view result (read text.now) }
 {
@@ -26,6 +26,8 @@ fn json_of(alloc: Global, text: &str) -> Result<Value, ConfFault>
     }
 }
 
+// The text of a configuration, whose parts are borrowed from a JSON value. `Shape` where the value does not have the
+// shape of a configuration; `NoMemory` where memory runs out.
 fn shape_of(alloc: Global, value: &Value) -> Result<ConfigText<'_>, ConfFault>
     ensures shape { GivesOr ConfFault.Shape (λ x. x) result (config_shape (view value.now)) }
     ensures named { IfOk result (λ text. IsTrue (is_named text)) }
@@ -37,7 +39,8 @@ fn shape_of(alloc: Global, value: &Value) -> Result<ConfigText<'_>, ConfFault>
     }
 }
 
-// The plan of a text without a fault. Its parts are made where they are judged.
+// The plan that a text means, or the text's fault of smallest number. `NoMemory` where memory runs out. Each part of
+// the plan is made while the part's text is judged.
 fn plan_if_faultless(alloc: Global, text: &ConfigText) -> Result<Plan, ConfFault>
     requires named { IsTrue (is_named text.now) }
     ensures ok { IfOk result (λ plan. (failing (tests_of text.now) ≡ []) × (plan ≡ plan_of text.now)) }
@@ -58,10 +61,10 @@ fn plan_if_faultless(alloc: Global, text: &ConfigText) -> Result<Plan, ConfFault
 }
 
 /// The configuration that a JSON text means, of version 1 or 2 of the format. Of several faults the one of
-/// smallest number is returned; past `NotJson` and `Shape` nothing more is judged. `NoMemory` where
-/// memory runs out, and never another answer in its place.
+/// smallest number is returned; after `NotJson` or `Shape` nothing more is judged. If memory runs out,
+/// `NoMemory` is returned, and never another answer in its place.
 pub fn read_config(alloc: Global, text: &str) -> Result<Config, ConfFault>
-    // The configuration is the text's.
+    // The configuration is the one that the text means.
     ensures ok { IfOk result (λ config. config_of text.now ≡ Some config) }
     // The fault is the least that the text has.
     ensures fault { IfErr result (λ fault. fault ≢ ConfFault.NoMemory → IsLeastFault fault text.now) }

@@ -1,4 +1,4 @@
-//! The loop over a list of which a part of the plan is made.
+//! The loop that makes a part of the plan from each text of a list.
 
 ghost use Rattle.std.specs.{Prelude.Bool, Prelude.map, List.list_all};
 ghost use Rattle.osvalidate.specs.{Verdict.Judges, Verdict.each, declared.verdicts.Verdict.Verdict as Right};
@@ -8,23 +8,24 @@ use osplan::ConfFault;
 use osvalidate::{Judged, Verdict};
 use std::alloc::Global;
 
-/// Makes a part of the plan of its text, and says what is right of the text.
+/// Makes a part of the plan from its text, and says what is right about the text.
 pub trait Planner<'e, T, U> {
     /// The part of the plan.
     ghost made: { Self → T → U };
 
-    /// What is right of the text.
+    /// What is right about the text.
     ghost right: { Self → T → Right };
 
-    /// Whether its scripts have no more operations than they may have.
+    /// Whether no script of the text has too many operations.
     ghost is_short: { Self → T → Bool };
 
-    /// The part of the plan, and what is right of its text. `Limit` where a script has too many operations.
+    /// The part of the plan, and the verdict on its text. `Limit` if a script has too many operations.
     fn plan(&self, alloc: Global, text: &'e T) -> Result<Judged<U>, ConfFault>
         ensures { Judges result (is_short self.now text.now) (made self.now text.now) (right self.now text.now) };
 }
 
-/// The part of the plan of each text of a list, and what is right of them all.
+/// The part of the plan for each text of a list, and the verdict on all texts together. `Limit` if a script has too
+/// many operations.
 pub fn plan_each<'e, T, U: Drop, P: Planner<'e, T, U>>(
     alloc: Global,
     planner: &P,

@@ -23,10 +23,10 @@ use osvalidate::{
 };
 use std::alloc::{AllocError, Global};
 
-/// The first mode, of a core whose text says nothing of it.
+/// The first mode, which a core has if its text gives none.
 const FIRST_MODE: ModeId = ModeId { index: 0 };
 
-/// The modes of these names.
+/// The modes of these names; the first mode for a name that is no mode's.
 pub fn modes_of(alloc: Global, objects: &Objects, names: &[Text]) -> Result<Vec<ModeId>, AllocError>
     ensures { IfOk result (λ modes. modes.items ≡ map (mode_ref objects.now.declared) names.now) }
 {
@@ -36,7 +36,8 @@ pub fn modes_of(alloc: Global, objects: &Objects, names: &[Text]) -> Result<Vec<
         .collect(alloc)
 }
 
-// The mode of a core.
+// A core's mode: the first mode if the core's text gives none, any mode for `DONOTCARE`, otherwise the mode of this
+// name (the first if there is none).
 fn core_mode(objects: &Objects, mode: &Option<Text>) -> CoreMode
     ensures { result ≡ core_mode objects.now.declared mode.now }
 {
@@ -52,6 +53,7 @@ fn core_mode(objects: &Objects, mode: &Option<Text>) -> CoreMode
     }
 }
 
+// A name for each of these texts.
 fn names_of(alloc: Global, texts: &[Text]) -> Result<List<Name>, AllocError>
     ensures { IfOk result (λ names. names ≡ texts.now) }
 {
@@ -164,6 +166,7 @@ impl<'e> Planner<'e, CounterText<'e>, Counter> for CorePlanner<'_, 'e> {
     }
 }
 
+// How an alarm is autostarted, as the text `auto` means it.
 fn start_of(
     alloc: Global,
     objects: &Objects,
@@ -178,6 +181,7 @@ fn start_of(
     })
 }
 
+// How an alarm is autostarted, as the text `auto` means it. None if the alarm is not autostarted.
 fn auto_of(
     alloc: Global,
     objects: &Objects,
@@ -220,14 +224,14 @@ impl<'e> Planner<'e, AlarmText<'e>, Alarm> for CorePlanner<'_, 'e> {
     }
 }
 
-// What runs on a core.
+// The tasks and ISRs of a core.
 #[derive(Drop)]
 struct Runners {
     tasks: List<Task>,
     isrs: List<Isr>,
 }
 
-// What counts on a core, and what goes off by a count.
+// The counters, alarms and schedule tables of a core.
 #[derive(Drop)]
 struct Timers {
     counters: List<Counter>,
@@ -236,7 +240,7 @@ struct Timers {
 }
 
 impl<'e> CorePlanner<'_, 'e> {
-    // The plans of what runs on a core. Nothing else of it has scripts, so nothing else can have too many operations.
+    // The plans of a core's tasks and ISRs, and the verdict on them. `Limit` if a script has too many operations.
     #[tactic(auto, using(osvalidate::proofs::Counting::core_shorts))]
     fn runners(&self, alloc: Global, core: &'e CoreText<'e>) -> Result<Judged<Runners>, ConfFault>
         ensures { Judges result (is_core_short core.now)
@@ -254,7 +258,7 @@ impl<'e> CorePlanner<'_, 'e> {
         })
     }
 
-    // The plans of its counters, and of what goes off by them.
+    // The plans of a core's counters, alarms and schedule tables, and the verdict on them.
     #[tactic(auto, using(crate::proofs::Loops::always))]
     fn timers(&self, alloc: Global, core: &'e CoreText<'e>) -> Result<Judged<Timers>, ConfFault>
         ensures { Judges result true
@@ -275,6 +279,7 @@ impl<'e> CorePlanner<'_, 'e> {
     }
 }
 
+// The cores of these numbers; core 0 for a number that is no byte.
 fn ids_of(alloc: Global, numbers: &[Whole]) -> Result<Vec<CoreId>, AllocError>
     ensures { IfOk result (λ ids. ids.items ≡ map number_id numbers.now) }
 {
@@ -284,7 +289,7 @@ fn ids_of(alloc: Global, numbers: &[Whole]) -> Result<Vec<CoreId>, AllocError>
         .collect(alloc)
 }
 
-// The spinlock that comes next to one.
+// The successor of a spinlock, if it has one and its name is known.
 fn successor(objects: &Objects, spinlock: &SpinlockText) -> Option<SpinlockId>
     ensures { result ≡ successor objects.now.declared spinlock.now }
 {
@@ -360,8 +365,8 @@ impl<'e> Planner<'e, CoreText<'e>, Core> for TextPlanner<'_, 'e> {
     }
 }
 
-/// The plan that a text means, if it has no fault, and what is right of its names, masks and operations. `Limit` where a
-/// script has too many operations.
+/// The plan that a text means, whether the text has faults or not, and the verdict on the text's names, masks and
+/// operations. `Limit` if a script has too many operations.
 #[tactic(auto, using(crate::proofs::Loops::always))]
 pub fn plan_of<'e>(
     alloc: Global,

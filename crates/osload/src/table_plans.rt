@@ -52,6 +52,7 @@ impl<'e> Planner<'e, PointText<'e>, ExpiryPoint> for CorePlanner<'_, 'e> {
     }
 }
 
+// How a schedule table is autostarted, as the text `auto` means it.
 fn start_of(
     alloc: Global,
     objects: &Objects,
@@ -65,6 +66,7 @@ fn start_of(
     })
 }
 
+// How a schedule table is autostarted, as the text `auto` means it. None if the table is not autostarted.
 fn auto_of(
     alloc: Global,
     objects: &Objects,

@@ -1,4 +1,4 @@
--- The call of an operation's words has these words, and a call's words say the call.
+-- A call that is read from words has these words. A call is read back from its words.
 use Rattle.std.proofs.Common.{◌≡◌, ℕ, ◌+◌, ◌≤◌, ◌&&◌, nat_le, true, Option, Some, option_and_then, List, [], ◌∷◌, map, codes, refl, sym, ap, IsTrue, ◌∙◌, arith}
 use Rattle.std.specs.{Fmt.decimal, List.list_all, Str.bytes_eq}
 use Rattle.std.proofs.{lemmas.Bool.and_from, lemmas.Bool.and_parts, lemmas.Bool.leb-true, lemmas.Fmt.decimal_digit, lemmas.Grind.common_steps, lemmas.List.Splits.join_with_byte-slice_split, lemmas.Slice.Eq.bytes_eq-Decides}
@@ -21,7 +21,7 @@ use Rattle.oslog.proofs.{Joining.end-apart, Joining.joined-parts, Joining.split-
 
 -- ---- calls
 
--- an operation that calls for an object is the one that a script has for that call
+-- an operation with a call is the operation of that call
 call-op : (op : Op) (call : RemoteCall) → named_call op ≡ Some call → op ≡ op_of_call call
 call-op Op.Work call e = cc
 call-op op call e = grind arith
@@ -43,7 +43,7 @@ variable-word w x e = let r = variable-read w x e in rw (decimal_digit x (omega 
 core-word : (w : List ℕ) (target : Option CoreId) → core_of w ≡ Some target → arg_text (Core target) ≡ w
 core-word w target e = grind (arith, number-word 0 255 w, (bytes_eq-Decides w (codes "?")).0)
 
--- a name that has a place spells what stands there
+-- a name that has a place is the name of the object at that place
 module _ (place : ObjectKind → List ℕ → Option Place) (name : ObjectKind → Place → List ℕ) (spells : (kind : ObjectKind) (text : List ℕ) (found : Place) → place kind text ≡ Some found → name kind found ≡ text) where
   target-word : (k : ObjectKind) (w : List ℕ) (t : Option (List ℕ)) (b : Arg Place) → target_of w ≡ Some t → resolve_arg place (Object k t) ≡ Some b → arg_text (named name b) ≡ w
   target-word k w t b e r = grind (arith, spells, (bytes_eq-Decides w (codes "?")).0)
@@ -75,7 +75,7 @@ module _ (place : ObjectKind → List ℕ → Option Place) (name : ObjectKind �
 module _ (plan : Plan) (limits : IsTrue (is_within_limits plan)) (config_representable : IsTrue (is_representable plan)) where
   -- ---- operations
 
-  -- the words of a form that words say are these
+  -- if a form is read from words, it has these words
   form-said : (words : List (List ℕ)) (form : Verb × List (Arg (List ℕ))) (args : List (Arg Place)) → form_of_words words ≡ Some form → resolve_args (place_named plan) form.1 ≡ Some args → list_all has_event args ≡ true → form_words (name_of plan) (form.0, args) ≡ words
   form-said [] form args e r some = cc
   form-said (w ∷ ws) form args e r some =
@@ -105,7 +105,7 @@ module _ (plan : Plan) (limits : IsTrue (is_within_limits plan)) (config_represe
   named-back : (object : ObjectOf) → is_object plan object ≡ true → IsNamed (place_named plan) (name_of plan) object
   named-back object is = record { in_form = object-formed plan limits config_representable object is; found = place-found plan limits config_representable object is }
 
-  -- A representable call is what its words say; none of these has a space or a line end.
+  -- A representable call is read back from its words. No word has a space or a line end.
   pub record CallRead (call : RemoteCall) : Type 0 where
     pub read : call_of plan (call_words (name_of plan) call) ≡ Some call
     pub no_space : list_all (has_none 32) (call_words (name_of plan) call) ≡ true

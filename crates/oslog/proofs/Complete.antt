@@ -1,4 +1,4 @@
--- The line of a representable item says the item. It has no line end, and is not empty.
+-- The line of a representable item is read as that item. It has no line end, and is not empty.
 use Rattle.std.proofs.Common.{◌≡◌, ℕ, ◌<◌, ◌^◌, ◌==◌, ◌&&◌, ℤ, true, false, not, nat_le, Some, option_map, List, ◌∷◌, length, map, IsTrue, refl, ap, ◌∙◌, arith}
 use Rattle.std.specs.{Fmt.decimal, Fmt.signed_decimal, List.join_with_byte, List.list_all}
 use Rattle.std.proofs.lemmas.List.Folds.{list_all-append, list_all-map}
@@ -13,11 +13,11 @@ use Rattle.ossyntax.proofs.RoundTrip.{space-apart}
 use Rattle.osplan.proofs.{Tests.all-append, Tests.all-weaker, ModeObjects.mode-said}
 use Rattle.osplan.specs.{Representable.is_representable, Limits.is_within_limits, Names.isr_name, Names.name_of, Names.name_of_mode, Names.spinlock_name, declared.plans.Plan.Plan}
 use Rattle.oslog.specs.{Forms.form_of, Logs.is_call_representable, Logs.is_core_number, Logs.is_message_representable, Logs.is_item_representable, Rows.keyword_text, Rows.row_of, declared.forms.Parts.Parts, declared.rows.Keyword.Keyword as Word, declared.rows.Kind.Kind, declared.rows.Tail.Tail, declared.rows.TheConstants.LINES}
-use Rattle.oslog.specs.Items.{first_item, item_as, item_of_text, later_words, led, line_of}
+use Rattle.oslog.specs.Items.{first_item, item_as, item_of_text, later_words, after_spaces, line_of}
 use Rattle.oslog.specs.Words.{core_of, irq_prefix, status_of, tail_words, word_text}
 use Rattle.oslog.specs.declared.rows.Kind.TheVariants as K
 use Rattle.oslog.specs.declared.rows.Tail.TheVariants as T
-use Rattle.oslog.proofs.{Calls.call-read, Cores.cores-none, Cores.cores-read, Joining.end-apart, Joining.led-joined, Sound.is_tail_representable, WordKinds.is_part_representable}
+use Rattle.oslog.proofs.{Calls.call-read, Cores.cores-none, Cores.cores-read, Joining.end-apart, Joining.after_spaces-joined, Sound.is_tail_representable, WordKinds.is_part_representable}
 use Rattle.oslog.proofs.Named.{mode-found, object-formed, place-found, spinlock-formed, spinlock-found}
 
 -- ---- words
@@ -48,7 +48,7 @@ word-some word = grind arith
 abbrev words : Plan → Item → List (List ℕ)
 words plan item = keyword_text (row_of (form_of item).0).0 ∷ later_words plan (form_of item)
 
--- Its parts are representable.
+-- The parts of a representable item are representable, and so is its tail.
 item-parts : (plan : Plan) (item : Item) → is_item_representable plan item ≡ true
     → (list_all (is_part_representable plan (form_of item).1) (row_of (form_of item).0).1 ≡ true) × (is_tail_representable plan (form_of item).1 (row_of (form_of item).0).2 ≡ true)
 item-parts plan item representable = (grind arith, grind arith)
@@ -128,7 +128,7 @@ module _ (plan : Plan) (limits : IsTrue (is_within_limits plan)) (config_represe
   -- ---- lines
 
   line-joined : (item : Item) → line_of plan item ≡ join_with_byte 32 (words plan item)
-  line-joined item = led-joined (keyword_text (row_of (form_of item).0).0) (later_words plan (form_of item))
+  line-joined item = after_spaces-joined (keyword_text (row_of (form_of item).0).0) (later_words plan (form_of item))
 
   pub line-read : (item : Item) → is_item_representable plan item ≡ true → item_of_text plan (line_of plan item) ≡ Some item
   line-read item representable =
@@ -141,4 +141,4 @@ module _ (plan : Plan) (limits : IsTrue (is_within_limits plan)) (config_represe
       rw (line-joined item) (joined-none 10 (keyword_text (row_of (form_of item).0).0) (later_words plan (form_of item)) refl none)
 
 pub line-some : (plan : Plan) (item : Item) → not (length (line_of plan item) == 0) ≡ true
-line-some plan item = some-more (keyword_text (row_of (form_of item).0).0) (led (later_words plan (form_of item))) (word-some (row_of (form_of item).0).0)
+line-some plan item = some-more (keyword_text (row_of (form_of item).0).0) (after_spaces (later_words plan (form_of item))) (word-some (row_of (form_of item).0).0)

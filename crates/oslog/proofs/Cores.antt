@@ -1,4 +1,4 @@
--- The numbers of a set's cores are the words that say it, and back.
+-- The words of a set of cores are the numbers of its cores, and are read back as the set.
 use Rattle.std.proofs.Common.{inl, inr, ◌≡◌, ◌≢◌, ℕ, zero, suc, ◌+◌, ◌-◌, ◌<◌, ◌≤◌, ◌&&◌, nat_lt, Bool, true, false, Some, List, [], ◌∷◌, ◌++◌, map, length, replicate, set, filter, refl, sym, ap, ◌∙◌, arith, get_or-set_other, get_or-set_same, length-set}
 use Rattle.std.specs.{Char.is_ascii_digit, Fmt.decimal, List.list_all}
 use Rattle.std.proofs.{lemmas.Bool.and_from, lemmas.Bool.and_left, lemmas.Bool.and_right, lemmas.Bool.cases_Bool, lemmas.Bool.le-ltb, lemmas.Bool.lt-ltb, lemmas.Bool.ltb-true, lemmas.Grind.common_steps, lemmas.Fmt.digits_decimal, lemmas.List.append-nil, lemmas.List.append_assoc, lemmas.List.map-append, lemmas.List.ext_get_or, lemmas.List.Elements.filter-append, lemmas.List.Folds.list_all-map}
@@ -7,13 +7,13 @@ use Rattle.ossyntax.specs.Word.{number_in}
 use Rattle.ossyntax.proofs.{Fitting.number-read, Joining.all-none, Joining.has_none, KindTexts.number-back, Numerals.own, RoundTrip.chained}
 use Rattle.osbase.proofs.Sets.{flag-read, has_core-flag, no-flag}
 use Rattle.osplan.proofs.Tests.{all-filter, all-weaker}
-use Rattle.oslog.specs.{Items.led, Words.core_words, Words.cores_from, Words.with_core}
-use Rattle.oslog.proofs.{Joining.led-append, Naming.place-more, WordKinds.number-word}
+use Rattle.oslog.specs.{Items.after_spaces, Words.core_words, Words.cores_from, Words.with_core}
+use Rattle.oslog.proofs.{Joining.after_spaces-append, Naming.place-more, WordKinds.number-word}
 
 abbrev pub at : ℕ → CoreId
 at n = record { number = n }
 
--- the words of the cores of a set among so many numbers
+-- the words of a set's cores, for `count` numbers from `first` on
 abbrev pub words_from : CoreSet → ℕ → ℕ → List (List ℕ)
 words_from cores first count = map (λ (id : CoreId). decimal id.number) (filter (has_core cores) (map at (numbers_from first count)))
 
@@ -30,10 +30,10 @@ skip cores first (suc k) count next all next_is all_is none =
 from-more : (cores : CoreSet) (count : ℕ) → words_from cores 0 (count + 1) ≡ words_from cores 0 count ++ map (λ (id : CoreId). decimal id.number) (filter (has_core cores) (at count ∷ []))
 from-more cores count = rw (place-more at count, filter-append (has_core cores), map-append)
 
-pub core-more : (cores : CoreSet) (n : ℕ) (initial text : List ℕ) → has_core cores (at n) ≡ true → text ≡ initial ++ led (words_from cores 0 n) → text ++ 32 ∷ decimal n ≡ initial ++ led (words_from cores 0 (n + 1))
-core-more cores n initial text here is = rw (is, from-more cores n, here) (simp (led-append, append-nil, append_assoc))
+pub core-more : (cores : CoreSet) (n : ℕ) (initial text : List ℕ) → has_core cores (at n) ≡ true → text ≡ initial ++ after_spaces (words_from cores 0 n) → text ++ 32 ∷ decimal n ≡ initial ++ after_spaces (words_from cores 0 (n + 1))
+core-more cores n initial text here is = rw (is, from-more cores n, here) (simp (after_spaces-append, append-nil, append_assoc))
 
-pub no-core-more : (cores : CoreSet) (n : ℕ) (initial text : List ℕ) → has_core cores (at n) ≡ false → text ≡ initial ++ led (words_from cores 0 n) → text ≡ initial ++ led (words_from cores 0 (n + 1))
+pub no-core-more : (cores : CoreSet) (n : ℕ) (initial text : List ℕ) → has_core cores (at n) ≡ false → text ≡ initial ++ after_spaces (words_from cores 0 n) → text ≡ initial ++ after_spaces (words_from cores 0 (n + 1))
 no-core-more cores n initial text none is = rw (is, from-more cores n, none, append-nil)
 
 -- ---- one core more
@@ -48,9 +48,9 @@ has-other n m cores other = ap (λ (b : Bool). nat_lt m CORES && b) (flag-read (
 none-there : (n : ℕ) → has_core no_cores (at n) ≡ false
 none-there n = and_right (nat_lt n CORES) _ (flag-read (replicate 16 false) n ∙ no-flag 16 n)
 
--- ---- words in turn
+-- ---- one word after another
 
--- The words say the cores of the numbers from the least one on; those below it are as they were.
+-- The words are those of the cores with numbers from `least` on. Below `least`, the set is as it was.
 record Said (words : List (List ℕ)) (least count : ℕ) (old cores : CoreSet) : Type 0 where
   words_are : words_from cores least count ≡ words
   below : (n : ℕ) → n < least → has_core cores (at n) ≡ has_core old (at n)
@@ -80,13 +80,13 @@ cores-back words cores e = let back = said words 0 16 no_cores cores refl refl (
 
 -- ---- from a set to its words and back
 
--- a set by its flags
+-- two sets are equal if their flags are
 same-set : (a b : CoreSet) → length a.members ≡ 16 → length b.members ≡ 16 → ((n : ℕ) → n < 16 → has_core a (at n) ≡ has_core b (at n)) → a ≡ b
 same-set a b long also same =
     ap (λ (members : List Bool). let s : CoreSet = record { members = members } in s)
     (ext_get_or false a.members b.members (long ∙ sym also) (λ n lt. sym (has_core-flag a (at n) (omega (arith, lt, long))) ∙ same n (omega (arith, lt, long)) ∙ has_core-flag b (at n) (omega (arith, lt, long))))
 
--- Of the numbers below a first one, a set has those of another, and it has no others.
+-- The old set has exactly those cores of the other set whose numbers are below `first`.
 abbrev Begins : CoreSet → ℕ → CoreSet → Type 0
 Begins old first cores = (n : ℕ) → has_core old (at n) ≡ (nat_lt n first && has_core cores (at n))
 
@@ -116,7 +116,7 @@ read cores first (suc count) least old all low long also begins =
 pub cores-read : (cores : CoreSet) → length cores.members ≡ 16 → cores_from 0 no_cores (core_words cores) ≡ Some cores
 cores-read cores long = read cores 0 16 0 no_cores refl (omega arith) long refl (λ n. none-there n ∙ sym (and_left (nat_lt n 0) _ (le-ltb n 0 (omega arith))))
 
--- no word has a byte that no digit is
+-- no word has a byte other than a digit
 pub cores-none : (byte : ℕ) (cores : CoreSet) → is_ascii_digit byte ≡ false → list_all (has_none byte) (core_words cores) ≡ true
 cores-none byte cores other =
     list_all-map (has_none byte) (λ (id : CoreId). decimal id.number) (filter (has_core cores) core_ids)

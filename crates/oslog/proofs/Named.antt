@@ -1,4 +1,4 @@
--- What has a name in a configuration: each has a name of its own, in form, and is found by it.
+-- The named objects of a configuration: each has a name in form that no other has, and is found by it.
 use Rattle.std.proofs.Common.{◌≡◌, ℕ, zero, suc, ◌+◌, ◌<◌, ◌≤◌, ◌⊎◌, nat_lt, Bool, true, List, [], ◌∷◌, ◌++◌, length, map, get_or, Option, Some, None, option_map, slice_get, IsTrue, inl, inr, refl, sym, ap, ◌∙◌, arith}
 use Rattle.std.specs.List.{AllByRecursion, find, flat_map, list_all, list_any}
 use Rattle.std.specs.{Option.option_map_or, Str.bytes_eq}
@@ -16,18 +16,18 @@ use Rattle.osplan.specs.Limits.{core_sizes, is_core_within, is_mode, is_object, 
 use Rattle.osplan.specs.Names.{name_of, name_of_mode, spinlock_name}
 use Rattle.osplan.specs.Objects.{common_names, is_common, names_in, object_count}
 use Rattle.osplan.specs.{View.core_of, declared.plans.Core.Core, declared.plans.Plan.Plan, declared.plans.Spinlock.Spinlock, declared.plans.TheConstants.COMMON, declared.plans.TheConstants.KINDS}
-use Rattle.oslog.specs.Naming.{HasFew, HasFewCommon, all_named, common_in, if_object, mode_named, name_of_object, named_by, named_in, object_under, objects_in, objects_under, place_named, spinlock_named}
+use Rattle.oslog.specs.Naming.{HasFew, HasFewCommon, all_named, common_in, place_of_kind, mode_named, name_of_object, named_by, named_in, object_under, objects_in, objects_under, place_named, spinlock_named}
 
 -- ---- lists by their places
 
--- what each place of a list has
+-- if `at` gives the element at each place of a list, mapping it over the places gives the list
 by-place : {X : Type 0} (at : ℕ → X) (first : ℕ) (xs : List X) → ((k n : ℕ) (x : X) → n ≡ first + k → slice_get xs k ≡ Some x → at n ≡ x) → map at (numbers_from first (length xs)) ≡ xs
 by-place at first [] same = refl
 by-place at first (x ∷ xs) same =
     let later = by-place at (first + 1) xs (λ k n y is there. same (suc k) n y (omega (arith, is)) there) in
     rw (same 0 first x (omega arith) refl, later)
 
--- a test that each place passes
+-- if the object at each place passes a test, all of them pass it
 all-places : (p : Object → Bool) (at : ℕ → Object) (first count : ℕ) → ((n : ℕ) → n < first + count → p (at n) ≡ true) → list_all p (map at (numbers_from first count)) ≡ true
 all-places p at first zero each = refl
 all-places p at first (suc count) each = and_from _ _ (each first (omega arith)) (all-places p at (first + 1) count (λ n lt. each n (omega (arith, lt))))
@@ -36,7 +36,7 @@ flat-each : {X Y : Type 0} (p : Y → Bool) (f : X → List Y) → ((x : X) → 
 flat-each p f each [] = refl
 flat-each p f each (x ∷ xs) = all-append p (f x) (flat_map f xs) (each x) (flat-each p f each xs)
 
--- ---- what stands in a list is found by its name, where no name stands twice
+-- ---- if no name occurs twice, each object of a list is found by its name
 
 abbrev Stands : List Object → Object → Type 0
 Stands [] n = ⊥
@@ -65,7 +65,7 @@ stands-back : (front back : List Object) (n : Object) → Stands back n → Stan
 stands-back [] back n among = among
 stands-back (x ∷ front) back n among = inr (stands-back front back n among)
 
--- an object of an index below their number stands among those of its kind
+-- if an object's index is below the number of those of its kind, it is among them
 stands-at : (at : ℕ → Object) (first count k : ℕ) → first ≤ k → k < first + count → Stands (map at (numbers_from first count)) (at k)
 stands-at at first zero k least most = absurd (omega arith)
 stands-at at first (suc count) k least most = grind (arith, cases_eq first k, stands-at at (first + 1) count k)
@@ -85,23 +85,23 @@ stands-core (c ∷ cores) id core n found among =
 
 -- ---- the names of a core
 
--- as many names as objects
+-- a core has as many names of a kind as objects of that kind
 as-many : (core : Core) (kind : ObjectKind) → length (names_in kind core) ≡ object_count kind core
 as-many core kind = grind (arith, length-map)
 
 module _ (plan : Plan) where
-  -- the names of the objects of a kind, each of which has the one of its index,
+  -- the objects of a kind have these names, if each has the name at its index
   under-names : (id : CoreId) (kind : ObjectKind) (names : List (List ℕ)) → ((k : ℕ) (name : List ℕ) → slice_get names k ≡ Some name → name_of plan kind (place_on id k) ≡ name) → (count : ℕ) → count ≡ length names → map (name_of_object plan) (objects_under id kind count) ≡ names
   under-names id kind names same count many =
       rw (map-map (name_of_object plan) (object_under id kind), many)
       (by-place (λ i. name_of_object plan (object_under id kind i)) 0 names (λ k n name is there. let here : n ≡ k = omega (arith, is) in rw here (same k name there)))
 
-  -- of all kinds,
+  -- if this holds of each kind, it holds of all kinds
   kinds-names : (objects : ObjectKind → List Object) (names : ObjectKind → List (List ℕ)) → ((kind : ObjectKind) → map (name_of_object plan) (objects kind) ≡ names kind) → (kinds : List ObjectKind) → map (name_of_object plan) (flat_map objects kinds) ≡ flat_map names kinds
   kinds-names objects names same [] = refl
   kinds-names objects names same (kind ∷ kinds) = rw (map-append, same kind, kinds-names objects names same kinds)
 
-  -- of the cores,
+  -- the objects of a core have its names
   core-names : (core : Core) (kind : ObjectKind) → IsFound plan.cores core → map (name_of_object plan) (objects_in core kind) ≡ names_in kind core
   core-names core kind found = under-names core.id kind (names_in kind core) (λ k name is. rw (found, is)) (object_count kind core) (sym (as-many core kind))
 
@@ -111,11 +111,11 @@ module _ (plan : Plan) where
       let here = kinds-names (objects_in core) (λ kind. names_in kind core) (λ kind. core-names core kind found.0) KINDS in
       rw (map-append (name_of_object plan) (named_in core) (flat_map named_in cores), here, cores-names cores found.1)
 
-  -- and of what all have in common
+  -- the objects that all cores have in common have the common names
   common-each : (alone : core_of plan NOBODY ≡ None) (kind : ObjectKind) → map (name_of_object plan) (common_in plan kind) ≡ common_names kind plan
   common-each alone kind = under-names NOBODY kind (common_names kind plan) (λ k name is. rw (alone, is)) (length (common_names kind plan)) refl
 
-  -- what objects pass by their places, all do that have a name
+  -- if the objects at all places pass a test, the objects of all kinds pass it
   kinds-pass : (p : Object → Bool) (id : CoreId) (count : ObjectKind → ℕ) → ((kind : ObjectKind) (i : ℕ) → i < count kind → p (object_under id kind i) ≡ true) → (kinds : List ObjectKind) → list_all p (flat_map (λ (kind : ObjectKind). objects_under id kind (count kind)) kinds) ≡ true
   kinds-pass p id count each kinds =
       flat-each p (λ (kind : ObjectKind). objects_under id kind (count kind)) (λ kind. all-places p (object_under id kind) 0 (count kind) (λ n lt. each kind n (omega (arith, lt)))) kinds
@@ -124,7 +124,7 @@ module _ (plan : Plan) where
   cores-pass p [] each found = refl
   cores-pass p (core ∷ cores) each found = all-append p (named_in core) (flat_map named_in cores) (kinds-pass p core.id (λ kind. object_count kind core) (each core found.0) KINDS) (cores-pass p cores each found.1)
 
--- ---- so few objects that each has a place in a byte
+-- ---- there are so few objects that a byte holds each index
 
 pub few : (plan : Plan) → IsTrue (is_within_limits plan) → (i : ℕ) (core : Core) → i < length plan.cores → core ≡ get_or plan.cores i core → HasFew core
 few plan limits i core within is =
@@ -136,7 +136,7 @@ few-common plan limits kind =
     let sizes = (limit-parts plan limits).sizes in
     grind (arith, few-modes (sizes_of plan) sizes, few-spinlocks (sizes_of plan) sizes, length-map plan.spinlocks (λ (spinlock : Spinlock). spinlock.name))
 
--- ---- all that has a name
+-- ---- all named objects
 
 module _ (plan : Plan) (limits : IsTrue (is_within_limits plan)) (said : IsTrue (is_representable plan)) where
   found : AllByRecursion (IsFound plan.cores) plan.cores
@@ -169,7 +169,7 @@ module _ (plan : Plan) (limits : IsTrue (is_within_limits plan)) (said : IsTrue 
       (kinds-pass plan (is_object plan) NOBODY (λ kind. length (common_names kind plan)) (λ kind i lt. rw alone (lt-ltb i (length (common_names kind plan)) lt)) COMMON)
       (cores-pass plan (is_object plan) plan.cores (λ core is kind i lt. rw is (lt-ltb i (object_count kind core) lt)) found)
 
-  -- What a name refers to is there, and the name is in form.
+  -- What a name refers to is an object of the configuration, and the name is in form.
   pub named-there : (w : List ℕ) (n : Object) → named_by plan w ≡ Some n → is_object plan n ≡ true
   named-there w n e = find-passes (λ (n : Object). bytes_eq (name_of_object plan n) w) (is_object plan) (all_named plan) n all-there e
 
@@ -179,7 +179,7 @@ module _ (plan : Plan) (limits : IsTrue (is_within_limits plan)) (said : IsTrue 
       ∙ find-passes (λ (n : Object). bytes_eq (name_of_object plan n) w) (λ (n : Object). is_name (name_of_object plan n)) (all_named plan) n
       (sym (list_all-map is_name (name_of_object plan) (all_named plan)) ∙ ap (list_all is_name) names-are ∙ all-formed) e
 
-  -- What is there has a name: an object of a core, which is of a kind that cores have, and one that all have in common.
+  -- Each object of the configuration has a name, whether it belongs to one core or all cores have it in common.
   in-kinds : (core : Core) (kind : ObjectKind) (i : ℕ) → i < object_count kind core → list_any (λ (k : ObjectKind). same_kind k kind) KINDS ≡ true
   in-kinds core kind i lt = grind arith
 
@@ -203,20 +203,20 @@ module _ (plan : Plan) (limits : IsTrue (is_within_limits plan)) (said : IsTrue 
           let among = stands-kind (objects_in core) KINDS object.kind object (in-kinds core object.kind object.place.index lt) under in
           stands-back (flat_map (common_in plan) COMMON) (flat_map named_in plan.cores) object (stands-core plan.cores object.place.core core object here among)
 
-  -- It is what its name refers to.
+  -- The name of each object of the configuration refers to that object.
   pub place-found : (object : Object) → is_object plan object ≡ true → place_named plan object.kind (name_of plan object.kind object.place) ≡ Some object.place
   place-found object is =
       let found = stands-found (name_of_object plan) (all_named plan) object (ap are_distinct names-are ∙ (text-parts plan said).names) (object-stands object is) in
       rw (found, same_kind-self object.kind)
 
-  -- So its name is in form.
+  -- So the name of an object of the configuration is in form.
   pub object-formed : (object : Object) → is_object plan object ≡ true → is_name (name_of plan object.kind object.place) ≡ true
   object-formed object is =
       let name = name_of plan object.kind object.place in
-      let c = chained (if_object object.kind) (named_by plan name) object.place (place-found object is) in
+      let c = chained (place_of_kind object.kind) (named_by plan name) object.place (place-found object is) in
       named-formed name c.0 c.1
 
-  -- So it is with a spinlock, and with a mode.
+  -- The same holds for a spinlock, and for a mode.
   pub spinlock-found : (spinlock : SpinlockId) → is_spinlock plan spinlock ≡ true → spinlock_named plan (spinlock_name plan spinlock) ≡ Some spinlock
   spinlock-found spinlock is = ap (option_map spinlock_of) (place-found (spinlock_object spinlock) (there-spinlock plan alone spinlock is))
 

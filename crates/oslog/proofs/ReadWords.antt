@@ -1,4 +1,4 @@
--- The words of a row in turn: what was read is the text of what it says.
+-- The words of a row, one after another: each word that is read is the text of the value read from it.
 use Rattle.std.proofs.Common.{◌≡◌, ◌&&◌, Bool, true, Some, List, [], ◌∷◌, ◌++◌, map, ℕ, IsTrue, refl, sym, ap, ◌∙◌}
 use Rattle.std.specs.List.{list_all}
 use Rattle.std.proofs.lemmas.{Bool.and_parts, Bool.and_from, Option.some_pair_parts}
@@ -7,12 +7,12 @@ use Rattle.osplan.specs.{Representable.is_representable, Limits.is_within_limits
 use Rattle.oslog.specs.{Words.read_words, Words.with_word, Words.word_text, declared.forms.Parts.Parts, declared.rows.Kind.Kind}
 use Rattle.oslog.proofs.WordKinds.{apart, is_part_representable, part_view, word-back, word-stays}
 
--- No kind stands twice, but for keywords.
+-- No kind occurs twice, except for keywords.
 abbrev pub are_apart : List Kind → Bool
 are_apart [] = true
 are_apart (k ∷ ks) = list_all (λ later. apart later k) ks && are_apart ks
 
--- The words are the texts of the kinds, and what follows them; each is representable, and what the parts have for other kinds has stayed.
+-- The words are the texts of the kinds, and then the rest. Each value is representable; those of other kinds are kept.
 pub record ReadsBack (plan : Plan) (kinds : List Kind) (words : List (List ℕ)) (p q : Parts) (rest : List (List ℕ)) : Type 0 where
   pub words_are : map (word_text plan q) kinds ++ rest ≡ words
   pub representable : list_all (is_part_representable plan q) kinds ≡ true

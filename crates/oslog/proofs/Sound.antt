@@ -1,4 +1,4 @@
--- The item of a line has that line, and is representable.
+-- The item that is read from a line has that line, and is representable.
 use Rattle.std.proofs.Common.{◌≡◌, ℕ, ◌==◌, Bool, true, Option, Some, option_and_then, List, [], ◌∷◌, ◌++◌, length, map, IsTrue, refl, ap, ◌∙◌, arith}
 use Rattle.std.specs.{List.list_all, Str.bytes_eq}
 use Rattle.std.proofs.{lemmas.Bool.eq-eqb, lemmas.Slice.Eq.bytes_eq-Decides}
@@ -14,12 +14,12 @@ use Rattle.oslog.specs.declared.rows.Line.TheVariants as L
 use Rattle.oslog.specs.declared.rows.Tail.TheVariants as T
 use Rattle.oslog.proofs.{Calls.call-back, Cores.cores-back, Joining.text-of-words, ReadWords.are_apart, ReadWords.reads-back, WordKinds.is_part_representable, WordKinds.part_view}
 
--- ---- what is true of every row, one case for each, found by the check itself
+-- ---- statements about every row, which the checker proves case by case
 
 row-apart : (l : Line) → are_apart (row_of l).1 ≡ true
 row-apart l = grind arith
 
--- The item of a form has this form, and its line says the same.
+-- The item of a form is written with the words of this form.
 first-kept : (l : Line) (q : Parts) → (row_of (form_of (item_of l q)).0).0 ≡ (row_of l).0
 first-kept l q = grind arith
 
@@ -40,13 +40,13 @@ record TailBack (plan : Plan) (tail : Tail) (words : List (List ℕ)) (p q : Par
 
 -- ---- what is read is representable
 
--- the first clause is only there to make a case of each form
+-- the first clause only splits the forms into cases
 item-representable : (plan : Plan) (l : Line) (q : Parts) → list_all (is_part_representable plan q) (row_of l).1 ≡ true → is_tail_representable plan q (row_of l).2 ≡ true → is_item_representable plan (item_of l q) ≡ true
 item-representable plan L.Op q parts tail = refl
 item-representable plan l q parts tail = grind arith
 
 module _ (plan : Plan) (limits : IsTrue (is_within_limits plan)) (config_representable : IsTrue (is_representable plan)) where
-  -- No word of a row has the call or the cores.
+  -- A tail is read back, and leaves the values of all words of the row as they are.
   tail-back : (tail : Tail) (words : List (List ℕ)) (p q : Parts) → with_tail plan tail words p ≡ Some q → TailBack plan tail words p q
   tail-back T.Nothing [] p q e = let same : p ≡ q = cc in rw (← same) (record { words_are = refl; representable = refl; stays = refl })
   tail-back T.Nothing (w ∷ words) p q e = cc
@@ -80,7 +80,7 @@ first-found : (f : Line → Option Item) (ls : List Line) (item : Item) (P : Typ
 first-found f [] item P each e = cc
 first-found f (l ∷ ls) item P each e = grind (arith, each l, first-found f ls item P each)
 
--- The item that a line says has this line, and is representable.
+-- The item that is read from a line has this line, and is representable.
 pub line-back : (plan : Plan) → IsTrue (is_within_limits plan) → IsTrue (is_representable plan) → (text : List ℕ) (item : Item) → item_of_text plan text ≡ Some item → (line_of plan item ≡ text) × (is_item_representable plan item ≡ true)
 line-back plan limits config_representable text item e =
     first-found (item_as plan (words_of text)) LINES item _ (λ l is. as-line plan limits config_representable text (words_of text) l item refl is) e

@@ -1,4 +1,4 @@
--- What is left to read gives the whole, a step further.
+-- Steps of reading: after each step, reading what is left still gives the result of the whole.
 use Rattle.std.proofs.Common.{◌≡◌, ℕ, zero, suc, ◌<◌, false, Option, Some, None, is_none, List, [], ◌∷◌, length, drop, refl, sym, arith}
 use Rattle.std.specs.Borrow.{Bor}
 use Rattle.ossyntax.specs.ParsedOp.{rest_words, words_of}
@@ -9,13 +9,13 @@ use Rattle.oslog.specs.declared.rows.Tail.TheVariants as T
 
 -- ---- the words of a row
 
--- a row with more parts needs a word
+-- a row with parts left to read needs another word
 pub no-word : (plan : Plan) (kinds : List Kind) (i : ℕ) (parts : Parts) → i < length kinds → read_words plan (drop i kinds) [] parts ≡ None
 no-word plan [] i parts within = absurd (omega (arith, within))
 no-word plan (k ∷ kinds) zero parts within = refl
 no-word plan (k ∷ kinds) (suc i) parts within = no-word plan kinds i parts (omega (arith, within))
 
--- where a text is left, a word is too many
+-- if text is left after a row without a tail, the line has a word too many
 pub no-tail : (plan : Plan) (tail : Tail) (text : Option (Bor (List ℕ))) (parts : Parts) → tail ≡ T.Nothing → is_none text ≡ false → None ≡ with_tail plan tail (rest_words text) parts
 no-tail plan tail None parts is some = cc
 no-tail plan tail (Some text) parts is some = let none = some-word text.now in rw is (sym (left (words_of text.now) none))

@@ -28,17 +28,17 @@ end-kept [] = inl refl
 end-kept (c ∷ []) = grind (arith, common_steps)
 end-kept (c ∷ d ∷ text) = grind (arith, end-kept (d ∷ text))
 
--- an end goes
+-- a line end at the end is taken away
 before-end : (text : List ℕ) → before_end (text ++ 10 ∷ []) ≡ text
 before-end [] = refl
 before-end (c ∷ []) = refl
 before-end (c ∷ d ∷ text) = ap (λ rest. c ∷ rest) (before-end (d ∷ text))
 
--- a text that begins with lines that are not empty is not empty
+-- if the first line is not empty, neither is the text that begins with it
 joined-some : (line : List ℕ) (lines : List (List ℕ)) → not (length line == 0) ≡ true → not (length (join_with_byte 10 (line ∷ lines)) == 0) ≡ true
 joined-some line lines some = grind (arith, some-more)
 
--- to take away no end is to take away none but the last
+-- if `before_end` takes nothing away, neither does `without_last_end`
 last-kept : (text : List ℕ) → before_end text ≡ text → without_last_end text ≡ text
 last-kept text same = grind arith
 
@@ -47,11 +47,11 @@ last-goes [] some = cc
 last-goes (c ∷ []) some = refl
 last-goes (c ∷ d ∷ text) some = ap (λ rest. c ∷ rest) (before-end (d ∷ text))
 
--- a text that does not end so stays
+-- a text that does not end in a line end stays as it is
 pub last-stays : (text : List ℕ) → ((front : List ℕ) → text ≢ front ++ 10 ∷ []) → without_last_end text ≡ text
 last-stays text none = grind (arith, end-kept text, last-kept text, none (before_end text))
 
--- a text that ends so has an empty last line
+-- a text that ends in a line end has an empty last line
 split-ended : (front : List ℕ) → slice_split (λ b. b == 10) (front ++ 10 ∷ []) ≡ slice_split (λ b. b == 10) front ++ [] ∷ []
 split-ended [] = refl
 split-ended (c ∷ front) = grind (arith, split-ended front, length-slice_split (λ b. b == 10) front)
@@ -59,7 +59,7 @@ split-ended (c ∷ front) = grind (arith, split-ended front, length-slice_split 
 last-empty : (front lines : List (List ℕ)) → lines ≡ front ++ [] ∷ [] → list_all (λ (text : List ℕ). not (length text == 0)) lines ≡ true → ⊥
 last-empty front lines is some = grind (arith, list_all-append {X = List ℕ})
 
--- so lines that are not empty stay
+-- so joined lines that are not empty stay as they are
 joined-stays : (line : List ℕ) (lines : List (List ℕ)) → list_all (has_none 10) (line ∷ lines) ≡ true → list_all (λ (text : List ℕ). not (length text == 0)) (line ∷ lines) ≡ true → without_last_end (join_with_byte 10 (line ∷ lines)) ≡ join_with_byte 10 (line ∷ lines)
 joined-stays line lines none some =
     last-stays (join_with_byte 10 (line ∷ lines)) (λ front is.
@@ -69,18 +69,18 @@ joined-stays line lines none some =
 body-some : (c : ℕ) (text : List ℕ) → not (length (without_last_end (c ∷ text)) == 0) ≡ true
 body-some c text = grind arith
 
--- A text that is not empty is what stands before the end of its last line, or that with an end.
+-- A text that is not empty is what precedes the end of its last line, with or without that end.
 body-whole : (c : ℕ) (text : List ℕ) → (c ∷ text ≡ without_last_end (c ∷ text)) ⊎ (c ∷ text ≡ without_last_end (c ∷ text) ++ 10 ∷ [])
 body-whole c text = grind (arith, end-kept text)
 
 some-parts : (byte : ℕ) (body : List ℕ) → not (length body == 0) ≡ true → parts_of byte body ≡ slice_split (λ b. b == byte) body
 some-parts byte body some = grind arith
 
--- there are not many more parts than bytes
+-- a text has at most one part more than it has bytes
 few-lines : (byte : ℕ) (text : List ℕ) → length (parts_of byte text) ≤ length text + 1
 few-lines byte text = grind (arith, length-slice_split (λ b. b == byte) text, count_by-le-length (λ b. b == byte) text)
 
--- where the lines are no items, the text means none
+-- if not every line is an item, the text means no items
 pub none-meant : (plan : Plan) (text body : List ℕ) → body ≡ without_last_end text → each_of_few (length body + 1) (item_of_text plan) (parts_of 10 body) ≡ None → log_of_text plan text ≡ None
 none-meant plan text body is none =
     let few : nat_le (length (parts_of 10 body)) (length body + 1) ≡ true = le-leb (length (parts_of 10 body)) (length body + 1) (few-lines 10 body) in
@@ -102,7 +102,7 @@ module _ (plan : Plan) (limits : IsTrue (is_within_limits plan)) (config_represe
   body-text body [] lines = let none = ap length lines in absurd (omega (arith, length-slice_split (λ b. b == 10) body))
   body-text body (item ∷ items) lines = text-joined plan item items ∙ ap (λ (texts : List (List ℕ)). join_with_byte 10 texts ++ 10 ∷ []) lines ∙ rw (join_with_byte-slice_split 10 body)
 
-  -- The items that a text means are those whose log it is.
+  -- A text is a log of the items that it means.
   pub log-back : (text : List ℕ) (items : List Item) → log_of_text plan text ≡ Some items → IsLog plan text items
   log-back [] items e =
       let none : [] ≡ items = cc in
@@ -140,7 +140,7 @@ module _ (plan : Plan) (limits : IsTrue (is_within_limits plan)) (config_represe
   no-items [] is = refl
   no-items (c ∷ text) is = grind arith
 
-  -- A log of items means them.
+  -- A log of items means these items.
   pub log-read : (text : List ℕ) (items : List Item) → IsLog plan text items → log_of_text plan text ≡ Some items
   log-read text [] log = no-items text log.text_is
   log-read text (item ∷ items) log =
@@ -149,7 +149,7 @@ module _ (plan : Plan) (limits : IsTrue (is_within_limits plan)) (config_represe
       let lines = split-joined 10 (line_of plan item) (map (line_of plan) items) refl (lines-none (item ∷ items) log.representable) in
       rw (body-read text item items log.representable log.text_is, parts, lines) (lines-read (item ∷ items) log.representable)
 
--- A text that means none is no log, and one that means some is the log of no others.
+-- A text that means no items is no log. A text that means items is the log of no others.
 pub no-log : (plan : Plan) → IsTrue (is_within_limits plan) → IsTrue (is_representable plan) → (text : List ℕ) → log_of_text plan text ≡ None → (items : List Item) → IsLog plan text items → ⊥
 no-log plan limits config_representable text none items log = let both : Some items ≡ None = sym (log-read plan limits config_representable text items log) ∙ none in cc
 

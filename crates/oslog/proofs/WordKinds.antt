@@ -1,4 +1,4 @@
--- What a word of each kind says, and its text: a word that is read is the text of what it says, and that is representable.
+-- A word that is read is the text of the value that was read from it, and that value is representable.
 use Rattle.std.proofs.Common.{◌≡◌, ℕ, suc, ◌-◌, ◌<◌, ◌^◌, nat_le, ℤ, Bool, true, false, Option, Some, option_map, List, [], ◌∷◌, ◌++◌, length, get_or, IsTrue, refl, sym, ap, ◌∙◌, arith}
 use Rattle.std.specs.{Fmt.decimal, Fmt.signed_decimal, Str.bytes_eq}
 use Rattle.std.proofs.{lemmas.Bool.and_parts, lemmas.Bool.le-leb, lemmas.Grind.common_steps, lemmas.Fmt.decimal-digits_value, lemmas.Slice.Eq.bytes_eq-Decides}
@@ -12,7 +12,7 @@ use Rattle.osplan.proofs.{Tests.find-holds, ModeObjects.mode-named, ModeObjects.
 use Rattle.osplan.specs.{Representable.is_representable, declared.plans.Plan.Plan}
 use Rattle.osplan.specs.Limits.{is_mode, is_object, is_spinlock, is_within_limits}
 use Rattle.osplan.specs.Names.{isr_name, name_of, name_of_mode, spinlock_name}
-use Rattle.oslog.specs.Naming.{all_named, if_object, isr_named, mode_named, name_of_object, named_by, place_named, spinlock_named}
+use Rattle.oslog.specs.Naming.{all_named, place_of_kind, isr_named, mode_named, name_of_object, named_by, place_named, spinlock_named}
 use Rattle.oslog.specs.{Rows.keyword_text, declared.forms.Parts.Parts, declared.rows.Kind.Kind}
 use Rattle.oslog.specs.Words.{behind, core_of, irq_of, irq_prefix, status_of, with_word, word_text}
 use Rattle.oslog.specs.declared.rows.Kind.TheVariants as K
@@ -44,13 +44,13 @@ int-word =
 pub named-is : (plan : Plan) (w : List ℕ) (n : Object) → named_by plan w ≡ Some n → name_of_object plan n ≡ w
 named-is plan w n e = (bytes_eq-Decides (name_of_object plan n) w).0 (find-holds (λ (n : Object). bytes_eq (name_of_object plan n) w) (all_named plan) n e)
 
-object-is : (kind : ObjectKind) (object : Object) (found : Place) → if_object kind object ≡ Some found → object ≡ record { kind = kind; place = found }
+object-is : (kind : ObjectKind) (object : Object) (found : Place) → place_of_kind kind object ≡ Some found → object ≡ record { kind = kind; place = found }
 object-is kind object found e = grind (arith, same_kind-true object.kind kind)
 
 status-word : (w : List ℕ) (s : Status) → status_of w ≡ Some s → status_name s ≡ w
 status-word w s e = (bytes_eq-Decides (status_name s) w).0 (find-holds (λ (s : Status). bytes_eq (status_name s) w) STATUS_LIST s e)
 
--- what stands behind a text at the front of a word
+-- a word is its front, followed by the rest that is read behind it
 behind-is : (front word rest : List ℕ) → behind front word ≡ Some rest → front ++ rest ≡ word
 behind-is [] word rest e = cc
 behind-is (f ∷ front) [] rest e = cc
@@ -58,7 +58,7 @@ behind-is (f ∷ front) (c ∷ word) rest e = grind (arith, common_steps, behind
 
 -- ---- any kind
 
--- What the parts have for a kind is representable.
+-- The value that the parts have for a kind is representable.
 abbrev pub is_part_representable : Plan → Parts → Kind → Bool
 is_part_representable plan q K.Core = nat_le q.core.number 255
 is_part_representable plan q K.Count = nat_le q.count 18446744073709551615
@@ -68,16 +68,16 @@ is_part_representable plan q K.Irq = is_object plan (isr_object q.isr)
 is_part_representable plan q K.Spinlock = is_spinlock plan q.spinlock
 is_part_representable plan q k = true
 
--- Its text, and whether it is representable.
+-- The text of the value that the parts have for a kind, and whether that value is representable.
 abbrev pub part_view : Plan → Parts → Kind → List ℕ × Bool
 part_view plan q k = (word_text plan q k, is_part_representable plan q k)
 
 module _ (plan : Plan) (limits : IsTrue (is_within_limits plan)) (config_representable : IsTrue (is_representable plan)) where
   pub place-spells : (kind : ObjectKind) (name : List ℕ) (found : Place) → place_named plan kind name ≡ Some found → name_of plan kind found ≡ name
-  place-spells kind name found e = let c = chained (if_object kind) (named_by plan name) found e in ap (name_of_object plan) (sym (object-is kind c.0 found c.2)) ∙ named-is plan name c.0 c.1
+  place-spells kind name found e = let c = chained (place_of_kind kind) (named_by plan name) found e in ap (name_of_object plan) (sym (object-is kind c.0 found c.2)) ∙ named-is plan name c.0 c.1
 
   pub place-there : (kind : ObjectKind) (name : List ℕ) (found : Place) → place_named plan kind name ≡ Some found → is_object plan (record { kind = kind; place = found }) ≡ true
-  place-there kind name found e = let c = chained (if_object kind) (named_by plan name) found e in ap (is_object plan) (sym (object-is kind c.0 found c.2)) ∙ named-there plan limits config_representable name c.0 c.1
+  place-there kind name found e = let c = chained (place_of_kind kind) (named_by plan name) found e in ap (is_object plan) (sym (object-is kind c.0 found c.2)) ∙ named-there plan limits config_representable name c.0 c.1
 
   mode-back : (w : List ℕ) (m : ModeId) → mode_named plan w ≡ Some m → (name_of_mode plan m ≡ w) × (is_mode plan m ≡ true)
   mode-back w m e =
@@ -111,7 +111,7 @@ module _ (plan : Plan) (limits : IsTrue (is_within_limits plan)) (config_represe
   word-back K.Irq w p q e = let m = mapped (λ isr. record p { isr = isr }) (irq_of plan w) q e in rw (← m.2) (irq-back w m.0 m.1)
   word-back K.Spinlock w p q e = let m = mapped (λ spinlock. record p { spinlock = spinlock }) (spinlock_named plan w) q e in rw (← m.2) (spinlock-back w m.0 m.1)
 
--- ---- a word of one kind leaves those of the others
+-- ---- reading a word of one kind leaves the values of the other kinds as they are
 
 abbrev pub apart : Kind → Kind → Bool
 apart K.Core K.Core = false

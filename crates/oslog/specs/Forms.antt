@@ -1,4 +1,4 @@
--- Items as forms: which form an item has, with the parts of its line, and the item of them again. [own]
+-- Items as forms: the form of an item and the parts of its line, and back from these to the item. [own]
 use Rattle.std.specs.Prelude.{pos, true, false, if◌then◌else◌, Some, None}
 use Rattle.osbase.specs.{History.no_cores, declared.items.Item.Item, declared.messages.Message.Message, declared.statuses.Status.TheVariants.EOk}
 use Rattle.osbase.specs.declared.items.Agreement.TheVariants as Agreement
@@ -7,7 +7,7 @@ use Rattle.oscript.specs.Calls.{any_action}
 use Rattle.oslog.specs.{declared.forms.Parts.Parts, declared.rows.Line.Line}
 use Rattle.oslog.specs.declared.rows.Line.TheVariants as L
 
--- What parts say before any is read.
+-- The parts of a line before any word is read. Their values are fillers, and mean nothing.
 abbrev pub no_parts : Parts
 no_parts = record {
   core = record { number = 0 };
@@ -21,10 +21,11 @@ no_parts = record {
   cores = no_cores;
 }
 
+-- The item of a received letter with this message. `parts` has the letter's sender and number.
 abbrev pub received : Parts → Message → Item
 received parts message = Item.Received parts.core parts.count message
 
--- The item of a form and the parts of its line.
+-- The item of a line of this form, by the parts of the line.
 abbrev pub item_of : Line → Parts → Item
 item_of L.Op parts = Item.Stim Stimulus.Op
 item_of L.Tick parts = Item.Stim Stimulus.Tick
@@ -52,13 +53,14 @@ item_of L.PassEnd parts = Item.PassEnd
 item_of L.Last parts = Item.Last None
 item_of L.LastHalted parts = Item.Last (Some (parts.core, parts.status))
 
--- The form of an item, and the parts of its line.
+-- The form of a received letter with this message, and `parts` with what the message says added.
 abbrev pub message_form : Parts → Message → Line × Parts
 message_form parts (Message.Request call) = (L.Request, record parts { call = call })
 message_form parts (Message.Action call) = (L.Action, record parts { call = call })
 message_form parts (Message.Reply status) = (L.Reply, record parts { status = status })
 message_form parts (Message.Value status value) = (L.Value, record parts { status = status; value = value })
 
+-- The form of an item, and the parts of its line.
 abbrev pub form_of : Item → Line × Parts
 form_of Item.On = (L.On, no_parts)
 form_of (Item.Began core status) = (L.Began, record no_parts { core = core; status = status })

@@ -6,7 +6,7 @@ use Rattle.oslog.specs.declared.rows.Kind.TheVariants as K
 use Rattle.oslog.specs.declared.rows.Line.TheVariants as L
 use Rattle.oslog.specs.declared.rows.Tail.TheVariants as T
 
--- The words of a log's own.
+-- The text of a keyword, one of the log's own words.
 abbrev pub keyword_text : Word → List ℕ
 keyword_text W.On = codes "on"
 keyword_text W.Began = codes "began"
@@ -34,14 +34,15 @@ keyword_text W.Drained = codes "drained"
 keyword_text W.PassEnd = codes "passend"
 keyword_text W.Last = codes "last"
 
--- A row by its parts: the word at the front, the words behind it, and what follows them.
+-- A row by its parts: the first word, the kinds of the words after it, and what follows these words.
 abbrev pub row_view : Row → Word × List Kind × Tail
 row_view row = (row.first, row.kinds.now, row.tail)
 
+-- The row of this first word and words of these kinds, with nothing after them.
 abbrev pub words_row : Word → List Kind → Word × List Kind × Tail
 words_row first kinds = (first, kinds, T.Nothing)
 
--- A letter with a call: its sender, its number, what kind of message it is, and the call.
+-- The row of a letter with a call: `in`, the letter's sender and number, the keyword `message`, and the call.
 abbrev pub call_row : Word → Word × List Kind × Tail
 call_row message = (W.Received, K.Core ∷ K.Count ∷ K.Keyword message ∷ [], T.Call)
 

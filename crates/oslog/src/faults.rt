@@ -9,7 +9,7 @@ use thiserror::Error;
 /// Why a log was not read, or not written.
 #[derive(Clone, Copy, Debug, PartialEq, Eq, Error)]
 pub enum LogFault {
-    /// A line that was read is not that of an item.
+    /// A line is not that of an item.
     #[error("a line is not that of an item")]
     BadLog,
     /// Memory ran out.

@@ -1,4 +1,4 @@
-//! An item as its form and the parts of its line, and the item of them again.
+//! An item as its form and the parts of its line, and back from these to the item.
 
 ghost use Rattle.std.specs.Prelude.{◌≡◌, true};
 ghost use Rattle.osbase.specs.History.{no_cores};
@@ -10,7 +10,7 @@ use osbase::{
     Status, Stimulus, TaskRef,
 };
 
-/// What the parts of a line say, one of each kind. A part that the row of a form does not have is not looked at.
+/// What the parts of a line say, one of each kind. A part that the row of a form does not have is ignored.
 #[derive(Clone, Copy, PartialEq, Eq)]
 pub struct Parts {
     pub core: CoreId,
@@ -25,7 +25,7 @@ pub struct Parts {
 }
 
 impl Parts {
-    /// Before any part is read.
+    /// The parts of a line before any word is read. Their values are fillers, and mean nothing.
     pub fn none() -> Parts
         ensures { result ≡ no_parts }
     {
@@ -44,7 +44,7 @@ impl Parts {
     }
 }
 
-/// The set without a core.
+/// The empty set of cores.
 pub fn no_cores() -> CoreSet
     ensures { result ≡ no_cores }
 {
@@ -53,7 +53,7 @@ pub fn no_cores() -> CoreSet
     }
 }
 
-/// The item of a form and the parts of its line.
+/// The item of a line of this form, by the parts of the line.
 pub fn item_of(line: Line, parts: &Parts) -> Item
     ensures { result ≡ item_of line parts.now }
 {
@@ -92,6 +92,7 @@ pub fn item_of(line: Line, parts: &Parts) -> Item
     }
 }
 
+// The item of a received letter with this message. `parts` has the letter's sender and number.
 fn received(parts: &Parts, message: Message) -> Item
     ensures { result ≡ received parts.now message }
 {
@@ -102,6 +103,7 @@ fn received(parts: &Parts, message: Message) -> Item
     }
 }
 
+// The item of an answered TryToGetSpinlock. `parts` has the spinlock, and `taken` says whether the core got it.
 fn tried(parts: &Parts, taken: bool) -> Item
     ensures { result ≡ Item.Tried parts.now.spinlock taken }
 {
@@ -118,7 +120,7 @@ pub fn form_of(item: &Item) -> (Line, Parts)
     let none = Parts::none();
     match *item {
         Item::On => (Line::On, none),
-        Item::Began { core, status } => answered(Line::Began, core, status),
+        Item::Began { core, status } => with_status(Line::Began, core, status),
         Item::Entered => (Line::Entered, none),
         Item::Pass1(Agreement::Conflict) => (Line::Conflict, none),
         Item::Pass1(Agreement::NoMode) => (Line::NoMode, none),
@@ -136,29 +138,32 @@ pub fn form_of(item: &Item) -> (Line, Parts)
         } => message_form(from, number, message),
         Item::Granted(spinlock) => (Line::Granted, Parts { spinlock, ..none }),
         Item::Tried { spinlock, taken } => {
-            let line = if taken { Line::Taken } else { Line::NotTaken };
-            (line, Parts { spinlock, ..none })
+            let form = if taken { Line::Taken } else { Line::NotTaken };
+            (form, Parts { spinlock, ..none })
         }
         Item::Freed(spinlock) => (Line::Freed, Parts { spinlock, ..none }),
-        Item::Halt { core, status } => answered(Line::Halt, core, status),
+        Item::Halt { core, status } => with_status(Line::Halt, core, status),
         Item::Drained => (Line::Drained, none),
         Item::PassEnd => (Line::PassEnd, none),
         Item::Last(None) => (Line::Last, none),
-        Item::Last(Some((core, status))) => answered(Line::LastHalted, core, status),
+        Item::Last(Some((core, status))) => with_status(Line::LastHalted, core, status),
     }
 }
 
-fn answered(line: Line, core: CoreId, status: Status) -> (Line, Parts)
-    ensures { result ≡ (line, record no_parts { core = core; status = status }) }
+// This form, and parts with this core and this status.
+fn with_status(form: Line, core: CoreId, status: Status) -> (Line, Parts)
+    ensures { result ≡ (form, record no_parts { core = core; status = status }) }
 {
     let parts = Parts {
         core,
         status,
         ..Parts::none()
     };
-    (line, parts)
+    (form, parts)
 }
 
+// The form of a received letter with this message, and the parts of the letter's line. `core` is the sender, and
+// `count` the letter's number.
 fn message_form(core: CoreId, count: u64, message: Message) -> (Line, Parts)
     ensures { result ≡ message_form (record no_parts { core = core; count = count }) message }
 {

@@ -1,8 +1,8 @@
 //! The log of a core: its items as a text, a line for each, and the text as items again.
 //!
-//! The grammar is a table (`rows`): a row for each form of an item. Both ways go over the parts of a row, and
-//! no line is known anywhere else. What a line cannot say, or names that the configuration lacks, is no item;
-//! whether a core may take an item is not asked here.
+//! The grammar is a table (`rows`): a row for each form of an item. Reading and writing both use its rows, and
+//! lines are defined nowhere else. A line that fits no row, or has a name that the configuration lacks, is no item.
+//! Whether a core may take an item is not checked here.
 #![tactic(auto)]
 
 mod faults;

@@ -27,7 +27,8 @@ impl PartReader<Item> for LineReader<'_, '_> {
     }
 }
 
-// The text without the end of its last line. A text of nothing but a line end has an empty line, which is no item.
+// The text without the end of its last line. But a text that is only a line end stays: its line is empty, and an empty
+// line is no item.
 fn without_last_end(text: &str) -> &str
     ensures { result.now ≡ without_last_end text.now }
 {
@@ -37,7 +38,8 @@ fn without_last_end(text: &str) -> &str
     }
 }
 
-// The items of a log, line by line.
+// The items of a log, line by line; the end of the last line may be missing. `BadLog` where a line is not that of an
+// item; `NoMemory` where memory runs out.
 fn items_of_text(alloc: Global, names: &NameIndex, text: &str) -> Result<List<Item>, LogFault>
     ensures ok { IfOk result (λ items. log_of_text names.now.config.now text.now ≡ Some items) }
     ensures bad { result ≡ Err LogFault.BadLog → log_of_text names.now.config.now text.now ≡ None }
@@ -52,8 +54,8 @@ fn items_of_text(alloc: Global, names: &NameIndex, text: &str) -> Result<List<It
     }
 }
 
-/// The items of a core's log, in order: those whose text it is. The end of the last line may be missing. `BadLog`
-/// where it is the text of no items. Every core of the configuration reads a log alike.
+/// The items of this log, in order. The end of the last line may be missing. `BadLog` if no list of items has this text
+/// as its log; `NoMemory` where memory runs out. Every core of the configuration reads a log in the same way.
 pub fn read_log(
     alloc: Global,
     config: &Config,
@@ -62,7 +64,7 @@ pub fn read_log(
 ) -> Result<List<Item>, LogFault>
     requires { IsSome (core_of config.now _core) }
     ensures ok { IfOk result (IsLog config.now text.now) }
-    // No other items have this text.
+    // The text is the log of no other items.
     ensures only { IfOk result (λ items. (others : ListOf ItemValue) → IsLog config.now text.now others → others ≡ items) }
     ensures bad { result ≡ Err LogFault.BadLog → (items : ListOf ItemValue) → IsLog config.now text.now items → ⊥ }
 {

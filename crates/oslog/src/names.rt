@@ -1,4 +1,4 @@
-//! What the names of a configuration refer to, by an index.
+//! The objects that the names of a configuration refer to, found by an index.
 
 ghost use Rattle.std.specs.Prelude.{◌≡◌, ◌≤◌, ◌++◌, IfOk, IsTrue, OnOk};
 ghost use Rattle.osplan.specs.{Representable.is_representable, Limits.is_within_limits, declared.plans.TheConstants.COMMON};
@@ -37,7 +37,7 @@ impl Names for PlanNames<'_> {
     }
 }
 
-// The object of this index under a core's number, or nobody's.
+// The object of this kind and index. `core` is the object's core, or `NOBODY` if all cores have it in common.
 fn object_under(core: CoreId, kind: ObjectKind, index: u8) -> Object
     ensures { result ≡ object_under core kind index }
 {
@@ -45,6 +45,8 @@ fn object_under(core: CoreId, kind: ObjectKind, index: u8) -> Object
     Object { kind, place }
 }
 
+// Adds the objects of this kind at the first `count` indices. `core` is their core, or `NOBODY` if all cores have them
+// in common.
 fn push_objects(
     named: &mut List<Object>,
     core: CoreId,
@@ -62,6 +64,7 @@ fn push_objects(
     Ok(())
 }
 
+// Adds the objects that all cores have in common, kind by kind.
 fn push_common(named: &mut List<Object>, plan: &Plan) -> Result<(), AllocError>
     requires { HasFewCommon plan.now }
     ensures { OnOk result (named.new ≡ named.old ++ flat_map (common_in plan.now) COMMON) }
@@ -72,6 +75,7 @@ fn push_common(named: &mut List<Object>, plan: &Plan) -> Result<(), AllocError>
     Ok(())
 }
 
+// Adds all objects of a core, kind by kind.
 fn push_core(named: &mut List<Object>, core: &Core) -> Result<(), AllocError>
     requires { HasFew core.now }
     ensures { OnOk result (named.new ≡ named.old ++ named_in core.now) }
@@ -82,7 +86,7 @@ fn push_core(named: &mut List<Object>, core: &Core) -> Result<(), AllocError>
     Ok(())
 }
 
-// All that has a name.
+// All objects that have a name: those that all cores have in common, and then those of each core.
 fn all_named(alloc: Global, plan: &Plan) -> Result<List<Object>, AllocError>
     requires { IsTrue (is_within_limits plan.now) }
     ensures { IfOk result (λ named. named ≡ all_named plan.now) }
@@ -95,7 +99,7 @@ fn all_named(alloc: Global, plan: &Plan) -> Result<List<Object>, AllocError>
     Ok(named)
 }
 
-// Of each name what it stands for first.
+// An index that has, for each name, the first of these objects with that name.
 fn index_of<'p>(
     alloc: Global,
     names: &PlanNames<'p>,
@@ -105,7 +109,7 @@ fn index_of<'p>(
 {
     let mut index = HashMap::new(alloc);
     let mut place = named.len();
-    // From the last one on, so that of one name the first one stays.
+    // From the last object to the first, so that the first object of each name stays.
     while place > 0 {
         place -= 1;
         let _later = index.insert(names.name_of(named[place]), named[place])?;
@@ -133,7 +137,7 @@ impl<'p> NameIndex<'p> {
         Ok(NameIndex { config, index })
     }
 
-    /// The application mode of this name.
+    /// The application mode of this name, if there is one.
     pub fn mode(&self, name: &str) -> Option<ModeId>
         ensures { result ≡ mode_named self.now.config.now name.now }
     {
@@ -143,7 +147,7 @@ impl<'p> NameIndex<'p> {
         }
     }
 
-    /// The spinlock of this name.
+    /// The spinlock of this name, if there is one.
     pub fn spinlock(&self, name: &str) -> Option<SpinlockId>
         ensures { result ≡ spinlock_named self.now.config.now name.now }
     {
@@ -153,7 +157,7 @@ impl<'p> NameIndex<'p> {
         }
     }
 
-    /// The ISR of this name, on whichever core.
+    /// The ISR of this name, on whichever core, if there is one.
     pub fn isr(&self, name: &str) -> Option<IsrRef>
         ensures { result ≡ isr_named self.now.config.now name.now }
     {

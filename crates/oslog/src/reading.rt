@@ -15,14 +15,14 @@ use osbase::{IsrRef, Item, RemoteCall};
 use oscript::call_of_op;
 use ossyntax::{cut, int_of, number_in, op_of_text};
 
-// The ISR of a word that says an interrupt of it.
+// The ISR of a word: `irq=` and the ISR's name.
 fn irq_of(names: &NameIndex, word: &str) -> Option<IsrRef>
     ensures { result ≡ irq_of names.now.config.now word.now }
 {
     names.isr(word.strip_prefix("irq=")?)
 }
 
-// The parts with what a word of this kind says.
+// The parts, with the value of a word of this kind added. None if the word is not of this kind.
 fn with_word(names: &NameIndex, kind: Kind, word: &str, parts: Parts) -> Option<Parts>
     ensures { result ≡ with_word names.now.config.now kind word.now parts }
 {
@@ -65,7 +65,8 @@ fn with_word(names: &NameIndex, kind: Kind, word: &str, parts: Parts) -> Option<
     }
 }
 
-// The parts of a line's words behind the first, and what follows them.
+// The parts that the first words of the text give, one of each of these kinds, and the text that follows these words.
+// None if a word is missing or not of its kind.
 #[inline(always)]
 fn read_words<'t>(
     names: &NameIndex,
@@ -84,7 +85,8 @@ fn read_words<'t>(
     Some((parts, left))
 }
 
-// The call that an operation's words say, if it goes across cores and names its object.
+// The call that the words of an operation mean, if the operation goes across cores and names its object, and its mask
+// (if any) has an event.
 fn call_of(names: &NameIndex, text: &str) -> Option<RemoteCall>
     ensures { result ≡ call_of names.now.config.now (words_of text.now) }
 {
@@ -96,7 +98,8 @@ fn call_of(names: &NameIndex, text: &str) -> Option<RemoteCall>
     call
 }
 
-// The parts with what stands behind the words.
+// The parts, with the call or the cores added that the text after a row's words means. None if the text does not fit;
+// with `Nothing`, if there is a text.
 fn with_tail(names: &NameIndex, tail: Tail, text: Option<&str>, parts: Parts) -> Option<Parts>
     ensures { result ≡ with_tail names.now.config.now tail (rest_words text.entry) parts }
 {
@@ -113,26 +116,27 @@ fn with_tail(names: &NameIndex, tail: Tail, text: Option<&str>, parts: Parts) ->
     }
 }
 
-// The item of a line of this form, of which these are the first word and what follows it.
+// The item of a line of this form. `first` is the first word of the line, and `rest` is what follows it. None if the
+// line does not fit the form.
 #[inline(always)]
-fn item_as(names: &NameIndex, line: Line, first: &str, rest: Option<&str>) -> Option<Item>
-    ensures { result ≡ item_as names.now.config.now (first.now ∷ rest_words rest.entry) line }
+fn item_as(names: &NameIndex, form: Line, first: &str, rest: Option<&str>) -> Option<Item>
+    ensures { result ≡ item_as names.now.config.now (first.now ∷ rest_words rest.entry) form }
 {
-    let row = row_of(line);
+    let row = row_of(form);
     if first != row.first.text() {
         return None;
     }
     let (parts, rest) = read_words(names, row.kinds, rest)?;
     let parts = with_tail(names, row.tail, rest, parts)?;
-    Some(item_of(line, &parts))
+    Some(item_of(form, &parts))
 }
 
-// The item of the first of these forms that the line has.
-fn first_item(names: &NameIndex, lines: &[Line], first: &str, rest: Option<&str>) -> Option<Item>
-    ensures { result ≡ first_item (item_as names.now.config.now (first.now ∷ rest_words rest.entry)) lines.now }
+// The item of a line, given by its first word and the rest, in the first of these forms that fits. None if none fits.
+fn first_item(names: &NameIndex, forms: &[Line], first: &str, rest: Option<&str>) -> Option<Item>
+    ensures { result ≡ first_item (item_as names.now.config.now (first.now ∷ rest_words rest.entry)) forms.now }
 {
-    for line in lines {
-        let item = item_as(names, *line, first, rest);
+    for form in forms {
+        let item = item_as(names, *form, first, rest);
         if item.is_some() {
             return item;
         }
@@ -140,7 +144,7 @@ fn first_item(names: &NameIndex, lines: &[Line], first: &str, rest: Option<&str>
     None
 }
 
-/// The item of a line: that of the first form which the line has.
+/// The item of a line, in the first form that fits. None if none fits.
 pub fn item_of_text(names: &NameIndex, text: &str) -> Option<Item>
     ensures { result ≡ item_of_text names.now.config.now text.now }
 {

@@ -5,7 +5,7 @@ ghost use Rattle.oslog.specs.Rows.{keyword_text, row_of, row_view, words_row};
 ghost use Rattle.oslog.specs.declared.rows.Keyword.{Keyword as Word};
 ghost use Rattle.oslog.specs.declared.rows.Tail.TheVariants as tails;
 
-/// A form of an item. Where an item says one of several things, each is a form of its own.
+/// A form of an item. An item with several alternatives has a form for each.
 #[derive(Clone, Copy, PartialEq, Eq)]
 pub enum Line {
     Op,
@@ -33,11 +33,11 @@ pub enum Line {
     Drained,
     PassEnd,
     Last,
-    /// The end, after a request for a shutdown of all cores.
+    /// The end of a log, after a request for a shutdown of all cores.
     LastHalted,
 }
 
-/// Every form. A line is looked for from the front, so what logs have most stands first, and a keyword before a name.
+/// All forms, in the order in which they are tried: the most frequent ones first, and a keyword before a name.
 pub const LINES: [Line; 25] = [
     Line::Op,
     Line::Tick,
@@ -66,7 +66,7 @@ pub const LINES: [Line; 25] = [
     Line::LastHalted,
 ];
 
-/// A word of a log's own.
+/// One of the log's own words.
 #[derive(Clone, Copy, PartialEq, Eq)]
 pub enum Keyword {
     On,
@@ -132,7 +132,7 @@ impl Keyword {
     }
 }
 
-/// What a word of a line has to be. No row has two words of one kind, but for keywords.
+/// What a word of a line must be. No row has two words of the same kind, except keywords.
 #[derive(Clone, Copy, PartialEq, Eq)]
 pub enum Kind {
     Keyword(Keyword),
@@ -158,7 +158,7 @@ const YES: Kind = Kind::Keyword(Keyword::Yes);
 
 const NO: Kind = Kind::Keyword(Keyword::No);
 
-/// What stands behind the words of a line.
+/// What follows the words of a row.
 #[derive(Clone, Copy, PartialEq, Eq)]
 pub enum Tail {
     Nothing,
@@ -168,7 +168,7 @@ pub enum Tail {
     Cores,
 }
 
-/// One row of the grammar: the word at the front, the words behind it, and what follows them.
+/// One row of the grammar: the first word, the words after it, and what follows them.
 #[derive(Clone, Copy)]
 pub struct Row {
     pub first: Keyword,
@@ -176,6 +176,7 @@ pub struct Row {
     pub tail: Tail,
 }
 
+// The row of this first word and words of these kinds, with nothing after them.
 fn words(first: Keyword, kinds: &'static [Kind]) -> Row
     ensures { row_view result ≡ words_row first kinds.now }
 {
@@ -186,6 +187,7 @@ fn words(first: Keyword, kinds: &'static [Kind]) -> Row
     }
 }
 
+// The row of a letter with a call: `in`, words of these kinds, and the call.
 fn call(kinds: &'static [Kind]) -> Row
     ensures { row_view result ≡ (Word.Received, kinds.now, tails.Call) }
 {

@@ -1,4 +1,4 @@
-//! The words of a line, and the numbers and names that they are.
+//! The values of a line's words: statuses, core numbers and sets of cores.
 
 ghost use Rattle.std.specs.Prelude.{◌≡◌};
 ghost use Rattle.osbase.specs.History.{no_cores};
@@ -9,7 +9,7 @@ use crate::forms::no_cores;
 use osbase::{CORES, CoreId, CoreSet, STATUS_LIST, Status};
 use ossyntax::{cut, number_in};
 
-/// The status of this name.
+/// The status that this word names.
 pub fn status_of(word: &str) -> Option<Status>
     ensures { result ≡ status_of word.now }
 {
@@ -19,7 +19,7 @@ pub fn status_of(word: &str) -> Option<Status>
         .find(|status| status.name() == word)
 }
 
-/// The core of this number.
+/// The core whose number is this word: 0 to 255 in decimal.
 pub fn core_of(word: &str) -> Option<CoreId>
     ensures { result ≡ core_of word.now }
 {
@@ -29,7 +29,8 @@ pub fn core_of(word: &str) -> Option<CoreId>
     })
 }
 
-/// The cores of these numbers, which ascend. No number is that of a core which no set has.
+/// The set of the cores whose numbers the text lists, if the numbers ascend and each is below `CORES`. Without a text
+/// it is the empty set.
 pub fn cores_of(text: Option<&str>) -> Option<CoreSet>
     ensures { result ≡ cores_from 0 no_cores (rest_words text.entry) }
 {

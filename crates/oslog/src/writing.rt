@@ -2,7 +2,7 @@
 
 ghost use Rattle.std.specs.Prelude.{◌≡◌, ◌++◌, ◌∷◌, IfErr, IfOk, OnOk, map, string_bytes};
 ghost use Rattle.std.specs.Fmt.{decimal};
-ghost use Rattle.oslog.specs.{Items.led, Items.line_of, Logs.log_text, Words.core_words, Words.word_text};
+ghost use Rattle.oslog.specs.{Items.after_spaces, Items.line_of, Logs.log_text, Words.core_words, Words.word_text};
 ghost use Rattle.ossyntax.specs.Call.{call_words};
 ghost use Rattle.osplan.specs.Names.{name_of};
 
@@ -17,7 +17,7 @@ use osplan::{Config, Plan};
 use ossyntax::op_text;
 use std::alloc::{AllocError, Global};
 
-// Adds a space and a word of this kind.
+// Adds a space and the word of this kind: the keyword, or the text of the value that `parts` has for the kind.
 fn push_word(text: &mut String, plan: &Plan, kind: Kind, parts: &Parts) -> Result<(), AllocError>
     ensures { OnOk result (string_bytes text.new ≡ string_bytes text.old ++ 32 ∷ word_text plan.now parts.now kind) }
 {
@@ -37,13 +37,14 @@ fn push_word(text: &mut String, plan: &Plan, kind: Kind, parts: &Parts) -> Resul
     }
 }
 
+// Adds the words of these kinds for these parts, each after a space.
 fn push_words(
     text: &mut String,
     plan: &Plan,
     kinds: &[Kind],
     parts: &Parts,
 ) -> Result<(), AllocError>
-    ensures { OnOk result (string_bytes text.new ≡ string_bytes text.old ++ led (map (word_text plan.now parts.now) kinds.now)) }
+    ensures { OnOk result (string_bytes text.new ≡ string_bytes text.old ++ after_spaces (map (word_text plan.now parts.now) kinds.now)) }
 {
     for kind in kinds {
         push_word(text, plan, *kind, parts)?;
@@ -51,13 +52,14 @@ fn push_words(
     Ok(())
 }
 
+// Adds a space and the words of the call's operation.
 fn push_call(
     alloc: Global,
     text: &mut String,
     plan: &Plan,
     call: RemoteCall,
 ) -> Result<(), AllocError>
-    ensures { OnOk result (string_bytes text.new ≡ string_bytes text.old ++ led (call_words (name_of plan.now) call)) }
+    ensures { OnOk result (string_bytes text.new ≡ string_bytes text.old ++ after_spaces (call_words (name_of plan.now) call)) }
 {
     let words = op_text(alloc, &PlanNames { plan }, op_of_call(call))?;
     text.push_str(" ")?;
@@ -72,9 +74,9 @@ fn push_number(text: &mut String, number: u8) -> Result<(), AllocError>
     text.push_str(Buffer::new().format(number))
 }
 
-// Adds the cores of the set, by ascending number.
+// Adds the numbers of the set's cores, ascending, each after a space.
 fn push_cores(text: &mut String, cores: &CoreSet) -> Result<(), AllocError>
-    ensures { OnOk result (string_bytes text.new ≡ string_bytes text.old ++ led (core_words cores.now)) }
+    ensures { OnOk result (string_bytes text.new ≡ string_bytes text.old ++ after_spaces (core_words cores.now)) }
 {
     for number in 0..CORE_NUMBERS {
         if cores.contains(CoreId { number }) {
@@ -84,6 +86,7 @@ fn push_cores(text: &mut String, cores: &CoreSet) -> Result<(), AllocError>
     Ok(())
 }
 
+// Adds the line of an item, without its end.
 fn push_line(alloc: Global, text: &mut String, plan: &Plan, item: &Item) -> Result<(), AllocError>
     ensures { OnOk result (string_bytes text.new ≡ string_bytes text.old ++ line_of plan.now item.now) }
 {
@@ -98,11 +101,11 @@ fn push_line(alloc: Global, text: &mut String, plan: &Plan, item: &Item) -> Resu
     }
 }
 
-/// The log of these items: a line for each, in their order. What the configuration lacks has the empty name. `NoMemory`
-/// where memory runs out, and no other fault.
+/// The log of these items: a line for each, in their order. An object that the configuration lacks has the empty name.
+/// `NoMemory` where memory runs out, and no other fault.
 pub fn items_text(alloc: Global, config: &Config, items: &[Item]) -> Result<String, LogFault>
     ensures text { IfOk result (λ text. string_bytes text ≡ log_text config.now items.now) }
-    // Nothing but memory can be missing.
+    // The only fault is that memory runs out.
     ensures fault { IfErr result (λ fault. fault ≡ LogFault.NoMemory) }
 {
     let mut text = String::new(alloc);

@@ -1,4 +1,4 @@
--- Some of the numbers that a configured core may have are cores for which rings can be made, as the crates above need it.
+-- Any choice of the core numbers gives cores for which rings can be made. The crates above need this.
 use Rattle.std.proofs.Common.{◌<◌, ◌≤◌, ◌+◌, ℕ, zero, suc, Bool, true, false, cond, List, ◌∷◌, map, filter, arith}
 use Rattle.std.specs.List.{AllByRecursion}
 use Rattle.osbase.specs.{Sets.core_ids, Sets.numbers_from, declared.limits.TheConstants.CORES, declared.references.CoreId.CoreId}
@@ -8,14 +8,14 @@ use Rattle.osmail.proofs.Through.{all-map}
 abbrev core_of_number : ℕ → CoreId
 core_of_number n = record { number = n }
 
--- some of so many numbers from this one on
+-- the cores that are chosen, of `count` numbers from `first` on
 abbrev some_from : (CoreId → Bool) → ℕ → ℕ → List CoreId
 some_from p first count = filter p (map core_of_number (numbers_from first count))
 
 abbrev IsFrom : ℕ → ℕ → CoreId → Type 0
 IsFrom first count c = (first ≤ c.number) × (c.number < first + count)
 
--- one number before them, if it is among those
+-- one number before them, if it is chosen
 some-more : (first count : ℕ) (b : Bool) (rest : List CoreId) → AllByRecursion (IsFrom (first + 1) count) rest × AreApart rest → AllByRecursion (IsFrom first (suc count)) (cond b (core_of_number first ∷ rest) rest) × AreApart (cond b (core_of_number first ∷ rest) rest)
 some-more first count b rest h = by b
   where

@@ -7,7 +7,7 @@ use Rattle.osbase.proofs.Tables.{table-at, table-same, table-set}
 use Rattle.osmail.specs.Mail.{AreCounted, box_of, has_mail, IsWithin, Mail, place_of, waiting_in}
 use Rattle.osmail.proofs.Boxes.{place_below}
 
--- how many a sender left for a core
+-- how many letters from a sender wait for a core
 abbrev from_at : List (List Letter) → CoreId → ℕ → ℕ
 from_at boxes to n = length (get_or boxes (n * CORES + to.number) [])
 
@@ -18,7 +18,7 @@ waiting-sum : (boxes : List (List Letter)) (to : CoreId) → waiting_in boxes to
 unfolding waiting_in
 waiting-sum boxes to = refl
 
--- each mailbox to the core is part of it
+-- each mailbox to a core is part of what waits for the core
 pub waiting-part : (boxes : List (List Letter)) (from to : CoreId) → from.number < CORES → length (get_or boxes (place_of from to) []) ≤ waiting_in boxes to
 waiting-part boxes from to sender =
     let at = table-at (from_at boxes to) 0 CORES from.number from.number 0 (omega arith) sender in
@@ -26,7 +26,7 @@ waiting-part boxes from to sender =
     let whole = waiting-sum boxes to in
     omega arith
 
--- it is bounded, as each mailbox is
+-- what waits for a core is bounded, as each mailbox is
 pub waiting-most : (cap : ℕ) (boxes : List (List Letter)) (to : CoreId) → to.number < CORES → ((k : ℕ) → k < CORES * CORES → length (get_or boxes k []) ≤ cap) → waiting_in boxes to ≤ CORES * cap
 unfolding waiting_in
 waiting-most cap boxes to receiver within = omega (arith, within)
@@ -35,7 +35,7 @@ module _ (boxes : List (List Letter)) (from to : CoreId) (letters : List Letter)
   abbrev changed : List (List Letter)
   changed = set boxes (place_of from to) letters
 
-  -- by as much as the mailbox changes
+  -- what waits for the core changes by as much as the mailbox
   pub waiting-set_same : waiting_in changed to + length (get_or boxes (place_of from to) []) ≡ waiting_in boxes to + length letters
   waiting-set_same =
       let below : place_of from to < length boxes = omega (arith, place_below from to sender receiver) in
@@ -47,7 +47,7 @@ module _ (boxes : List (List Letter)) (from to : CoreId) (letters : List Letter)
       let old_whole = waiting-sum boxes to in let new_whole = waiting-sum changed to in
       omega (arith, here, at, sum, new, old_whole, new_whole)
 
-  -- those of another core stay
+  -- what waits for another core stays
   pub waiting-set_other : (to' : CoreId) → to'.number < CORES → to'.number ≢ to.number → waiting_in changed to' ≡ waiting_in boxes to'
   waiting-set_other to' receiver' other =
       waiting-sum changed to'
@@ -91,7 +91,7 @@ module _ (room cap : ℕ) (counts : List ℕ) (boxes : List (List Letter)) (from
           get_or-set_at counts to.number to'.number count 0 same (omega (arith, all, receiver)) ∙ fits ∙ ap (waiting_in (set boxes (place_of from to) letters)) (sym one)
       each to' below (inr other) = get_or-set_other counts to.number to'.number count 0 other ∙ is.1 to' below ∙ sym (waiting-set_other boxes from to letters sender receiver is.0.places to' below other)
 
--- at first nothing stands anywhere
+-- at first nothing is in any mailbox
 pub counted-new : (room cap places : ℕ) → places ≡ CORES * CORES → 1 ≤ cap → cap ≤ room → CORES * cap < 2 ^ 16 → IsWithin room cap (replicate places []) × AreCounted (replicate CORES 0) (replicate places [])
 counted-new room cap places all some fits few = (
   record { some = some; fits = fits; few = few; places = length-replicate places [] ∙ all; within = λ k below. omega (arith, empty k below) },

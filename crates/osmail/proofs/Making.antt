@@ -17,7 +17,7 @@ use Rattle.osmail.proofs.Through.{all-at, all-get, all-map, all-snoc, read_at, r
 all-set : {A : Type 0} (P : A → Type 0) (xs : List A) (i : ℕ) (x : A) → AllByRecursion P xs → P x → AllByRecursion P (set xs i x)
 all-set P xs i x all one = recursion_from_All P (set xs i x) (All-set P xs i x one (All-from_recursion P xs all))
 
--- One of them is replaced by one for which it holds, too.
+-- An element is replaced by one of which `P` holds, too.
 all-kept : {A : Type 0} (P : A → Type 0) (xs : List A) (i : ℕ) (old new : A) → i < length xs → old ≡ get_or xs i old → (P old → P new) → AllByRecursion P xs → AllByRecursion P (set xs i new)
 all-kept P xs i old new within is keeps all = all-set P xs i new all (keeps (subst P (sym is) (all-get P xs i old within all)))
 
@@ -54,11 +54,12 @@ apart-at (c ∷ cs) apart zero (suc l) within within' same = absurd (all-get (Is
 apart-at (c ∷ cs) apart (suc k) zero within within' same = absurd (all-get (IsApart c) cs k nobody (omega (arith, within)) apart.0 (sym same))
 apart-at (c ∷ cs) apart (suc k) (suc l) within within' same = ap suc (apart-at cs apart.1 k l (omega (arith, within)) (omega (arith, within')) same)
 
--- Two tables, of the rings by which each end sends and of those by which each takes: both have the same ring.
+-- Two tables, of the rings by which each end sends, and by which each takes. For each pair of ends, both have the same
+-- ring.
 abbrev AreCrossed : List CoreId → List (List (Option RingId)) → List (List (Option RingId)) → Type 0
 AreCrossed cores tos froms = (k l : ℕ) → k < length cores → l < length cores → entry tos k (number_at cores l) None ≡ entry froms l (number_at cores k) None
 
--- So they still do, where one ring more came into both.
+-- The two tables still have the same ring for each pair, if one ring more is put into both.
 crossed : (cores : List CoreId) (tos froms : List (List (Option RingId))) (i j : ℕ) (ring : Option RingId) → AreApart cores → i < length cores → j < length cores → HasPlace tos i (number_at cores j) → HasPlace froms j (number_at cores i) → AreCrossed cores tos froms
     → AreCrossed cores (put tos i (number_at cores j) ring) (put froms j (number_at cores i) ring)
 crossed cores tos froms i j ring apart within within' has has' all k l below below' =
@@ -113,7 +114,7 @@ module _ (ends : List RingEnd) where
       (λ k within. all-make (IsLinked (get_or ids k no_end)) ids no_end
       (λ l within'. rw (id-at ends k, id-at ends l) (all k l (omega (arith, within, lengths, cores)) (omega (arith, within', lengths, cores)))))
 
--- Each end has a place for each of their cores.
+-- Each end has a place for the core of each end.
 has-place : {B : Type 0} (row : RingEnd → List B) (ends : List RingEnd) (i j : ℕ) → ((end : RingEnd) → HasPlaces end → length (row end) ≡ CORES) → AreMade ends → i < length ends → j < length ends → HasPlace (map row ends) i (core_at ends j).number
 has-place row ends i j wide made within within' =
     let below = all-get IsInRange (cores_of ends) j nobody (omega (arith, length-map ends core_of_end)) made.cores.0 in
@@ -158,7 +159,7 @@ module _ (ends : List RingEnd) (i j : ℕ) (e e' : RingEnd) (p : Sender) (within
     cores_kept : cores_of after ≡ cores_of ends
     cores_kept = read_same core_of_end between j g g' beyond is' core' ∙ read_same core_of_end ends i e e' within is core
 
-    -- each table has one value more, what is read of the ring
+    -- each table has one value more, which is read off the ring
     to-after : {B : Type 0} (f : Option Sender → B) → to_rows f after ≡ put (to_rows f ends) i (core_at ends j).number (f (Some p))
     to-after f =
         let row = λ (end : RingEnd). map f end.to.items in
@@ -237,6 +238,6 @@ all_unused ends made = all-map HasFreshRings IsUnused ends (λ end fresh c. (not
 pub room_more : (P : CoreId → Type 0) (cores : List CoreId) (j : ℕ) → j < length cores → AllByRecursion P (take j cores) → P (get_or cores j (record { number = 0 })) → AllByRecursion P (take (j + 1) cores)
 room_more P cores j within all one = subst (AllByRecursion P) (sym (take_more cores j nobody within)) (all-snoc P (take j cores) (get_or cores j nobody) all one)
 
--- All ends have room, where each does by its place.
+-- All ends have room, if the end at each place has.
 pub room_all : (ends : List RingEnd) (cores : List CoreId) (cap : ℕ) → ((k : ℕ) → k < length ends → AllByRecursion (λ d. free_at ends k d ≡ cap) cores) → AllByRecursion (HasRoom cores cap) ends
 room_all ends cores cap each = recursion_from_All (HasRoom cores cap) ends (λ k d within. all-map (λ c. free_at ends k c ≡ cap) (λ c. free_to c (get_or ends k d) ≡ cap) cores (λ c free. sym (read_at (free_to c) ends k (get_or ends k d) 0 within (get_or_default ends k d (get_or ends k d) within)) ∙ free) (each k within))

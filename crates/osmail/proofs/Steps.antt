@@ -14,14 +14,14 @@ taken-append [] ys d = refl
 taken-append (Sent to e ∷ xs) ys d = taken-append xs ys d
 taken-append (Taken from e ∷ xs) ys d = grind (arith, taken-append xs ys d)
 
--- A letter more that was sent.
+-- One more letter was sent.
 pub sent_after_sent : (xs new : List MailStep) (to : CoreId) (e : Letter) → new ≡ xs ++ Sent to e ∷ [] → HasOneMore to e (sent_to xs) (sent_to new)
 sent_after_sent xs new to e is d = grind (arith, is, sent-append xs (Sent to e ∷ []) d, append-nil (sent_to xs d))
 
 pub taken_after_sent : (xs new : List MailStep) (to : CoreId) (e : Letter) → new ≡ xs ++ Sent to e ∷ [] → AreUnchanged (taken_from xs) (taken_from new)
 taken_after_sent xs new to e is d = rw is (taken-append xs (Sent to e ∷ []) d ∙ append-nil (taken_from xs d))
 
--- One that was taken.
+-- One more letter was taken.
 pub taken_after_taken : (xs new : List MailStep) (from : CoreId) (e : Letter) → new ≡ xs ++ Taken from e ∷ [] → HasOneMore from e (taken_from xs) (taken_from new)
 taken_after_taken xs new from e is d = grind (arith, is, taken-append xs (Taken from e ∷ []) d, append-nil (taken_from xs d))
 

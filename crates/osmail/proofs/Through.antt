@@ -1,4 +1,4 @@
--- What went through rings, where one of them changed; and what both ends of a ring show together.
+-- What went through rings, if one of them changed; and what both ends of a ring show together.
 use native.Mathlib.Omega.{arith}
 use Rattle.std.proofs.Common.{◌≡◌, ◌==◌, ◌<◌, ◌≤◌, ◌+◌, ℕ, zero, suc, Option, Some, None, List, [], ◌∷◌, ◌++◌, length, map, take, get_or, set, refl, sym, ap, subst, ◌∙◌, get_or-set_other}
 use Rattle.std.proofs.lemmas.{Bool.Decides.nat_tests, Grind.get_or-set_at, List.get_or-map, List.length-map, List.map-append, List.map-set}
@@ -9,19 +9,19 @@ use Rattle.osbase.specs.{declared.messages.Envelope.Envelope, declared.messages.
 use Rattle.osmail.specs.{declared.rings.RingEnd.RingEnd, Ends.letters_of}
 use Rattle.osmail.specs.Rings.{AreBothDelivered, AreBothLinked, AreDelivered, AreLinked, EndId, EndPast, IsDelivered, IsLinked, IsRingDelivered, RingId, Sender, Taker, end_id, past_of, ring_from, ring_to, sent_by, taken_by}
 
--- ---- what is read off a list, where one element was replaced
+-- ---- what is read off a list, if one element was replaced
 
--- What is read off each is as it was, where one was replaced by one that reads the same.
+-- If an element is replaced by one that reads the same, what is read off each is as it was.
 pub read_same : {A B : Type 0} (f : A → B) (xs : List A) (i : ℕ) (old new : A) → i < length xs → old ≡ get_or xs i old → f new ≡ f old → map f (set xs i new) ≡ map f xs
 read_same f [] i old new within is same = refl
 read_same f (x ∷ xs) zero old new within is same = ap (λ r. r ∷ map f xs) (same ∙ ap f is)
 read_same f (x ∷ xs) (suc i) old new within is same = ap (λ rs. f x ∷ rs) (read_same f xs i old new (omega arith) is same)
 
--- One letter went through one.
+-- One more letter went through one of the elements.
 pub one_more : {A : Type 0} (past : A → List Letter) (xs : List A) (i : ℕ) (old new : A) (l : Letter) → i < length xs → old ≡ get_or xs i old → past new ≡ past old ++ l ∷ [] → (n : ℕ) → get_or (map past (set xs i new)) n [] ≡ (if i == n then get_or (map past xs) n [] ++ l ∷ [] else get_or (map past xs) n [])
 one_more past xs i old new l within is more n = grind (arith, nat_tests, map-set past xs i new, get_or-set_at (map past xs) i n (past new) [], get_or-set_other (map past xs) i n (past new) [], get_or-map past xs i old [], length-map xs past)
 
--- What is read off one of them.
+-- What is read off the element at a place.
 pub read_at : {A B : Type 0} (f : A → B) (xs : List A) (i : ℕ) (x : A) (d : B) → i < length xs → x ≡ get_or xs i x → get_or (map f xs) i d ≡ f x
 read_at f [] i x d within is = absurd (omega arith)
 read_at f (y ∷ ys) zero x d within is = ap f (sym is)
@@ -69,11 +69,11 @@ no_taker x y linked none = ([], cc (none_sent x (cc)))
 
 -- ---- the places of two ends
 
--- What was taken by the place of the one list, and then something, was sent by the place of the other one.
+-- What was sent at the place of the one list begins with what was taken at the place of the other one.
 abbrev pub IsThrough : List (Option Sender) → ℕ → List (Option Taker) → ℕ → Type 0
 IsThrough tos i froms j = (left : List Letter) × (get_or (map taken_by froms) j [] ++ left ≡ get_or (map sent_by tos) i [])
 
--- Where no ring stands nothing went through.
+-- If there is no ring, nothing went through.
 nothing_there : {A : Type 0} (ring : A → Option RingId) (past : A → List Letter) (xs : List A) (i : ℕ) → ((x : A) → ring x ≡ None → past x ≡ []) → get_or (map ring xs) i None ≡ None → get_or (map past xs) i [] ≡ []
 nothing_there ring past [] i each none = refl
 nothing_there ring past (x ∷ xs) zero each none = each x none
@@ -99,7 +99,7 @@ module _ (tos : List (Option Sender)) (froms : List (Option Taker)) (i j : ℕ) 
 
 -- ---- all of a list
 
--- What holds of what is read off each.
+-- What holds of what is read off each element holds of what is read off one of them.
 pub all-at : {A B : Type 0} (P : B → Type 0) (f : A → B) (xs : List A) (i : ℕ) (x : A) → i < length xs → x ≡ get_or xs i x → AllByRecursion P (map f xs) → P (f x)
 all-at P f xs i x within is all = subst P (read_at f xs i x (f x) within is) (All-from_recursion P (map f xs) all i (f x) (omega (arith, length-map xs f)))
 
@@ -107,7 +107,7 @@ module _ {A : Type 0} where
   pub all-get : (P : A → Type 0) (xs : List A) (i : ℕ) (d : A) → i < length xs → AllByRecursion P xs → P (get_or xs i d)
   all-get P xs i d within all = All-from_recursion P xs all i d within
 
-  -- What follows of each, from what holds of each in two ways.
+  -- If two statements hold of each element, what follows from both holds of each.
   all-both : (P Q R : A → Type 0) (xs : List A) → ((x : A) → P x → Q x → R x) → AllByRecursion P xs → AllByRecursion Q xs → AllByRecursion R xs
   all-both P Q R [] each all all' = tt
   all-both P Q R (x ∷ xs) each all all' = (each x all.0 all'.0, all-both P Q R xs each all.1 all'.1)
@@ -122,14 +122,14 @@ module _ {A : Type 0} where
   all-last P [] x all = (tt, all.0)
   all-last P (y ∷ ys) x all = let rest = all-last P ys x all.1 in ((all.0, rest.0), rest.1)
 
-  -- Of all pairs, where one element more is behind the others.
+  -- A relation holds of all pairs, also if one more element is behind the others.
   all-pairs : (R : A → A → Type 0) (xs : List A) (x : A) → AllByRecursion (λ a. AllByRecursion (R a) xs) xs → AllByRecursion (λ a. R x a × R a x) xs → R x x → AllByRecursion (λ a. AllByRecursion (R a) (xs ++ x ∷ [])) (xs ++ x ∷ [])
   all-pairs R xs x rows each own =
       all-snoc (λ a. AllByRecursion (R a) (xs ++ x ∷ [])) xs x
       (all-both (λ a. AllByRecursion (R a) xs) (λ a. R x a × R a x) (λ a. AllByRecursion (R a) (xs ++ x ∷ [])) xs (λ a row both. all-snoc (R a) xs x row both.1) rows each)
       (all-snoc (R x) xs x (all-map (λ a. R x a × R a x) (R x) xs (λ a both. both.0) each) own)
 
-  -- And the other way.
+  -- If a relation holds of all pairs, it holds of those without the last element, and of those with it.
   pairs-all : (R : A → A → Type 0) (xs : List A) (x : A) → AllByRecursion (λ a. AllByRecursion (R a) (xs ++ x ∷ [])) (xs ++ x ∷ []) → AllByRecursion (λ a. AllByRecursion (R a) xs) xs × AllByRecursion (λ a. R x a × R a x) xs × R x x
   pairs-all R xs x all =
       let rows = all-last (λ a. AllByRecursion (R a) (xs ++ x ∷ [])) xs x all in
@@ -144,7 +144,7 @@ map-snoc f xs x = map-append f xs (x ∷ [])
 
 -- ---- all ends
 
--- All but the last one, and the last one.
+-- If all ends are linked, all but the last are, and the last is linked with each of them and itself.
 pub last_linked : (ends rest : List RingEnd) (last : RingEnd) → ends ≡ rest ++ last ∷ [] → AreLinked (map end_id ends) → AreLinked (map end_id rest) × AllByRecursion (AreBothLinked (end_id last)) (map end_id rest) × IsLinked (end_id last) (end_id last)
 last_linked ends rest last is linked = pairs-all IsLinked (map end_id rest) (end_id last) (subst AreLinked (ap (map end_id) is ∙ map-snoc end_id rest last) linked)
 
@@ -154,11 +154,11 @@ last_gathered ends rest rest' last last' is same_last same_rest own each others 
     subst AreDelivered (sym (ap (map past_of) is ∙ map-snoc past_of rest last))
     (all-pairs IsDelivered (map past_of rest) (past_of last) (subst AreDelivered same_rest others) (subst (λ (p : EndPast). AllByRecursion (AreBothDelivered p) (map past_of rest)) same_last each) own)
 
--- One of the others, whose vector may have changed but not which ends and pasts are in it.
+-- The end is linked with one of the others. Their vector may have changed, but not which ends are in it.
 pub other_linked : (one : EndId) (others now : List RingEnd) (i : ℕ) (other : RingEnd) → i < length now → other ≡ get_or now i other → map end_id now ≡ map end_id others → AllByRecursion (AreBothLinked one) (map end_id others) → AreBothLinked one (end_id other)
 other_linked one others now i other within is same linked = all-at (AreBothLinked one) end_id now i other within is (subst (AllByRecursion (AreBothLinked one)) (sym same) linked)
 
--- One more of them was looked at.
+-- One more of the others was looked at.
 pub each_more : (one : EndPast) (others now : List RingEnd) (i : ℕ) (other : RingEnd) → i < length now → other ≡ get_or now i other → map past_of now ≡ map past_of others → AllByRecursion (AreBothDelivered one) (take i (map past_of others)) → AreBothDelivered one (past_of other) → AllByRecursion (AreBothDelivered one) (take (i + 1) (map past_of others))
 each_more one others now i other within is same each both =
     let there = subst (AreBothDelivered one) (sym (read_at past_of now i other (past_of other) within is)) both in

@@ -11,7 +11,7 @@ use std::alloc::AllocError;
 pub enum MailStep {
     /// It sent a letter to this core.
     Sent(CoreId, Letter),
-    /// It took one from this core.
+    /// It took a letter from this core.
     Taken(CoreId, Letter),
 }
 
@@ -28,12 +28,12 @@ pub trait Mail {
     /// There is room to record what one more call sends or takes.
     ghost has_room: { Self → Type 0 };
 
-    /// Which end it is, as far as it matters. No call changes that.
+    /// The type of what says which end it is. No call changes which end it is.
     ghost Which: { Type 0 };
 
     ghost which: { Self → Which };
 
-    /// Makes room for one more call.
+    /// Makes room to record what one more call sends or takes.
     fn room(&mut self) -> Result<(), AllocError>
         ensures sent { AreUnchanged (sent self.old) (sent self.new) }
         ensures taken { AreUnchanged (taken self.old) (taken self.new) }

@@ -6,7 +6,7 @@ use arrayvec::ArrayVec;
 use osbase::Letter;
 use std::marker::Model;
 
-/// The letters of one mailbox, the oldest first, in place for `CAP` of them.
+/// The letters of one mailbox, the oldest first, with place for `CAP` of them.
 #[derive(Drop)]
 pub struct Letters<const CAP: usize> {
     letters: ArrayVec<Letter, CAP>,
@@ -22,7 +22,7 @@ impl<const CAP: usize> Model for Letters<CAP> {
 }
 
 impl<const CAP: usize> Letters<CAP> {
-    /// A mailbox in which nothing stands.
+    /// A mailbox without letters.
     pub fn new() -> Self
         ensures { result ≡ [] }
     {
@@ -31,7 +31,7 @@ impl<const CAP: usize> Letters<CAP> {
         }
     }
 
-    /// How many letters stand here.
+    /// How many letters there are.
     pub fn len(&self) -> usize
         ensures { result ≡ length self.now }
     {
@@ -46,14 +46,14 @@ impl<const CAP: usize> Letters<CAP> {
         self.letters.push(letter);
     }
 
-    /// The oldest letter, if one stands here.
+    /// The oldest letter, if there is one.
     pub fn front(&self) -> Option<Letter>
         ensures { result ≡ slice_get self.now 0 }
     {
         self.letters.as_slice().first().copied()
     }
 
-    /// Takes the oldest letter, if one stands here.
+    /// Takes the oldest letter, if there is one.
     pub fn pop(&mut self) -> Option<Letter>
         ensures oldest { result ≡ slice_get self.old 0 }
         ensures rest { self.new ≡ drop 1 self.old }

@@ -1,8 +1,8 @@
-//! The mailboxes between cores. An ordered pair of cores has one, and no two pairs share one: what
-//! stands in it leaves it in the order in which it came.
+//! The mailboxes between cores. Each ordered pair of cores has one, and no two pairs share one. What is put
+//! into a mailbox leaves it in the same order.
 //!
 //! `ListMail` is for a listed run, in which one thread plays all cores. `RingMail` and `LockedMail` are for cores on
-//! threads of their own, each of which has one end of it.
+//! threads of their own; each of these cores has one end of the mail.
 #![tactic(auto)]
 
 pub mod ends;

@@ -9,8 +9,8 @@ use osbase::{CORES, CoreId, Envelope, Letter};
 use std::alloc::{AllocError, Global};
 use std::marker::Model;
 
-/// The mailboxes of every ordered pair of cores, each with place for `CAP` envelopes. How many of them wait for each
-/// core is kept, so that nobody goes over the mailboxes to see that nothing waits.
+/// The mailboxes of all ordered pairs of cores, each with place for `CAP` envelopes. For each core it counts the
+/// envelopes that wait for the core, so that it need not search the mailboxes to see that none waits.
 #[derive(Drop)]
 pub struct ListMail<const CAP: usize> {
     cap: usize,
@@ -48,7 +48,7 @@ impl<const CAP: usize> ListMail<CAP> {
         })
     }
 
-    /// Whether an envelope stands in a mailbox to this core.
+    /// Whether an envelope is in a mailbox to this core.
     #[inline]
     pub fn has_mail(&self, to: CoreId) -> bool
         requires receiver { to.number < CORES }
@@ -57,7 +57,7 @@ impl<const CAP: usize> ListMail<CAP> {
         self.counts[usize::from(to.number)] > 0
     }
 
-    /// Whether fewer than the cap stand in the mailbox from `from` to `to`.
+    /// Whether fewer envelopes than the cap are in the mailbox from `from` to `to`.
     pub fn has_room(&self, from: CoreId, to: CoreId) -> bool
         requires sender { from.number < CORES }
         requires receiver { to.number < CORES }
@@ -69,8 +69,8 @@ impl<const CAP: usize> ListMail<CAP> {
         letters.len() < self.cap
     }
 
-    /// Puts an envelope behind the others in the mailbox from `from` to `to`, or hands it back and
-    /// changes nothing where the cap stand there.
+    /// Puts an envelope behind the others in the mailbox from `from` to `to`. If that mailbox is full, hands
+    /// the envelope back and changes nothing.
     pub fn send(&mut self, from: CoreId, to: CoreId, envelope: Envelope) -> Result<(), Envelope>
         requires sender { from.number < CORES }
         requires receiver { to.number < CORES }
@@ -89,7 +89,7 @@ impl<const CAP: usize> ListMail<CAP> {
         Ok(())
     }
 
-    /// The letter of the oldest envelope of the mailbox from `from` to `to`, which stays there.
+    /// The letter of the oldest envelope of the mailbox from `from` to `to`, if there is one. The envelope stays there.
     pub fn oldest(&self, to: CoreId, from: CoreId) -> Option<Letter>
         requires receiver { to.number < CORES }
         requires sender { from.number < CORES }
@@ -100,7 +100,7 @@ impl<const CAP: usize> ListMail<CAP> {
         boxes[place(from, to)].front()
     }
 
-    /// Takes the oldest envelope of the mailbox from `from` to `to`, if one stands there.
+    /// Takes the oldest envelope of the mailbox from `from` to `to`, if there is one.
     pub fn take(&mut self, to: CoreId, from: CoreId) -> Option<Envelope>
         requires receiver { to.number < CORES }
         requires sender { from.number < CORES }
@@ -114,7 +114,7 @@ impl<const CAP: usize> ListMail<CAP> {
     }
 }
 
-// The place of the mailbox of an ordered pair.
+// The place in `boxes` of the mailbox from `from` to `to`.
 fn place(from: CoreId, to: CoreId) -> usize
     requires sender { from.number < CORES }
     requires receiver { to.number < CORES }

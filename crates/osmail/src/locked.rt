@@ -13,7 +13,7 @@ use std::sync::{Mutex, Wait};
 // Two mailboxes share no cache line, so that a core that uses one does not slow those that use another.
 type Locked<const CAP: usize> = CachePadded<Mutex<Mailbox<CAP>>>;
 
-/// A mailbox under a lock of its own for each ordered pair of the cores that it is made for: a row of them for each sender.
+/// The mailboxes of all ordered pairs of some cores, each under its own lock: a row of mailboxes for each sender.
 #[derive(Drop)]
 pub struct LockedMail<const CAP: usize> {
     // By a core's number: the place of its row, and of its mailbox in each row, if it is one of these cores.
@@ -37,20 +37,20 @@ impl<const CAP: usize> LockedMail<CAP> {
         })
     }
 
-    // The place of the core's row, and of its mailbox in each row.
+    // The place of the core's row, and of its mailbox in each row. None if the core has no mailboxes.
     fn place(&self, core: CoreId) -> Option<usize> {
         let place = self.places.as_slice().get(usize::from(core.number))?;
         *place
     }
 
-    // The mailbox of an ordered pair.
+    // The mailbox from `from` to `to`, if there is one.
     fn mailbox(&self, from: CoreId, to: CoreId) -> Option<&Mutex<Mailbox<CAP>>> {
         let row = self.rows.as_slice().get(self.place(from)?)?;
         let mailbox = row.as_slice().get(self.place(to)?)?;
         Some(mailbox)
     }
 
-    /// The mailbox of an ordered pair, when no end of it is left.
+    /// The mailbox from `from` to `to`, if there is one, with what is in it once no end of the mail is left.
     pub fn left(&mut self, from: CoreId, to: CoreId) -> Option<&mut Mailbox<CAP>> {
         let (from, to) = (self.place(from)?, self.place(to)?);
         let row = self.rows.get_mut(from)?;
@@ -58,7 +58,7 @@ impl<const CAP: usize> LockedMail<CAP> {
         Some(mailbox.get_mut())
     }
 
-    /// One core's end, which sent and took nothing.
+    /// One core's end of the mail, which has sent and taken nothing yet.
     pub fn end<'a, R: Wait>(
         &'a self,
         rt: &'a R,
@@ -76,7 +76,7 @@ impl<const CAP: usize> LockedMail<CAP> {
     }
 }
 
-// The mailboxes to which one core sends.
+// Empty mailboxes from one core to each of these cores, each with room for `cap` envelopes.
 fn row<const CAP: usize>(
     alloc: Global,
     from: CoreId,
@@ -93,7 +93,7 @@ fn row<const CAP: usize>(
     Ok(row)
 }
 
-// By a core's number: its place among these cores, so that no send and no take has to look for it.
+// For each core number: the core's place among these cores, or none. So no send and no take has to look for it.
 fn places_of(alloc: Global, cores: &[CoreId]) -> Result<Vec<Option<usize>>, AllocError> {
     let mut places = Vec::with_capacity(alloc, CORES)?;
     for number in 0..CORE_NUMBERS {
@@ -102,7 +102,7 @@ fn places_of(alloc: Global, cores: &[CoreId]) -> Result<Vec<Option<usize>>, Allo
     Ok(places)
 }
 
-// The core's place among these.
+// The core's place among these cores, if it is one of them.
 fn place_in(cores: &[CoreId], core: CoreId) -> Option<usize> {
     cores.iter().position(|one| one.number == core.number)
 }
@@ -118,7 +118,7 @@ pub struct LockedEnd<'a, R, const CAP: usize> {
 }
 
 impl<'a, R: Wait, const CAP: usize> LockedEnd<'a, R, CAP> {
-    /// What it sent and took, in order.
+    /// What the end sent and took, in order.
     pub fn into_steps(self) -> Vec<MailStep>
         ensures { result.items ≡ self.entry.steps.items }
     {
@@ -126,7 +126,7 @@ impl<'a, R: Wait, const CAP: usize> LockedEnd<'a, R, CAP> {
     }
 }
 
-// Sends an envelope, and records it.
+// Puts an envelope into the mailbox, and records it. If the mailbox refuses the envelope, hands it back.
 fn post<const CAP: usize>(
     mailbox: &mut Mailbox<CAP>,
     steps: &mut Vec<MailStep>,
@@ -144,7 +144,7 @@ fn post<const CAP: usize>(
     sent
 }
 
-// Takes the oldest envelope, and records it.
+// Takes the oldest envelope from the mailbox, if there is one, and records it.
 fn fetch<const CAP: usize>(
     mailbox: &mut Mailbox<CAP>,
     steps: &mut Vec<MailStep>,

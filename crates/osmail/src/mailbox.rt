@@ -12,8 +12,8 @@ use std::alloc::{AllocError, Global};
 use std::collections::VecDeque;
 use std::marker::Model;
 
-/// A mailbox that keeps who sends and who receives, that its envelopes are numbered one after another, and that at most
-/// `cap` stand in it. It has place for `cap` from the start.
+/// A mailbox with a fixed sender and receiver. Its envelopes are numbered one after another. It has place for `cap` of
+/// them from the start, and never holds more.
 #[derive(Drop)]
 pub struct Mailbox<const CAP: usize> {
     from: CoreId,
@@ -35,7 +35,7 @@ impl<const CAP: usize> Model for Mailbox<CAP> {
 }
 
 impl<const CAP: usize> Mailbox<CAP> {
-    /// A mailbox in which nothing stands.
+    /// An empty mailbox from `from` to `to`, with place for `cap` envelopes.
     pub fn new(alloc: Global, from: CoreId, to: CoreId, cap: usize) -> Result<Self, AllocError>
         requires { cap ≤ CAP }
         ensures { IfOk result (λ m. m ≡ empty_mailbox from to cap) }
@@ -50,7 +50,7 @@ impl<const CAP: usize> Mailbox<CAP> {
         })
     }
 
-    // Whether the envelope has the sender's next number.
+    // Whether the envelope has the sender's next number, and the number is below 2 ^ 62.
     fn is_next(&self, envelope: &Envelope) -> bool
         ensures { IsTrue result ↔ IsNext self.now envelope.now.letter }
     {
@@ -58,7 +58,8 @@ impl<const CAP: usize> Mailbox<CAP> {
             && envelope.letter.number == self.next + self.envelopes.len() as u64
     }
 
-    /// Puts the next envelope behind the others. One for which there is no place, or which is not the next, is handed back.
+    /// Puts the envelope behind the others. If the mailbox is full, or the envelope is not the sender's next, hands it
+    /// back.
     pub fn push(&mut self, envelope: Envelope) -> Result<(), Envelope>
         ensures ok { OnOk result ((self.new ≡ after_push self.old envelope.letter) × IsNext self.old envelope.letter × (length self.old.letters < self.old.cap)) }
         ensures err { IfErr result (λ e. (e ≡ envelope) × (self.new ≡ self.old) × ((self.old.cap ≤ length self.old.letters) ⊎ (IsNext self.old envelope.letter → ⊥))) }
@@ -75,7 +76,7 @@ impl<const CAP: usize> Mailbox<CAP> {
         Ok(())
     }
 
-    /// Takes the oldest envelope, if one stands here.
+    /// Takes the oldest envelope, if there is one.
     pub fn pop(&mut self) -> Option<Envelope>
         ensures oldest { letter_in result ≡ slice_get self.old.letters 0 }
         ensures rest { self.new ≡ after_pop self.old }
@@ -87,7 +88,8 @@ impl<const CAP: usize> Mailbox<CAP> {
         Some(oldest)
     }
 
-    // The steps behind the letters that are left here, if they were sent first.
+    // Whether the letters left in this mailbox are the first that the steps `sent` sent to `to`. If so, the steps of
+    // `sent` behind these letters; else None.
     fn without_left<'a>(&self, sent: &'a [MailStep], to: CoreId) -> Option<&'a [MailStep]>
         ensures some { IfSome result (λ left. sent_to sent.now to ≡ self.now.letters ++ sent_to left.now to) }
         ensures none { IfNone result ((more : List Letter) → self.now.letters ++ more ≡ sent_to sent.now to → ⊥) }
@@ -99,7 +101,8 @@ impl<const CAP: usize> Mailbox<CAP> {
         Some(left)
     }
 
-    /// Whether what `to` took from `from`, and then what is left here, is what `from` sent to `to`. It takes no memory.
+    /// Whether what `to` took from `from`, followed by what is left in this mailbox, is what `from` sent to `to`.
+    /// `sent` has the steps of `from`, and `taken` those of `to`. The call takes no memory.
     pub fn settles(&self, from: CoreId, sent: &[MailStep], to: CoreId, taken: &[MailStep]) -> bool
         ensures { IsTrue result ↔ taken_from taken.now from ++ self.now.letters ≡ sent_to sent.now to }
     {

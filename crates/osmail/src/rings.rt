@@ -1,4 +1,5 @@
-//! The mailboxes of cores on threads of their own, each a ring that one core fills and another one empties, without a lock.
+//! The mailboxes of cores on threads of their own, each a ring that one core fills and another one empties, without a
+//! lock.
 
 ghost use Rattle.std.specs.Prelude.{◌≡◌, ◌<◌, ◌≤◌, ◌++◌, ◌∷◌, [], ℕ, None, Some, length, map, replicate, slice_set, IfErr, IfNone, IfOk, IfSome, IsOk, IsSome, OnOk, vec_len};
 ghost use Rattle.std.specs.{List.AllByRecursion, Option.option_map};
@@ -13,8 +14,8 @@ use std::alloc::{AllocError, Global};
 use std::marker::Model;
 use std::snapshot::Snapshot;
 
-/// The rings of all ordered pairs of some cores. Only clauses read it, and they see the ends: each ring lies with the ends of
-/// its two cores.
+/// The rings of all ordered pairs of some cores. Each ring lies with the ends of its two cores, so this value has
+/// a snapshot of the ends, which only clauses read.
 #[derive(Drop)]
 pub struct RingMail<const CAP: usize> {
     ends: Snapshot<Vec<RingEnd>>,
@@ -31,8 +32,8 @@ impl<const CAP: usize> Model for RingMail<CAP> {
     ghost invariant = { λ m. AreLinked (map end_id m.ends.value.items) };
 }
 
-/// One core's end of the rings. It has a place for each core number, in which the ring to that core stands, or from it, if it is
-/// one of the cores that have rings: so no send and no take has to look for its ring.
+/// One core's end of the rings. For each core number it has a place for the ring to that core and one for the ring from
+/// it, which are used if that core has rings. So no send and no take has to look for its ring.
 #[derive(Drop)]
 pub struct RingEnd {
     core: CoreId,
@@ -47,7 +48,7 @@ impl Mail for RingEnd {
 
     ghost taken = { ring_taken };
 
-    // A ring end records nothing: what went through a ring is known of its ends.
+    // A ring end records nothing: what went through a ring is known from its two ends.
     ghost has_room = { λ _. Unit {0} };
 
     ghost Which = { EndId };
@@ -87,7 +88,7 @@ impl Mail for RingEnd {
     }
 }
 
-// Sends by the ring of this place. Where there is none, no slot is free.
+// Sends the envelope by the ring at this place. If there is no ring, or no slot is free, hands the envelope back.
 #[tactic(auto, using(crate::proofs::Through::letters_more))]
 fn send_through(place: &mut Option<Producer<Envelope>>, envelope: Envelope) -> Result<(), Envelope>
     ensures ok { OnOk result (sent_by place.new ≡ sent_by place.old ++ envelope.letter ∷ []) }
@@ -104,7 +105,7 @@ fn send_through(place: &mut Option<Producer<Envelope>>, envelope: Envelope) -> R
     }
 }
 
-// Takes from the ring of this place. Where there is none, no envelope is known to be there.
+// Takes the oldest envelope from the ring at this place, if there are a ring and an envelope.
 #[tactic(auto, using(crate::proofs::Through::letters_more))]
 fn take_through(place: &mut Option<Consumer<Envelope>>) -> Option<Envelope>
     ensures some { IfSome result (λ e. taken_by place.new ≡ taken_by place.old ++ e.letter ∷ []) }
@@ -119,8 +120,9 @@ fn take_through(place: &mut Option<Consumer<Envelope>>) -> Option<Envelope>
 }
 
 impl<const CAP: usize> RingMail<CAP> {
-    /// A ring for each ordered pair of these cores, and for each of them one to itself, each with room for `cap`
-    /// envelopes may stand; and the cores' ends, in their order. All the memory that the rings ever need is taken here.
+    /// Makes a ring for each ordered pair of these cores, and one from each core to itself. Each ring has room for
+    /// `cap` envelopes. Gives the mail, and the cores' ends in the cores' order. All the memory that the rings ever
+    /// need is taken here.
     #[tactic(auto, using(crate::proofs::Making::all_unused))]
     pub fn new(
         alloc: Global,
@@ -141,7 +143,7 @@ impl<const CAP: usize> RingMail<CAP> {
         Ok((mail, ends))
     }
 
-    /// The mail of a run that has no rings. It takes no memory.
+    /// The mail of a run that has no rings. The call takes no memory.
     pub fn none(alloc: Global) -> Self
         ensures { result ≡ [] }
     {
@@ -151,8 +153,8 @@ impl<const CAP: usize> RingMail<CAP> {
         }
     }
 
-    /// All ends together show that what each core took from each one, and then something that is left, is what that one
-    /// sent to it. It takes no memory.
+    /// Takes all ends back. Together they show, for each taker and each sender, that what the taker took from the
+    /// sender, followed by what is left, is what the sender sent to the taker. The call takes no memory.
     pub fn gather(&self, ends: Vec<RingEnd>)
         requires { map end_id ends.items ≡ self.now }
         ensures { AreDelivered (map past_of ends.items) }
@@ -166,7 +168,7 @@ impl<const CAP: usize> RingMail<CAP> {
     }
 }
 
-// What went into a ring and what came out of it, with both its places at hand.
+// Shows, by both ends of a ring, that what came out of it, followed by what is left, is what went into it.
 #[tactic(auto, using(crate::proofs::Through::is_pair, crate::proofs::Through::ring_settled, crate::proofs::Through::no_sender, crate::proofs::Through::no_taker))]
 fn settle_ring(to: &mut Option<Producer<Envelope>>, from: &mut Option<Consumer<Envelope>>)
     requires { option_map ring_to to.old ≡ option_map ring_from from.old }
@@ -183,7 +185,8 @@ fn settle_ring(to: &mut Option<Producer<Envelope>>, from: &mut Option<Consumer<E
     from.slots_beside(to);
 }
 
-// What one core sent to another one, and what that one took, with both ends at hand.
+// Shows, by both cores' ends, that what the taker took from the sender, followed by what is left, is what the sender
+// sent to the taker.
 #[tactic(auto, using(crate::proofs::Through::linked_places, crate::proofs::Through::settled_at, crate::proofs::Through::nothing_sent_by, crate::proofs::Through::nothing_taken_by, crate::proofs::Through::read_same))]
 fn settle(sender: &mut RingEnd, taker: &mut RingEnd)
     requires { IsLinked (end_id sender.old) (end_id taker.old) }
@@ -200,7 +203,7 @@ fn settle(sender: &mut RingEnd, taker: &mut RingEnd)
     settle_ring(to, from);
 }
 
-// The same of what a core sent to itself.
+// Shows that what a core took from itself, followed by what is left, is what it sent to itself.
 #[tactic(auto, using(crate::proofs::Through::linked_places, crate::proofs::Through::settled_at, crate::proofs::Through::nothing_sent_by, crate::proofs::Through::nothing_taken_by, crate::proofs::Through::read_same))]
 fn settle_own(end: &mut RingEnd)
     requires { IsLinked (end_id end.old) (end_id end.old) }
@@ -217,7 +220,8 @@ fn settle_own(end: &mut RingEnd)
     settle_ring(to, from);
 }
 
-// The same of one core and each of the others, both ways.
+// Shows, of one core and each of the others both ways, that what the taker took, followed by what is left, is what the
+// sender sent to the taker.
 fn settle_each(one: &mut RingEnd, others: &mut Vec<RingEnd>)
     requires { AllByRecursion (AreBothLinked (end_id one.old)) (map end_id others.old.items) }
     ensures delivered { AllByRecursion (AreBothDelivered (past_of one.old)) (map past_of others.old.items) }
@@ -231,7 +235,8 @@ fn settle_each(one: &mut RingEnd, others: &mut Vec<RingEnd>)
     }
 }
 
-// The ends of these cores, with a ring for each ordered pair of them.
+// The ends of these cores, with a ring for each ordered pair of them, and one from each core to itself. Each ring has
+// room for `cap` envelopes.
 fn linked_ends(alloc: Global, cores: &[CoreId], cap: usize) -> Result<Vec<RingEnd>, AllocError>
     requires { AreCores cores.now }
     ensures made { IfOk result (λ ends. AreMade ends.items) }
@@ -258,7 +263,7 @@ fn bare_ends(alloc: Global, cores: &[CoreId]) -> Result<Vec<RingEnd>, AllocError
     Ok(ends)
 }
 
-// Makes the rings by which one end sends to each of them.
+// Makes the rings by which the end at the place `from` sends to each end, also to itself.
 fn link_each(
     alloc: Global,
     ends: &mut Vec<RingEnd>,
@@ -278,7 +283,7 @@ fn link_each(
     Ok(())
 }
 
-// Makes the ring by which one end sends to another one, or to its own core.
+// Makes the ring by which the end at the place `from` sends to the end at the place `to`, which may be the same end.
 fn link(
     alloc: Global,
     ends: &mut Vec<RingEnd>,
@@ -314,7 +319,7 @@ impl RingEnd {
         })
     }
 
-    // From now on it sends to this core by this ring.
+    // Makes the end send to this core by this ring from now on.
     fn attach_sender(&mut self, to: CoreId, ring: Producer<Envelope>)
         requires { to.number < length self.old.to.items }
         ensures { SendsBy to ring self.old self.new }
@@ -322,7 +327,7 @@ impl RingEnd {
         self.to[usize::from(to.number)] = Some(ring);
     }
 
-    // From now on it takes from this core by this ring.
+    // Makes the end take from this core by this ring from now on.
     fn attach_taker(&mut self, from: CoreId, ring: Consumer<Envelope>)
         requires { from.number < length self.old.from.items }
         ensures { TakesBy from ring self.old self.new }
@@ -331,7 +336,7 @@ impl RingEnd {
     }
 }
 
-// A place for each core number, and a ring in none.
+// A place for each core number, without a ring.
 fn no_rings<T: Drop>(alloc: Global) -> Result<Vec<Option<T>>, AllocError>
     ensures { IfOk result (λ rings. rings.items ≡ replicate CORES None) }
 {

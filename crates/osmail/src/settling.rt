@@ -1,5 +1,5 @@
-//! What one core sent to another, letter by letter. Each function hands back the steps behind the letters that it found,
-//! so that what is left can be compared next.
+//! What one core sent to another, letter by letter. Each function hands back the steps behind the letters that it
+//! found, so that what is left can be compared next.
 
 ghost use Rattle.std.specs.Prelude.{◌≡◌, ◌∷◌, ◌++◌, [], List, IfSome, IfNone};
 ghost use Rattle.osbase.specs.declared.messages.Letter.{Letter};
@@ -9,7 +9,7 @@ use crate::ends::MailStep;
 use osbase::{CoreId, Letter};
 use ossame::is_same_letter;
 
-// The first letter that was sent to this core, and the steps behind it.
+// The first letter that was sent to this core, and the steps behind it. None if none was sent to this core.
 pub(crate) fn next_sent(steps: &[MailStep], to: CoreId) -> Option<(Letter, &[MailStep])>
     ensures some { IfSome result (λ next. sent_to steps.now to ≡ next.0 ∷ sent_to next.1.now to) }
     ensures none { IfNone result (sent_to steps.now to ≡ []) }
@@ -26,7 +26,7 @@ pub(crate) fn next_sent(steps: &[MailStep], to: CoreId) -> Option<(Letter, &[Mai
     None
 }
 
-// The steps behind the first letter that was sent to this core, if it is this one.
+// The steps behind the first letter that was sent to this core, if that letter is `letter`; else None.
 pub(crate) fn without<'a>(
     steps: &'a [MailStep],
     to: CoreId,
@@ -42,7 +42,8 @@ pub(crate) fn without<'a>(
     Some(left)
 }
 
-// The steps behind the letters that a core took from the sender, if they were sent first.
+// Whether the letters that the steps `taken` took from `from` are the first that the steps `sent` sent to `to`. If so,
+// the steps of `sent` behind these letters; else None.
 pub(crate) fn without_taken<'a>(
     sent: &'a [MailStep],
     to: CoreId,

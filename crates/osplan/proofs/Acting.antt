@@ -6,7 +6,7 @@ use Rattle.osbase.specs.{declared.objects.Object.Object, declared.messages.Remot
 use Rattle.osplan.specs.{declared.plans.Alarm.Alarm, declared.plans.ExpiryPoint.ExpiryPoint, declared.plans.Core.Core, declared.plans.Table.Table, Naming.acts_on, Objects.table_actions}
 use Rattle.osplan.proofs.Tests.{any-flat, any-mapped}
 
--- What the alarms act on, and what the tables, table by table and point by point.
+-- What the alarms act on, and what the tables act on, table by table and point by point.
 module _ (test : Object → Bool) where
   abbrev acts : RemoteCall → Bool
   acts action = test (object_of_call action)

@@ -1,4 +1,4 @@
--- Of a configured core: what it may name of what a configuration names, and its alarms with the counters that they go by.
+-- Of a configured core: which objects of the configuration it may name, and its alarms with their counters.
 use Rattle.std.proofs.Common.{◌≡◌, true, ◌&&◌, Some, Option, List, flat_map, map, slice_get, option_and_then, refl, ap, sym, subst, ◌∙◌, arith}
 use Rattle.std.specs.{List.list_all, Option.option_map_or}
 use Rattle.std.proofs.lemmas.List.Folds.{list_all-map}
@@ -10,7 +10,7 @@ use Rattle.osplan.specs.Objects.{core_actions, core_scripts, has_index, is_commo
 use Rattle.osplan.proofs.Tests.{all-append, all-both, all-flat, all-weaker, map-where}
 
 module _ (plan : Plan) (core : Core) (found : core_of plan core.id ≡ Some core) where
-  -- an object that stands on this core is one of it
+  -- an object whose place is on this core is one of the core's objects
   own-index : (object : Object) → is_object plan object ≡ true → same_core object.place.core core.id ≡ true → has_index core object ≡ true
   own-index object there here =
       let of_core : core_of plan object.place.core ≡ Some core = ap (core_of plan) (same_core-true object.place.core core.id here) ∙ found in
@@ -33,7 +33,7 @@ module _ (plan : Plan) (core : Core) (found : core_of plan core.id ≡ Some core
   acts-each : (actions : List RemoteCall) → list_all (is_action_known plan) actions ≡ true → list_all (may_act core) actions ≡ true
   acts-each = all-weaker (is_action_known plan) (may_act core) (λ action h. grind (arith, known-named (object_of_call action)))
 
-  -- What its alarms and tables do are actions, and the core may name what these are for.
+  -- The core's alarms and tables perform actions only, and the core may name the objects of these actions.
   pub known-actions : is_core_known plan core ≡ true → list_all (may_act core) (core_actions core) ≡ true
   known-actions known =
       let parts = known-parts known in
@@ -42,7 +42,7 @@ module _ (plan : Plan) (core : Core) (found : core_of plan core.id ≡ Some core
       acts-each (core_actions core) (all-append (is_action_known plan) (map (λ (alarm : Alarm). alarm.action) core.alarms) (flat_map table_actions core.tables)
       (list_all-map (is_action_known plan) (λ (alarm : Alarm). alarm.action) core.alarms ∙ alarms) (all-flat (is_action_known plan) table_actions core.tables tables))
 
-  -- Each alarm is attached to a counter of the core, where that counter is there and no other core's.
+  -- If the counter of each alarm exists and is no other core's, each alarm is attached to a counter of the core.
   pub attached : list_all (is_alarm_known plan) core.alarms ≡ true → list_all (is_alarm_local core.id) core.alarms ≡ true → list_all (is_alarm_attached core) core.alarms ≡ true
   attached known near =
       all-weaker (λ (alarm : Alarm). is_alarm_known plan alarm && is_alarm_local core.id alarm) (is_alarm_attached core)
@@ -53,11 +53,11 @@ module _ (plan : Plan) (core : Core) (found : core_of plan core.id ≡ Some core
       ap (option_and_then (λ (k : Core). slice_get k.counters c.index)) (ap (core_of plan) (same_core-true c.core core.id here) ∙ found)
       ∙ rw here refl
 
-  -- The sizes of such alarms are seen on the core itself.
+  -- The sizes of such alarms are found on the core itself.
   pub own-sizes : list_all (is_alarm_local core.id) core.alarms ≡ true → map (alarm_sizes (counter_in plan)) core.alarms ≡ map (alarm_sizes (own_counter core)) core.alarms
   own-sizes near = map-where (alarm_sizes (counter_in plan)) (alarm_sizes (own_counter core)) (is_alarm_local core.id) (λ alarm h. rw (own-is alarm.counter h) refl) core.alarms near
 
-  -- So it is with tables.
+  -- The same holds for tables.
   pub tables-attached : list_all (is_table_known plan) core.tables ≡ true → list_all (is_table_local core.id) core.tables ≡ true → list_all (is_table_attached core) core.tables ≡ true
   tables-attached known near =
       all-weaker (λ (table : Table). is_table_known plan table && is_table_local core.id table) (is_table_attached core)

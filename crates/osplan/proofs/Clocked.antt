@@ -1,4 +1,4 @@
--- A kernel has room for the counters, alarms and tables of each configured core, and what that says of them, by name.
+-- A kernel has room for the counters, alarms and tables of each configured core. What this means, part by part.
 use Rattle.std.proofs.Common.{◌≡◌, ℕ, ◌≤◌, true, ◌&&◌, nat_le, Bool, length, Some, IsTrue, refl, sym, ap, ◌∙◌, arith}
 use Rattle.std.specs.List.{list_all}
 use Rattle.std.proofs.{lemmas.Bool.and_parts, lemmas.Bool.Decides.nat_tests, lemmas.List.length-map, lemmas.List.Folds.list_all-map}
@@ -8,7 +8,7 @@ use Rattle.osplan.specs.{declared.plans.Alarm.Alarm, declared.plans.AlarmStart.A
 use Rattle.osplan.specs.Limits.{CoreSizes, alarm_sizes, are_alarms_within, are_counters_within, are_tables_within, is_core_timed, is_table_timed, is_table_within, is_cycle, core_sizes, counter_sizes, is_alarm_within, is_core_known, has_local_references, is_core_within, is_counter_within, is_within_limits}
 use Rattle.osplan.proofs.{Alarming.attached, Alarming.known-parts, Alarming.own-sizes, Alarming.own-tables, Alarming.own-timed, Alarming.tables-attached, Within.limit-parts, Within.near-parts, Tests.all-weaker, Tests.find-holds, Tests.find-passes}
 
--- The counters, alarms and tables of sizes that are within the limits.
+-- If a core's sizes are within the limits, so are its counters, alarms and tables.
 parts-within : (s : CoreSizes) → is_core_within s ≡ true → (are_counters_within s.counters ≡ true) × ((are_alarms_within s.alarms ≡ true) × (are_tables_within s.tables ≡ true))
 parts-within s h = (grind arith, (grind arith, grind arith))
 
@@ -54,7 +54,8 @@ clock-parts core within =
 pub cycle-most : (counter : Counter) (cycle : ℕ) → is_cycle (counter_sizes counter) (Some cycle) ≡ true → cycle ≤ counter.max
 cycle-most counter cycle h = grind (arith, nat_tests)
 
--- An automatic alarm is first due after 1 count, or after as many as its counter's greatest value at most, and its cycle is no greater.
+-- An autostart alarm first expires after at least 1 count. Its start and its cycle are at most the counter's greatest
+-- value.
 pub start-bounds : (core : Core) (alarm : Alarm) (auto : AlarmStart) (counter : Counter) → is_alarm_within (alarm_sizes (own_counter core) alarm) ≡ true → alarm.auto ≡ Some auto → own_counter core alarm.counter ≡ Some counter → (1 ≤ auto.start) × (auto.start ≤ counter.max) × (auto.cycle ≤ counter.max)
 start-bounds core alarm auto counter within is found =
     let told = rw (is, found) at within in

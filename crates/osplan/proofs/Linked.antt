@@ -1,5 +1,5 @@
--- Of spinlocks that come after others: as many links as there are spinlocks are enough, and in a configuration within its limits none
--- comes after itself.
+-- Of spinlocks that come after others: as many links as there are spinlocks are enough, and in a configuration within
+-- its limits none comes after itself.
 use Rattle.std.proofs.Common.{◌≡◌, ℕ, zero, suc, Bool, true, false, ◌||◌, Option, Some, None, List, [], ◌∷◌, length, slice_get, unwrap_or, inl, inr, refl, sym, ap, subst, ◌∙◌}
 use Rattle.std.specs.{List.AllByRecursion, List.list_all, Option.option_map_or}
 use Rattle.std.proofs.lemmas.Bool.{eqb-true, false_from_ne_true, false≢true, not-true, or_cases, or_left, or_right}
@@ -8,14 +8,14 @@ use Rattle.osbase.specs.{declared.references.SpinlockId.SpinlockId, Spins.same_s
 use Rattle.osplan.specs.{declared.plans.Spinlock.Spinlock, Spinlocks.are_links_ordered, Spinlocks.comes_after, Spinlocks.is_link_ordered, Spinlocks.links_of, Spinlocks.next_in}
 use Rattle.osplan.proofs.Rounds.{Stays, settled}
 
--- What is so of each link, and of none, is so of the link of any spinlock.
+-- What holds of each link, and of a missing one, holds of the link of any spinlock.
 at-link : (P : Option SpinlockId → Type 0) → P None → (links : List (Option SpinlockId)) (i : ℕ) → AllByRecursion P links → P (unwrap_or (slice_get links i) None)
 at-link P none [] i all = none
 at-link P none (o ∷ os) zero all = all.0
 at-link P none (o ∷ os) (suc i) all = at-link P none os i all.1
 
 module _ (links : List (Option SpinlockId)) where
-  -- The spinlocks after which one comes, by so many links at most.
+  -- The spinlocks that `to` comes after, by at most `n` links.
   module _ (to : SpinlockId) where
     abbrev within : ℕ → SpinlockId → Bool
     within n from = comes_after links n from to
@@ -56,7 +56,7 @@ module _ (links : List (Option SpinlockId)) where
     enough zero from e = absurd (false≢true e)
     enough (suc n) from e = sym (same-within (length links) (settled by_link links more stays-on) from) ∙ step n (length links) (enough n) (next_in links from) e
 
-  -- No spinlock comes after itself where none that is a successor does: what comes after another is a successor.
+  -- If no successor comes after itself, no spinlock does: what comes after another is a successor.
   module _ (ordered : are_links_ordered links ≡ true) where
     next-ordered : (from : SpinlockId) → is_link_ordered links (next_in links from) ≡ true
     next-ordered from = at-link (λ o. is_link_ordered links o ≡ true) refl links from.index (recursion_from_All _ links (AllPass-from_list_all (is_link_ordered links) links ordered))
@@ -76,6 +76,6 @@ module _ (links : List (Option SpinlockId)) where
     pub never-itself : (l : SpinlockId) → comes_after links (length links) l l ≡ false
     never-itself l = false_from_ne_true _ (λ e. false≢true (sym (never-after l (length links) l e) ∙ e))
 
--- The links are those of the spinlocks.
+-- All links are ordered exactly if the link of each spinlock is.
 pub all_links : (spinlocks : List Spinlock) → are_links_ordered (links_of spinlocks) ≡ list_all (λ (spinlock : Spinlock). is_link_ordered (links_of spinlocks) spinlock.next) spinlocks
 all_links spinlocks = list_all-map (is_link_ordered (links_of spinlocks)) (λ (spinlock : Spinlock). spinlock.next) spinlocks

@@ -1,4 +1,5 @@
--- The objects that all cores have in common, the application modes: they stand under a number that no configured core has.
+-- The objects that all cores have in common, the application modes: they are under a number that no configured core
+-- has.
 use Rattle.std.proofs.Common.{IsTrue, List, None, Option, Some, [], arith, codes, false, length, nat_lt, refl, slice_get, suc, true, unwrap_or, zero, ℕ, ◌<◌, ◌∷◌, ◌≡◌}
 use Rattle.std.specs.{List.list_all, Option.option_map_or, Str.bytes_eq}
 use Rattle.std.proofs.lemmas.Bool.{and_parts, eqb-true, ltb-true}
@@ -16,7 +17,8 @@ nobody plan within = by (core_of plan NOBODY) refl
         let low : core.id.number < 16 = ltb-true core.id.number 16 (fits plan core (find-passes (λ (c : Core). same_core c.id NOBODY) (λ (c : Core). is_core_within (core_sizes plan c)) plan.cores core within e)).number in
         absurd (omega (arith, low, eqb-true core.id.number 255 (find-holds (λ (c : Core). same_core c.id NOBODY) plan.cores core e)))
 
--- An object of the configuration whose kind no core has is on no core, and is one of those that all cores have in common.
+-- If no core has objects of its kind, an object of the configuration is on no core, and is one of those that all cores
+-- have in common.
 pub common-there : (plan : Plan) (kind : ObjectKind) (place : Place) → ((core : Core) → object_count kind core ≡ 0) → is_object plan (object_at kind place) ≡ true
     → (place.core ≡ NOBODY) × (nat_lt place.index (length (common_names kind plan)) ≡ true)
 common-there plan kind place none is = by (core_of plan place.core) is
@@ -25,11 +27,11 @@ common-there plan kind place none is = by (core_of plan place.core) is
     by None there = let parts = and_parts (same_core place.core NOBODY) (nat_lt place.index (length (common_names kind plan))) there in (same_core-true place.core NOBODY parts.0, parts.1)
     by (Some core) there = absurd (omega (arith, none core, ltb-true place.index (object_count kind core) there))
 
--- A mode is one of the configuration as an object if its number is below theirs,
+-- A mode that is an object of the configuration is one of its modes, and on no core.
 pub mode-there : (plan : Plan) (place : Place) → is_object plan (object_at ObjectKind.Mode place) ≡ true → (place.core ≡ NOBODY) × (is_mode plan (mode_of place) ≡ true)
 mode-there plan place is = common-there plan ObjectKind.Mode place (λ core. refl) is
 
--- and has the mode's name.
+-- Each mode of the configuration is an object of it, with the mode's name.
 module _ (plan : Plan) (alone : core_of plan NOBODY ≡ None) where
   pub there-mode : (mode : ModeId) → is_mode plan mode ≡ true → is_object plan (mode_object mode) ≡ true
   there-mode mode is = rw alone is

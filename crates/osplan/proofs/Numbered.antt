@@ -9,7 +9,7 @@ use Rattle.osplan.proofs.{Tests.all-weaker, Tests.any-find, Within.limit-parts, 
 pub numbers-low : (plan : Plan) → IsTrue (is_within_limits plan) → list_all (λ (c : Core). nat_lt c.id.number 16) plan.cores ≡ true
 numbers-low plan limits = all-weaker _ _ (λ c h. (fits plan c h).number) plan.cores (limit-parts plan limits).cores
 
--- a number that some core has
+-- a number that some core has is below 16
 number-found : (cores : List Core) (id : CoreId) → list_all (λ (c : Core). nat_lt c.id.number 16) cores ≡ true → list_any (λ (c : Core). same_core c.id id) cores ≡ true → id.number < 16
 number-found [] id low found = cc
 number-found (c ∷ cs) id low found =

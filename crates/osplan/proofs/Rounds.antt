@@ -1,5 +1,5 @@
--- A test on the elements of a list that lets more pass with each round, until a round changes nothing: as many rounds as there are
--- elements are enough.
+-- A test on the elements of a list that lets more pass with each round, until a round changes nothing: as many rounds
+-- as there are elements are enough.
 use Rattle.std.proofs.Common.{◌≡◌, ◌⊎◌, ℕ, zero, suc, ◌+◌, ◌≤◌, ◌<◌, Bool, true, false, cond, List, [], ◌∷◌, length, inl, inr, refl, sym, ◌∙◌, arith}
 use Rattle.std.specs.List.{AllByRecursion, count_by}
 use Rattle.std.proofs.{lemmas.Bool.cases_lt, lemmas.Bool.cond_both, lemmas.List.Elements.All-from_recursion, lemmas.List.Elements.All-weaker, lemmas.List.Elements.recursion_from_All, lemmas.List.Sums.count_by-le-length, lemmas.List.Sums.sum_by-cons, lemmas.List.Sums.sum_by-le-sum_by}
@@ -14,7 +14,7 @@ same-test true false e = absurd (omega (arith, e))
 same-test false true e = absurd (omega (arith, e))
 same-test false false e = refl
 
--- Where one test lets all pass that another does, both agree if they let as many pass.
+-- If one test passes all that another does, and both pass as many elements, they agree.
 module _ {X : Type 0} (p q : X → Bool) (weaker : (x : X) → p x ≡ true → q x ≡ true) where
   fewer : (x : X) → one_if (p x) ≤ one_if (q x)
   fewer x = cond_both (p x) 1 0 (λ n. n ≤ one_if (q x)) (λ e. rw (weaker x e) (omega arith)) (λ e. omega arith)

@@ -1,4 +1,4 @@
--- What is said of all scripts of a core is said of those of its tasks and of those of its ISRs.
+-- What holds of all scripts of a core holds of those of its tasks and of those of its ISRs.
 use Rattle.std.proofs.Common.{◌≡◌, ◌&&◌, ◌||◌, Bool, false, List, map, refl, sym, ◌∙◌}
 use Rattle.std.specs.List.{list_all, list_any}
 use Rattle.std.proofs.{lemmas.Bool.or_parts, lemmas.List.Folds.list_all-append, lemmas.List.Folds.list_all-map, lemmas.List.Folds.list_any-append}

@@ -44,7 +44,7 @@ find-holds p ys x e =
 pub find-passes : {X : Type 0} (p q : X → Bool) (ys : List X) (x : X) → list_all q ys ≡ true → find p ys ≡ Some x → q x ≡ true
 find-passes p q ys x a e = passes-at q ys (position_or_len p ys) x a (sym (find_at p ys) ∙ e)
 
--- A test that no element passes: all fail it, and so does each, by its place or as the found one.
+-- If no element passes a test, all fail it, also the element at a place and the one that is found.
 pub all-not : {X : Type 0} (p : X → Bool) (xs : List X) → list_any p xs ≡ false → list_all (λ x. not (p x)) xs ≡ true
 all-not p [] e = refl
 all-not p (x ∷ xs) e = let parts = or_parts (p x) (list_any p xs) e in and_from _ _ (not_from_false _ parts.0) (all-not p xs parts.1)
@@ -55,20 +55,20 @@ fails-at p xs i x none e = not-true (p x) (passes-at (λ y. not (p y)) xs i x (a
 pub find-fails : {X : Type 0} (p q : X → Bool) (xs : List X) (x : X) → list_any q xs ≡ false → find p xs ≡ Some x → q x ≡ false
 find-fails p q xs x none e = not-true (q x) (find-passes p (λ y. not (q y)) xs x (all-not q xs none) e)
 
--- A test that one found element passes.
+-- If a found element passes a test, some element passes it.
 pub any-found : {X : Type 0} (p q : X → Bool) (xs : List X) (x : X) → find p xs ≡ Some x → q x ≡ true → list_any q xs ≡ true
 any-found p q xs x e h = true_from_ne_false _ (λ none. false≢true (sym (find-fails p q xs x none e) ∙ h))
 
--- What all pass, and none of another test, passes a third where the two imply it.
+-- If all pass one test and none a second, all pass a third that follows from this.
 pub all-without : {X : Type 0} (p q r : X → Bool) → ((x : X) → p x ≡ true → q x ≡ false → r x ≡ true) → (xs : List X) → list_all p xs ≡ true → list_any q xs ≡ false → list_all r xs ≡ true
 all-without p q r imply xs a none =
     all-weaker (λ x. p x && not (q x)) r (λ x h. let parts = and_parts (p x) _ h in imply x parts.0 (not-true _ parts.1)) xs (all-both p (λ x. not (q x)) xs a (all-not q xs none))
 
--- A filter keeps no more than there were.
+-- A filter keeps at most as many elements as the list has.
 pub length-filter-le : {X : Type 0} (p : X → Bool) (xs : List X) → length (filter p xs) ≤ length xs
 length-filter-le p xs = rw (length-filter p xs) (count_by-le-length p xs)
 
--- What all pass, those pass that a test keeps.
+-- If all elements pass a test, those that a filter keeps pass it.
 pub all-filter : {X : Type 0} (p q : X → Bool) (xs : List X) → list_all p xs ≡ true → list_all p (filter q xs) ≡ true
 all-filter p q xs a = list_all-from_AllPass p (filter q xs) (All-filter q (λ x. p x ≡ true) xs (AllPass-from_list_all p xs a))
 
@@ -79,7 +79,7 @@ none-from xs e = nil_from_length xs (eqb-true (length xs) 0 e)
 pub all-append : {X : Type 0} (p : X → Bool) (xs ys : List X) → list_all p xs ≡ true → list_all p ys ≡ true → list_all p (xs ++ ys) ≡ true
 all-append p xs ys a b = list_all-append p xs ys ∙ and_from _ _ a b
 
--- All parts pass together what the parts of each pass, and back.
+-- All elements of joined lists pass a test exactly if those of each list do.
 parts-of : {X Y : Type 0} (p : Y → Bool) (f : X → List Y) (xs : List X) → list_all p (flat_map f xs) ≡ list_all (λ x. list_all p (f x)) xs
 parts-of p f [] = refl
 parts-of p f (x ∷ xs) = list_all-append p (f x) (flat_map f xs) ∙ ap (λ (b : Bool). list_all p (f x) && b) (parts-of p f xs)
@@ -98,5 +98,5 @@ pub any-mapped : {X Y : Type 0} (p : Y → Bool) (f : X → Y) (xs : List X) →
 any-mapped p f [] = refl
 any-mapped p f (x ∷ xs) = ap (λ (b : Bool). p (f x) || b) (any-mapped p f xs)
 
--- an element of a list that is made of another
+-- an element of a mapped list
 pub ruleset get_mapped = (slice_get-map)

@@ -8,7 +8,7 @@ use Rattle.osplan.specs.Limits.{TableSizes, are_ascending, counter_sizes, delays
 use Rattle.osplan.proofs.{Clocked.clock-parts, Counters.counter-is, Counters.counter-place, Within.between}
 use Rattle.osbase.proofs.Places.{own-passes, passes-at, some-at}
 
--- ---- what all of a core's tables pass, each does
+-- ---- if all of a core's tables pass a test, each does
 
 module _ (core : Core) (s : TableRef) (table : Table) (within : are_clocks_within core ≡ true) (is : own_table core s ≡ Some table) where
   pub own-table-within : is_table_within (own_table_sizes core table) ≡ true
@@ -17,7 +17,7 @@ module _ (core : Core) (s : TableRef) (table : Table) (within : are_clocks_withi
   pub own-table-timed : is_table_timed (own_table_sizes core table) ≡ true
   own-table-timed = own-passes (λ (t : Table). is_table_timed (own_table_sizes core t)) core.tables (same_core s.core core.id) s.index table (clock-parts core within).timed is
 
-  -- Its counter is one of the core's own.
+  -- The table's counter is one of the core's own.
   pub own-table-attached : is_own_object core (counter_object table.counter) ≡ true
   own-table-attached = own-passes (is_table_attached core) core.tables (same_core s.core core.id) s.index table (clock-parts core within).tables_attached is
 
@@ -51,7 +51,7 @@ table-parts core table within timed =
     let offsets = points-within table.duration table.points up last in
     grind (arith, length-map table.points point_sizes)
 
--- ---- and by its counter
+-- ---- what holds of one table by its counter
 
 pub record DelayParts (table : Table) (counter : Counter) : Type 0 where
   pub first : first_offset (map point_sizes table.points) ≤ counter.max
@@ -59,7 +59,8 @@ pub record DelayParts (table : Table) (counter : Counter) : Type 0 where
   pub last : table.duration - last_offset (map point_sizes table.points) ≤ counter.max
   pub again : table.repeating ≡ true → counter.min ≤ table.duration - last_offset (map point_sizes table.points)
 
--- What a counter admits: the first offset, the delays between, and the final one of a table that repeats or not.
+-- What a counter admits: the first offset, the delays between, and the final delay of a table, whether it repeats or
+-- not.
 admitted : (counter : Counter) (first final : ℕ) (between repeats : Bool)
     → (is_initial (counter_sizes counter) first && between && (nat_le final counter.max && (not repeats || is_delay (counter_sizes counter) final))) ≡ true
     → (first ≤ counter.max) × (between ≡ true) × (final ≤ counter.max) × (repeats ≡ true → counter.min ≤ final)
@@ -75,13 +76,13 @@ module _ (core : Core) (table : Table) (counter : Counter) (found : own_counter 
       let parts = admitted counter (first_offset seen.points) (final_delay seen) (list_all (is_delay (counter_sizes counter)) (delays seen.points)) table.repeating told.1 in
       record { first = parts.0; delays = parts.1; last = parts.2; again = parts.3 }
 
-  -- An automatic table begins after 1 count, or so many that its first point comes within the counter's values at most.
+  -- An autostart table begins after at least 1 count, and so early that its first point is within the counter's values.
   pub table-start-bounds : (auto : TableStart) → is_table_within (own_table_sizes core table) ≡ true → table.auto ≡ Some auto → (1 ≤ auto.offset) × (auto.offset ≤ counter.max - first_offset (map point_sizes table.points))
   table-start-bounds auto within starts =
       let told : is_table_within seen ≡ true = subst (λ (o : Option Counter). is_table_within (table_sizes (λ (c : CounterRef). o) table) ≡ true) found within in
       grind arith
 
--- ---- a counter of the core's own
+-- ---- one of the core's own counters
 
 pub record OwnCounter (core : Core) (c : CounterRef) : Type 0 where
   pub counter : Counter

@@ -4,15 +4,15 @@ use Rattle.std.specs.List.{list_all}
 use Rattle.std.proofs.{lemmas.Bool.and_parts, lemmas.Bool.leb-true, lemmas.Bool.Decides.nat_tests, lemmas.List.length-map, lemmas.List.Folds.fold-map, lemmas.List.Folds.list_all-map}
 use Rattle.osbase.specs.{declared.references.CoreId.CoreId, declared.objects.ObjectKind.ObjectKind, History.same_core, Names.is_name}
 use Rattle.osplan.specs.{declared.plans.Plan.Plan, declared.plans.Alarm.Alarm, declared.plans.Core.Core, declared.plans.Counter.Counter, declared.plans.Isr.Isr, declared.plans.Resource.Resource, declared.plans.Table.Table, declared.plans.Task.Task, Objects.core_scripts, Objects.names_in, Objects.object_count, Objects.most_posts_per_tick, View.core_of, Spinlocks.are_links_ordered, Spinlocks.links_of}
-use Rattle.osplan.specs.Limits.{CoreSizes, Sizes, count_in, most_of, is_between, is_by, is_core_numbered, is_versioned, task_sizes, core_sizes, sizes_of, is_task_within, is_alarm_local, is_core_timed, is_table_local, is_local_to, is_core_within, is_within, is_resource_within, resource_sizes, is_core_known, has_local_references, is_spinlock_known, numbers_of, are_numbers_distinct, is_within_limits}
+use Rattle.osplan.specs.Limits.{CoreSizes, Sizes, count_in, most_of, is_between, is_within_by, is_core_numbered, is_versioned, task_sizes, core_sizes, sizes_of, is_task_within, is_alarm_local, is_core_timed, is_table_local, is_local_to, is_core_within, is_within, is_resource_within, resource_sizes, is_core_known, has_local_references, is_spinlock_known, numbers_of, are_numbers_distinct, is_within_limits}
 use Rattle.osplan.specs.Representable.{is_isr_representable, is_mode_representable, is_spinlock_representable, are_distinct, declared_names, is_task_representable, is_resource_representable, is_counter_representable, is_alarm_representable, is_table_representable, is_core_representable, is_representable}
 use Rattle.osplan.proofs.Tests.{all-weaker, find-passes}
 
 -- ---- the parts of both tests
 
--- The cores of sizes within the limits are.
+-- If sizes are within the limits, so are those of the cores.
 pub cores-within : (s : Sizes) → is_within s ≡ true → list_all is_core_within s.cores ≡ true
-cores-within s h = (and_parts _ (list_all is_core_within s.cores) (and_parts (is_versioned s) (is_by is_core_within s) h).1).1
+cores-within s h = (and_parts _ (list_all is_core_within s.cores) (and_parts (is_versioned s) (is_within_by is_core_within s) h).1).1
 
 pub record LimitParts (plan : Plan) : Type 0 where
   pub sizes : is_within (sizes_of plan) ≡ true
@@ -55,7 +55,7 @@ pub record TextParts (plan : Plan) : Type 0 where
 pub text-parts : (plan : Plan) → IsTrue (is_representable plan) → TextParts plan
 text-parts plan h = search arith
 
--- Of a core that a text can say.
+-- The parts of a representable core, each representable.
 pub record CoreTextParts (core : Core) : Type 0 where
   pub tasks : list_all is_task_representable core.tasks ≡ true
   pub isrs : list_all is_isr_representable core.isrs ≡ true
@@ -67,11 +67,11 @@ pub record CoreTextParts (core : Core) : Type 0 where
 pub core-text-parts : (core : Core) → IsTrue (is_core_representable core) → CoreTextParts core
 core-text-parts core h = search arith
 
--- An object that a text can say has a name in form,
+-- Representable objects have names in form.
 formed : {X : Type 0} (name : X → List ℕ) (p : X → Bool) → ((x : X) → p x ≡ true → is_name (name x) ≡ true) → (xs : List X) → list_all p xs ≡ true → list_all is_name (map name xs) ≡ true
 formed name p each xs all = list_all-map is_name name xs ∙ all-weaker p (λ x. is_name (name x)) each xs all
 
--- of whichever kind it is.
+-- The objects of a representable core have names in form, whatever their kind is.
 pub names-formed : (core : Core) → CoreTextParts core → (kind : ObjectKind) → list_all is_name (names_in kind core) ≡ true
 names-formed core said ObjectKind.Mode = refl
 names-formed core said ObjectKind.Spinlock = refl
@@ -84,8 +84,8 @@ names-formed core said ObjectKind.Table = formed (λ (table : Table). table.name
 
 -- ---- what a kernel needs
 
--- The core has its place among the flags of all cores; its tasks, their jobs, its ISRs, its resources, counters, alarms and tables have room, and so
--- has what these post.
+-- The core's number is below 16. A kernel has room for its tasks, their jobs, its ISRs, resources, counters, alarms and
+-- tables, and for the letters that these post.
 pub record FitsKernel (core : Core) : Type 0 where
   pub number : nat_lt core.id.number 16 ≡ true
   pub tasks : length core.tasks ≤ 32
@@ -100,11 +100,11 @@ pub record FitsKernel (core : Core) : Type 0 where
   pub tables : length core.tables ≤ 8
   pub posted : most_posts_per_tick core ≤ 56
 
--- Of no kind are there more objects than a byte can count.
+-- No kind has more objects than a byte can count.
 pub few-objects : (core : Core) → FitsKernel core → (kind : ObjectKind) → object_count kind core ≤ 255
 few-objects core fits kind = grind arith
 
--- The sizes of a core within its limits are of no more objects of a kind than there may be.
+-- If a core's sizes are within their limits, they have no more objects of a kind than there may be.
 pub few-of : (s : CoreSizes) → is_core_numbered s ≡ true → (kind : ObjectKind) → nat_le (count_in kind s) (most_of kind) ≡ true
 few-of s h kind = grind arith
 
@@ -154,7 +154,7 @@ pub core-fits : (plan : Plan) (id : CoreId) (core : Core) → IsTrue (is_within_
 core-fits plan id core limits found =
     fits plan core (find-passes (λ (c : Core). same_core c.id id) (λ (c : Core). is_core_within (core_sizes plan c)) plan.cores core (limit-parts plan limits).cores found)
 
--- What each alarm and each table of a core goes by stands on the core, and so does what scripts may not name elsewhere.
+-- The counter of each alarm and each table is on the core, and so is what scripts may not name on another core.
 pub record NearParts (core : Core) : Type 0 where
   pub scripts : list_all (list_all (is_local_to core.id)) (core_scripts core) ≡ true
   pub alarms : list_all (is_alarm_local core.id) core.alarms ≡ true

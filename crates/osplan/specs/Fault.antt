@@ -1,4 +1,4 @@
--- The faults of texts and of cuts, with the numbers and the words that a program prints; tables of them, and the fault that a step answers.
+-- The faults of texts and of cuts: their numbers and words, tables of faults, and the fault that a step gives.
 use Rattle.std.specs.Prelude.{◌≡◌, ◌<◌, ◌⊎◌, ℕ, Bool, List, [], ◌∷◌, Option, Some, None, Result, Ok, Err, if◌then◌else◌, codes}
 use Rattle.std.specs.List.{IsAmong}
 use Rattle.osplan.specs.declared.faults.ConfFault.{ConfFault}
@@ -47,25 +47,27 @@ abbrev pub failing : Tests → List ConfFault
 failing [] = []
 failing (row ∷ rows) = if row.1 then failing rows else row.0 ∷ failing rows
 
--- The first of them. [own]
+-- The first of these faults, if there is one. [own]
 abbrev pub first_fault : List ConfFault → Option ConfFault
 first_fault [] = None
 first_fault (fault ∷ faults) = Some fault
 
--- What a step answered whose fault has a name: the value as `view` sees it is what the definition has; or the fault, where that has
--- none; or memory ran out.
+-- The fault of a step that failed is that memory ran out; or it is `named`, and the definition has no value (`read` is
+-- `None`).
 abbrev pub Faults : {Y : Type 0} → ConfFault → ConfFault → Option Y → Type 0
 Faults named fault read = (fault ≡ NoMemory) ⊎ ((fault ≡ named) × (read ≡ None))
 
+-- A step of reading agrees with its definition. If the step did not fail, the `view` of its value is the value `read`
+-- of the definition. If it failed, its fault is that memory ran out; or it is `named`, and the definition has no value.
 abbrev pub GivesOr : {X Y : Type 0} → ConfFault → (X → Y) → Result X ConfFault → Option Y → Type 0
 GivesOr named view (Ok x) read = read ≡ Some (view x)
 GivesOr named view (Err fault) read = Faults named fault read
 
--- The fault that is answered is the one of smallest number.
+-- The fault is one of these, and none of these has a smaller number.
 abbrev pub IsLeast : ConfFault → List ConfFault → Type 0
 IsLeast fault faults = IsAmong faults fault × ((other : ConfFault) → IsAmong faults other → fault_number other < fault_number fault → ⊥)
 
--- A value, where there is no fault. [own]
+-- The value, if there is no fault. [own]
 abbrev pub if_faultless : {A : Type 0} → List ConfFault → A → Option A
 if_faultless [] x = Some x
 if_faultless (fault ∷ faults) x = None

@@ -5,19 +5,21 @@ use Rattle.osbase.specs.{declared.objects.ObjectKind.ObjectKind, declared.object
 use Rattle.osbase.specs.Objects.{alarm_place, isr_place, resource_place, spinlock_place, table_place, task_place}
 use Rattle.osplan.specs.{declared.plans.Core.Core, declared.plans.Plan.Plan, Objects.common_names, Objects.names_in, View.core_of}
 
+-- The name of an application mode; empty if the configuration lacks the mode.
 abbrev pub name_of_mode : Plan → ModeId → List ℕ
 name_of_mode plan mode = unwrap_or (slice_get plan.modes mode.index) []
 
 -- ---- objects
 
--- The name of a core's object of a kind.
+-- The name of the core's object of this kind and index; empty if the core has none.
 abbrev pub name_in : ObjectKind → Core → ℕ → List ℕ
 name_in kind core index = unwrap_or (slice_get (names_in kind core) index) []
 
--- Of one that all cores have in common.
+-- The name of the object of this kind and place that all cores have in common; empty if there is none.
 abbrev pub common_name : Plan → ObjectKind → Place → List ℕ
 common_name plan kind place = if same_core place.core NOBODY then unwrap_or (slice_get (common_names kind plan) place.index) [] else []
 
+-- The name of the object of this kind at this place: one of a core's, or one that all cores have in common.
 abbrev pub name_of : Plan → ObjectKind → Place → List ℕ
 name_of plan kind place = option_map_or (λ (core : Core). name_in kind core place.index) (core_of plan place.core) (common_name plan kind place)
 
@@ -39,6 +41,7 @@ table_name plan table = name_of plan ObjectKind.Table (table_place table)
 abbrev pub isr_name : Plan → IsrRef → List ℕ
 isr_name plan isr = name_of plan ObjectKind.Isr (isr_place isr)
 
+-- The name of a task or an ISR.
 abbrev pub runner_name : Plan → Runner → List ℕ
 runner_name plan (Runner.Task task) = task_name plan task
 runner_name plan (Runner.Isr isr) = isr_name plan isr

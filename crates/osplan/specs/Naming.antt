@@ -5,15 +5,15 @@ use Rattle.osbase.specs.{declared.references.CoreId.CoreId, declared.references.
 use Rattle.oscript.specs.{declared.Op.Op, Rows.asks_shared, Rows.halts_all, Rows.objects_of}
 use Rattle.osplan.specs.{declared.plans.Core.Core, declared.sides.Side.Side, declared.sides.Side.TheVariants.On, declared.sides.Side.TheVariants.Off, declared.sides.Side.TheVariants.Spinlock, declared.operations.OpTest.OpTest, declared.operations.OpTest.TheVariants.Names, declared.operations.OpTest.TheVariants.AsksShared, declared.operations.OpTest.TheVariants.HaltsAll, Objects.core_actions, Objects.core_scripts}
 
--- The object stands on this core.
+-- The object is on this core.
 abbrev pub is_on : CoreId → Object → Bool
 is_on id object = same_core object.place.core id
 
--- It stands on another.
+-- The object is not on this core.
 abbrev pub is_off : CoreId → Object → Bool
 is_off id object = not (is_on id object)
 
--- It is this spinlock.
+-- The object is this spinlock.
 abbrev pub is_that_spinlock : SpinlockId → Object → Bool
 is_that_spinlock l object = same_kind object.kind SpinlockKind && (object.place.index == l.index)
 
@@ -27,19 +27,22 @@ is_at (Spinlock l) object = is_that_spinlock l object
 abbrev pub op_names : (Object → Bool) → Op → Bool
 op_names test op = list_any test (objects_of op)
 
+-- The operation names an object on this core.
 abbrev pub names_own : CoreId → Op → Bool
 names_own id op = op_names (is_on id) op
 
+-- The operation names an object that is not on this core.
 abbrev pub names_other : CoreId → Op → Bool
 names_other id op = op_names (is_off id) op
 
--- The operation names an object on this side, asks for what all cores share, or shuts all cores down.
+-- The operation does what the test asks about: it names an object on the test's side, its effect depends on what all
+-- cores share, or it shuts all cores down.
 abbrev pub passes_test : OpTest → Op → Bool
 passes_test (Names side) = op_names (is_at side)
 passes_test AsksShared = asks_shared
 passes_test HaltsAll = halts_all
 
--- A script of the core has such an operation.
+-- A script of the core has an operation that passes the test.
 abbrev pub has_operation : (Op → Bool) → Core → Bool
 has_operation test core = list_any (list_any test) (core_scripts core)
 

@@ -7,24 +7,25 @@ use Rattle.osplan.specs.{Spinlocks.links_of, declared.plans.Plan.Plan, declared.
 abbrev pub core_of : Plan → CoreId → Option Core
 core_of plan id = find (λ core. same_core core.id id) plan.cores
 
--- The counter of this reference, on whichever core it stands.
+-- The counter of this reference, on whichever core it is.
 abbrev pub counter_in : Plan → CounterRef → Option Counter
 counter_in plan c = option_and_then (λ (core : Core). slice_get core.counters c.index) (core_of plan c.core)
 
--- A core that is not configured has nothing.
+-- What stands for a core that is not configured: it has no objects, starts no core, accepts any mode, and would answer
+-- a time fault with its shutdown.
 abbrev pub no_core : CoreId → Core
 no_core id = record { id = id; mode = DontCare; start = []; protection = Shutdown; tasks = []; isrs = []; resources = []; counters = []; alarms = []; tables = [] }
 
--- What a core sees of the others and shares with them: whether it is the master, the numbers of the configured cores, and the successor
--- of each spinlock.
+-- What a core sees of the others and shares with them: whether it is the master, the numbers of the configured cores,
+-- and the successor of each spinlock.
 pub record Around : Type 0 where
   pub is_master : Bool
   pub cores : List CoreId
   pub links : List (Option SpinlockId)
 
--- What a core is started with: its number, and its own part of the configuration, which has its mode, its start list and
--- its objects; the configuration's modes, and what it sees of the other cores. An object of another core is known by its
--- reference, which says its kind and its core.
+-- What a core is started with: its number, and its own part of the configuration, which has its mode, its start list
+-- and its objects; the configuration's modes, and what it sees of the other cores. An object of another core is known
+-- by its reference, which says its kind and its core.
 -- [AUTOSAR SWS OS 4.x, section 7.9; the code holds one whole configuration.]
 pub record View : Type 0 where
   pub core : CoreId
@@ -32,7 +33,7 @@ pub record View : Type 0 where
   pub modes : List (List ℕ)
   pub around : Around
 
--- What the core of this number sees whose own part this is.
+-- What the core of this number sees, if `own` is its own part of the configuration.
 abbrev pub view_from : Plan → CoreId → Core → View
 view_from plan id own = record {
   core = id;
@@ -41,7 +42,7 @@ view_from plan id own = record {
   around = record { is_master = same_core id plan.master; cores = map (λ (c : Core). c.id) plan.cores; links = links_of plan.spinlocks };
 }
 
--- What the core of this number sees.
+-- What the core of this number sees, configured or not.
 abbrev pub view_of : Plan → CoreId → View
 view_of plan id = view_from plan id (unwrap_or (core_of plan id) (no_core id))
 

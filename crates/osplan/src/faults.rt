@@ -1,4 +1,4 @@
-//! Why a configuration, stimuli or a schedule was not read, or a core's configuration not cut from the whole.
+//! Why a configuration, stimuli or a schedule was not read, or why a core's configuration was not cut from the whole.
 
 ghost use Rattle.std.specs.Prelude.{◌≡◌};
 ghost use Rattle.osplan.specs.{Fault.fault_number, Fault.fault_name, declared.faults.ConfFault.TheVariants.NoMemory};
@@ -7,7 +7,7 @@ use std::alloc::{AllocError, AllocFailed};
 use std::error::Error;
 use std::fmt;
 
-/// Why a text was not read, or a core's configuration not cut from the whole.
+/// Why a text was not read, or why a core's configuration was not cut from the whole.
 #[derive(Clone, Copy, Debug, PartialEq, Eq)]
 pub enum ConfFault {
     /// The text is not JSON.
@@ -16,9 +16,9 @@ pub enum ConfFault {
     Shape,
     /// A count or a number is outside its limit.
     Limit,
-    /// A name or a core number stands twice.
+    /// A name or a core number occurs twice.
     DuplicateName,
-    /// There is no such object of the wanted kind, mode or core.
+    /// There is no such object of the required kind, no such mode or no such core.
     UnknownName,
     /// An object of another core, where none is allowed.
     WrongCore,
@@ -26,15 +26,15 @@ pub enum ConfFault {
     SpinOrder,
     /// An event mask that is not 1 to 4294967295.
     BadMask,
-    /// The offsets of a schedule table's points: their order, the duration, or what the counter allows.
+    /// A schedule table's points are out of order, past its duration, or at delays that its counter does not allow.
     BadTable,
-    /// An operation or an action: its form, or a number out of its range that is no mask.
+    /// An operation or an action is not well-formed, or has a number out of its range that is no mask.
     BadScript,
     /// Memory ran out while reading or cutting.
     NoMemory,
-    /// The stimuli.
+    /// The stimuli are faulty.
     BadStimulus,
-    /// The listed turns.
+    /// The listed turns are faulty.
     BadSchedule,
     /// The core is not separate.
     NotSeparate,

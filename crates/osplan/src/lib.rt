@@ -1,7 +1,7 @@
 //! The configuration of an operating system, and what one core sees of it.
 //!
-//! A `Config` is within the limits, every reference in it names an object of it, where it must one of its own
-//! core, and a text can say it: the layers above test none of these again.
+//! A `Config` is within the limits, and a text can represent it. Every reference in it names one of its objects,
+//! and, where no other is allowed, one of the same core. The layers above do not test this again.
 #![tactic(auto)]
 
 mod copies;

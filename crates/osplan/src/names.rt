@@ -10,6 +10,7 @@ use osbase::{
 };
 
 impl Core {
+    // The name of the core's object of this kind and index; empty if the core has none.
     fn name_in(&self, kind: ObjectKind, index: u8) -> &str
         ensures { result.now ≡ name_in kind self.now index }
     {
@@ -17,7 +18,7 @@ impl Core {
     }
 }
 
-/// Each name is the empty text where the plan lacks the mode or the object.
+/// If the plan lacks the mode or the object, its name is the empty text.
 impl Plan {
     /// The name of an application mode.
     pub fn name_of_mode(&self, mode: ModeId) -> &str
@@ -39,6 +40,7 @@ impl Plan {
         }
     }
 
+    // The name of a mode or a spinlock, which all cores have in common; empty for any other kind or place.
     #[tactic(auto, using(crate::proofs::Tests::get_mapped))]
     fn common_name(&self, kind: ObjectKind, place: Place) -> &str
         ensures { result.now ≡ common_name self.now kind place }

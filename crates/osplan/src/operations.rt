@@ -7,7 +7,7 @@ use crate::plans::Core;
 use crate::sides::Side;
 use oscript::Op;
 
-/// A test of an operation: what ties the core of its script to others.
+/// A test of an operation, for whether it ties its core to other cores.
 #[derive(Clone, Copy)]
 pub enum OpTest {
     /// It names an object on this side.
@@ -19,6 +19,7 @@ pub enum OpTest {
 }
 
 impl OpTest {
+    // Whether the operation does what the test asks about.
     fn passes(self, op: Op) -> bool
         ensures { result ≡ passes_test self op }
     {
@@ -30,12 +31,14 @@ impl OpTest {
     }
 }
 
+// Whether an operation of the script passes the test.
 fn script_has(script: &[Op], test: OpTest) -> bool
     ensures { result ≡ list_any (passes_test test) script.now }
 {
     script.iter().any(|op| test.passes(*op))
 }
 
+// Whether the script of one of the core's tasks has an operation that passes the test.
 fn tasks_have(core: &Core, test: OpTest) -> bool
     ensures { result ≡ list_any (λ (task : TaskValue). list_any (passes_test test) task.script) core.now.tasks }
 {
@@ -45,6 +48,7 @@ fn tasks_have(core: &Core, test: OpTest) -> bool
         .any(|task| script_has(task.script.as_slice(), test))
 }
 
+// Whether the script of one of the core's ISRs has an operation that passes the test.
 fn isrs_have(core: &Core, test: OpTest) -> bool
     ensures { result ≡ list_any (λ (isr : IsrValue). list_any (passes_test test) isr.script) core.now.isrs }
 {

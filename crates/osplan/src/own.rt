@@ -9,7 +9,7 @@ use osbase::{
     AlarmRef, CoreId, CounterRef, IsrRef, Place, Reference, ResourceRef, TableRef, TaskRef,
 };
 
-// The object at this place in a list of the core's objects, if it is this core's place.
+// The object at this place in a list of the core's objects, if the place is on this core.
 fn own_at<'t, T>(core: CoreId, objects: &'t [T], place: Place) -> Option<&'t T>
     ensures { option_copied result ≡ (if same_core place.core core then slice_get objects.now place.index else None) }
 {

@@ -1,14 +1,12 @@
 //! The parts of a configuration, and the configuration that keeps its limits.
 
 ghost use Rattle.std.specs.Prelude.{◌≡◌, IsTrue, length, option_copied, slice_get};
-ghost use Rattle.std.specs.List.{list_all};
-ghost use Rattle.osplan.specs.Objects.{common_names, core_scripts, is_own_object, names_in, object_count};
-ghost use Rattle.osplan.specs.{Stimuli.knows_stimulus, View.core_of, Representable.is_representable, declared.plans.Isr.Isr as IsrValue, declared.plans.Task.Task as TaskValue};
-ghost use Rattle.osplan.specs.Limits.{is_alarm_local, has_local_references, is_table_local, is_within_limits, is_local_to};
+ghost use Rattle.osplan.specs.Objects.{common_names, is_own_object, names_in, object_count};
+ghost use Rattle.osplan.specs.{Stimuli.knows_stimulus, View.core_of, Representable.is_representable};
+ghost use Rattle.osplan.specs.Limits.{is_within_limits};
 
 use crate::own::isr_of;
 use crate::protection::Protection;
-use crate::sides::{is_local_to, is_on};
 use osbase::{
     CoreId, CoreMode, CounterRef, List, ModeId, Name, Object, ObjectKind, Reference, RemoteCall,
     SpinlockId, Stimulus,
@@ -26,12 +24,13 @@ pub struct Task {
     pub auto: List<ModeId>,
     /// How many jobs of the task may be live at once.
     pub activations: u8,
-    /// Whether the task can wait for events; it has a mask of them (OSEK/VDX OS 2.2.3, section 4.2.1).
+    /// Whether the task is extended, so that it can wait for events (OSEK/VDX OS 2.2.3, section 4.2.1).
     pub extended: bool,
-    /// Whether a task of greater priority takes the processor before this one ends or gives way
+    /// Whether a task of greater priority can preempt this one before it ends or gives way
     /// (OSEK/VDX OS 2.2.3, section 4.6).
     pub preemptable: bool,
-    /// How many ticks a job may run until it ends or waits (AUTOSAR SWS OS 4.x, OsTaskExecutionBudget); 0 for any number.
+    /// How many ticks a job may run until it ends or waits (AUTOSAR SWS OS 4.x, OsTaskExecutionBudget); 0 for any
+    /// number.
     pub budget: u32,
     pub script: Script,
 }
@@ -42,9 +41,9 @@ pub struct Resource {
     pub name: Name,
     /// The ceiling priority, 0 to 31: whoever holds the resource has at least this priority.
     pub ceiling: u8,
-    /// The lock budget, in ticks, 0 to 1,000,000,000: how long a job may hold the resource while it runs; 0 is none
-    /// (AUTOSAR SWS OS 4.x, OsTaskResourceLockBudget). That it stands at the resource, for all its
-    /// holders, is the project's own.
+    /// The lock budget, in ticks, 0 to 1,000,000,000: how long a job may hold the resource while it runs; 0 means none
+    /// (AUTOSAR SWS OS 4.x, OsTaskResourceLockBudget). The resource has one budget for all its
+    /// holders; this is the project's own.
     pub lock: u32,
 }
 
@@ -52,7 +51,7 @@ pub struct Resource {
 #[derive(Clone, Debug, Drop)]
 pub struct Isr {
     pub name: Name,
-    /// The level, 1 to 16: an ISR interrupts those of a lower one.
+    /// The level, 1 to 16: an ISR interrupts those of a lower level.
     pub level: u8,
     /// How many ticks a job may run (OsIsrExecutionBudget); 0 for any number.
     pub budget: u32,
@@ -67,18 +66,18 @@ pub struct Counter {
     pub max: u32,
     /// The least cycle of an alarm, 1 to the greatest value (OsCounterMinCycle).
     pub min: u32,
-    /// Whether IncrementCounter alone advances it, and no tick.
+    /// Whether only IncrementCounter advances it, and no tick does.
     pub software: bool,
 }
 
-/// How an alarm is autostarted: in these application modes; it expires after so many counts, and again after each
+/// How an alarm is autostarted: in which application modes, after how many counts it first expires, and with which
 /// cycle (AUTOSAR SWS OS 4.x, OsAlarmAutostart).
 #[derive(Clone, Debug, Drop)]
 pub struct AlarmStart {
     pub modes: List<ModeId>,
     /// 1 to the counter's greatest value.
     pub start: u32,
-    /// The counter's least cycle to its greatest value; 0 where it is due once.
+    /// The counter's least cycle to its greatest value; 0 if the alarm expires once.
     pub cycle: u32,
 }
 
@@ -86,14 +85,14 @@ pub struct AlarmStart {
 #[derive(Clone, Debug, Drop)]
 pub struct Alarm {
     pub name: Name,
-    /// The counter, one of its own core.
+    /// The counter, which is on the same core.
     pub counter: CounterRef,
-    /// What it does when it is due, an action (OsAlarmAction): its task may stand on another core.
+    /// The action when the alarm expires (OsAlarmAction). The task of the action may be on another core.
     pub action: RemoteCall,
     pub auto: Option<AlarmStart>,
 }
 
-/// What a schedule table does so many counts after its period begins (AUTOSAR SWS OS 4.x, OsScheduleTableExpiryPoint).
+/// What a schedule table does at one offset of its period (AUTOSAR SWS OS 4.x, OsScheduleTableExpiryPoint).
 #[derive(Clone, Debug, Drop)]
 pub struct ExpiryPoint {
     /// 0 to the table's duration, greater than that of the point before.
@@ -102,7 +101,7 @@ pub struct ExpiryPoint {
     pub actions: List<RemoteCall>,
 }
 
-/// How a schedule table is autostarted: in these application modes, its first period after so many counts
+/// How a schedule table is autostarted: in which application modes, and after how many counts its first period begins
 /// (AUTOSAR SWS OS 4.x, OsScheduleTableAutostart).
 #[derive(Clone, Debug, Drop)]
 pub struct TableStart {
@@ -115,7 +114,7 @@ pub struct TableStart {
 #[derive(Clone, Debug, Drop)]
 pub struct Table {
     pub name: Name,
-    /// The counter, one of its own core.
+    /// The counter, which is on the same core.
     pub counter: CounterRef,
     /// The counts of a period, 1 to 1,000,000,000 (OsScheduleTableDuration).
     pub duration: u32,
@@ -133,7 +132,7 @@ pub struct Core {
     pub mode: CoreMode,
     /// The cores that it starts before StartOS, configured or not.
     pub start: List<CoreId>,
-    /// What it does when a job has used up its budget, or a resource's.
+    /// What it does when a job has used up its execution budget, or the lock budget of a resource.
     pub protection: Protection,
     pub tasks: List<Task>,
     pub isrs: List<Isr>,
@@ -147,7 +146,7 @@ pub struct Core {
 #[derive(Debug, Drop)]
 pub struct Spinlock {
     pub name: Name,
-    /// The spinlock that comes next after this one: a job that holds this one may ask for that, and for those after it
+    /// The spinlock that comes next after this one: a job that holds this one may ask for the next and those after it
     /// (OsSpinlockSuccessor).
     pub next: Option<SpinlockId>,
 }
@@ -155,7 +154,7 @@ pub struct Spinlock {
 /// A configuration as data, within the limits or not.
 #[derive(Debug, Drop)]
 pub struct Plan {
-    /// The version of the format: 1, or 2, by which there may be 16 cores in place of 8.
+    /// The version of the format: 1, or 2, which allows 16 cores in place of 8.
     pub version: u8,
     /// How many envelopes the mailbox of an ordered pair of cores holds.
     pub cap: u8,
@@ -167,8 +166,8 @@ pub struct Plan {
     pub cores: List<Core>,
 }
 
-/// A configuration within the limits, all of whose references name objects of it, and that a text can
-/// say: its names are in form and all different.
+/// A configuration that is within the limits and that a text can represent: its names are well-formed and all
+/// different. All its references name objects of it.
 #[derive(Debug, Drop)]
 pub struct Config {
     plan: Plan,
@@ -186,7 +185,7 @@ impl Model for Config {
 }
 
 impl Config {
-    /// The configuration of a plan within the limits that a text can say.
+    /// The configuration of a plan that is within the limits and representable.
     pub fn new(plan: Plan) -> Self
         requires limits { IsTrue (is_within_limits plan) }
         requires representable { IsTrue (is_representable plan) }
@@ -218,64 +217,7 @@ pub const KINDS: [ObjectKind; 6] = [
 /// The kinds of the objects that all cores have in common.
 pub const COMMON: [ObjectKind; 2] = [ObjectKind::Mode, ObjectKind::Spinlock];
 
-fn is_script_local(id: CoreId, script: &Script) -> bool
-    ensures { result ≡ list_all (is_local_to id) script.now }
-{
-    script.as_slice().iter().all(|op| is_local_to(id, *op))
-}
-
-fn are_tasks_near(core: &Core) -> bool
-    ensures { result ≡ list_all (λ (task : TaskValue). list_all (is_local_to core.now.id) task.script) core.now.tasks }
-{
-    core.tasks
-        .as_slice()
-        .iter()
-        .all(|task| is_script_local(core.id, &task.script))
-}
-
-fn are_isrs_near(core: &Core) -> bool
-    ensures { result ≡ list_all (λ (isr : IsrValue). list_all (is_local_to core.now.id) isr.script) core.now.isrs }
-{
-    core.isrs
-        .as_slice()
-        .iter()
-        .all(|isr| is_script_local(core.id, &isr.script))
-}
-
-#[tactic(auto, using(crate::proofs::Scripts::all_scripts))]
-fn are_scripts_near(core: &Core) -> bool
-    ensures { result ≡ list_all (list_all (is_local_to core.now.id)) (core_scripts core.now) }
-{
-    are_tasks_near(core) && are_isrs_near(core)
-}
-
-fn are_alarms_near(core: &Core) -> bool
-    ensures { result ≡ list_all (is_alarm_local core.now.id) core.now.alarms }
-{
-    core.alarms
-        .as_slice()
-        .iter()
-        .all(|alarm| is_on(core.id, alarm.counter.object()))
-}
-
-fn are_tables_near(core: &Core) -> bool
-    ensures { result ≡ list_all (is_table_local core.now.id) core.now.tables }
-{
-    core.tables
-        .as_slice()
-        .iter()
-        .all(|table| is_on(core.id, table.counter.object()))
-}
-
 impl Core {
-    /// Whether no operation of the core's scripts names an object of another core, where it may name the
-    /// core's own alone, and the counters of its alarms and tables are its own.
-    pub fn is_near(&self) -> bool
-        ensures { result ≡ has_local_references self.now }
-    {
-        are_scripts_near(self) && are_alarms_near(self) && are_tables_near(self)
-    }
-
     /// Whether the object is one of the core's own.
     pub fn has(&self, object: Object) -> bool
         ensures { result ≡ is_own_object self.now object }
@@ -284,7 +226,7 @@ impl Core {
             && usize::from(object.place.index) < self.count(object.kind)
     }
 
-    /// Whether the core knows the stimulus: the running job's next operation, a tick, and an interrupt of one of its ISRs.
+    /// Whether the core knows the stimulus: an operation or a tick always, an interrupt if the ISR is one of its own.
     pub fn knows(&self, stimulus: Stimulus) -> bool
         ensures { result ≡ knows_stimulus self.now stimulus }
     {

@@ -29,7 +29,7 @@ const PROTECTIONS: [Protection; 5] = [
 ];
 
 impl Protection {
-    /// The word of a configuration's text.
+    /// The word for this answer in a configuration's text.
     pub fn word(self) -> &'static str
         ensures { result.now ≡ protection_word self }
     {
@@ -42,7 +42,7 @@ impl Protection {
         }
     }
 
-    /// The answer of a word.
+    /// The answer that a word names, if there is one.
     pub fn named(word: &str) -> Option<Protection>
         ensures { result ≡ protection_named word.now }
     {

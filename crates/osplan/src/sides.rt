@@ -10,20 +10,21 @@ use crate::plans::{Core, Table};
 use osbase::{CoreId, Object, ObjectKind, Reference, RemoteCall, SpinlockId};
 use oscript::Op;
 
-/// Whether the object stands on this core.
+/// Whether the object is on this core.
 pub fn is_on(id: CoreId, object: Object) -> bool
     ensures { result ≡ is_on id object }
 {
     object.place.core.number == id.number
 }
 
+// Whether the object is this spinlock.
 fn is_that_spinlock(lock: SpinlockId, object: Object) -> bool
     ensures { result ≡ is_that_spinlock lock object }
 {
     object.kind.is(ObjectKind::Spinlock) && object.place.index == lock.index
 }
 
-/// The objects that stand on a core, those that do not, or one spinlock, which stands on none.
+/// The objects on a core, the objects not on it, or one spinlock, which is on no core.
 #[derive(Clone, Copy)]
 pub enum Side {
     On(CoreId),
@@ -32,6 +33,7 @@ pub enum Side {
 }
 
 impl Side {
+    // Whether the object is on this side, or is this spinlock.
     fn has(self, object: Object) -> bool
         ensures { result ≡ is_at self object }
     {
@@ -42,6 +44,7 @@ impl Side {
         }
     }
 
+    // Whether there is an object, and it is on this side.
     fn has_present(self, object: Option<Object>) -> bool
         ensures { result ≡ option_map_or (is_at self) object false }
     {
@@ -51,25 +54,28 @@ impl Side {
         }
     }
 
+    // Whether one of the objects is on this side.
     fn has_any(self, objects: &[Option<Object>]) -> bool
         ensures { result ≡ list_any (λ object. option_map_or (is_at self) object false) objects.now }
     {
         objects.iter().any(|object| self.has_present(*object))
     }
 
-    /// Whether the operation names such an object.
+    /// Whether the operation names an object on this side.
     pub fn is_named_by_op(self, op: Op) -> bool
         ensures { result ≡ op_names (is_at self) op }
     {
         self.has_any(&op.objects())
     }
 
+    // Whether one of the actions is for an object on this side.
     fn is_called_by(self, actions: &[RemoteCall]) -> bool
         ensures { result ≡ list_any (λ action. is_at self (object_of_call action)) actions.now }
     {
         actions.iter().any(|action| self.has(action.object()))
     }
 
+    // Whether the action of one of the core's alarms is for an object on this side.
     fn is_called_by_alarm(self, core: &Core) -> bool
         ensures { result ≡ list_any (λ (alarm : AlarmValue). is_at self (object_of_call alarm.action)) core.now.alarms }
     {
@@ -79,6 +85,7 @@ impl Side {
             .any(|alarm| self.has(alarm.action.object()))
     }
 
+    // Whether an action of one of the table's expiry points is for an object on this side.
     fn is_called_by_point(self, table: &Table) -> bool
         ensures { result ≡ list_any (λ (point : PointValue). list_any (λ action. is_at self (object_of_call action)) point.actions) table.now.points }
     {
@@ -89,6 +96,7 @@ impl Side {
             .any(|point| self.is_called_by(point.actions.as_slice()))
     }
 
+    // Whether an action of one of the core's schedule tables is for an object on this side.
     fn is_called_by_table(self, core: &Core) -> bool
         ensures { result ≡ list_any (λ (table : TableValue). list_any (λ (point : PointValue). list_any (λ action. is_at self (object_of_call action)) point.actions) table.points) core.now.tables }
     {
@@ -98,7 +106,7 @@ impl Side {
             .any(|table| self.is_called_by_point(table))
     }
 
-    // Whether an alarm or a schedule table acts on such an object.
+    // Whether an alarm or a schedule table of the core acts on an object on this side.
     #[tactic(auto, using(crate::proofs::Acting::any_pointed))]
     fn is_acted_on(self, core: &Core) -> bool
         ensures { result ≡ acts_on (is_at self) core.now }
@@ -106,7 +114,7 @@ impl Side {
         self.is_called_by_alarm(core) || self.is_called_by_table(core)
     }
 
-    /// Whether a script, an alarm or a table of the core names such an object.
+    /// Whether a script, an alarm or a table of the core names an object on this side.
     pub fn is_named_by(self, core: &Core) -> bool
         ensures { result ≡ names_object (is_at self) core.now }
     {
@@ -114,7 +122,7 @@ impl Side {
     }
 }
 
-/// Whether the operation names no object of another core, where it may name the core's own alone.
+/// Whether the operation, if it may name only the core's own objects, names no object of another core.
 pub fn is_local_to(id: CoreId, op: Op) -> bool
     ensures { result ≡ is_local_to id op }
 {

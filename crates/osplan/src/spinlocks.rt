@@ -8,6 +8,7 @@ ghost use Rattle.osplan.specs.Spinlocks.{are_links_ordered, comes_after, is_link
 use crate::plans::{Config, Plan, Spinlock};
 use osbase::SpinlockId;
 
+// The successor of the spinlock, if it has one.
 fn next_of(spinlocks: &[Spinlock], lock: SpinlockId) -> Option<SpinlockId>
     ensures { result ≡ next_in (links_of spinlocks.now) lock }
 {
@@ -17,6 +18,7 @@ fn next_of(spinlocks: &[Spinlock], lock: SpinlockId) -> Option<SpinlockId>
     }
 }
 
+// Whether `to` comes after `from` by one or more links, each from a spinlock to its successor.
 fn comes_after(spinlocks: &[Spinlock], from: SpinlockId, to: SpinlockId) -> bool
     ensures { result ≡ comes_after (links_of spinlocks.now) (length (links_of spinlocks.now)) from to }
 {
@@ -33,6 +35,7 @@ fn comes_after(spinlocks: &[Spinlock], from: SpinlockId, to: SpinlockId) -> bool
     false
 }
 
+// Whether the successor `next`, if there is one, does not come after itself.
 fn is_link_ordered(spinlocks: &[Spinlock], next: Option<SpinlockId>) -> bool
     ensures { result ≡ is_link_ordered (links_of spinlocks.now) next }
 {
@@ -42,6 +45,7 @@ fn is_link_ordered(spinlocks: &[Spinlock], next: Option<SpinlockId>) -> bool
     }
 }
 
+// Whether no spinlock's successor comes after itself.
 fn is_each_ordered(spinlocks: &[Spinlock]) -> bool
     ensures { result ≡ list_all (λ (spinlock : SpinlockValue). is_link_ordered (links_of spinlocks.now) spinlock.next) spinlocks.now }
 {
@@ -59,8 +63,8 @@ pub fn are_links_ordered(spinlocks: &[Spinlock]) -> bool
 }
 
 impl Plan {
-    /// Whether `to` comes after `from`: it is the successor of `from`, or it comes after that successor (AUTOSAR SWS OS 4.x,
-    /// SWS_Os_00660). It does not if either is no spinlock of the plan.
+    /// Whether `to` comes after `from`: it is the successor of `from`, or it comes after that successor (AUTOSAR SWS OS
+    /// 4.x, SWS_Os_00660). If `from` is no spinlock of the plan, nothing comes after it.
     pub fn comes_after(&self, from: SpinlockId, to: SpinlockId) -> bool
         ensures { result ≡ comes_after (links_of self.now.spinlocks) (length (links_of self.now.spinlocks)) from to }
     {
@@ -68,8 +72,8 @@ impl Plan {
     }
 }
 
-/// Whether a job whose newest spinlock is `newest` may ask for `new`: this comes after that one, by any number of links. None
-/// comes after itself (AUTOSAR SWS OS 4.x, SWS_Os_00661). Takes no memory.
+/// Whether a job whose newest spinlock is `newest` may ask for `new`: `new` comes after `newest` by one or more
+/// links. No spinlock comes after itself (AUTOSAR SWS OS 4.x, SWS_Os_00661). The call takes no memory.
 pub fn order_ok(config: &Config, newest: SpinlockId, new: SpinlockId) -> bool
     ensures value { result ≡ comes_after (links_of config.now.spinlocks) (length (links_of config.now.spinlocks)) newest new }
     ensures reached { (n : ℕ) → comes_after (links_of config.now.spinlocks) n newest new ≡ true → result ≡ true }

@@ -1,4 +1,4 @@
-//! What is not as it is to be.
+//! What is not as expected.
 
 ghost use Rattle.std.specs.Prelude.{◌≡◌};
 ghost use Rattle.osplay.specs.declared.differences.Difference.TheVariants.{Lacks, NoMemory};
@@ -6,18 +6,18 @@ ghost use Rattle.osplay.specs.declared.differences.Difference.TheVariants.{Lacks
 use ostrace::WriteFailed;
 use std::alloc::AllocError;
 
-/// Why a table or a text is not as it is to be. A test hands it on, or looks which it is and lets it go.
+/// Why a table or a text is not as expected. A test passes it on, or checks which it is and drops it.
 #[derive(Debug, Drop)]
 pub enum Difference {
     /// Memory ran out.
     NoMemory,
-    /// Something that is to be there is not: this.
+    /// This expected part is missing.
     Lacks(&'static str),
-    /// A table has more repeated parts than any is to have.
+    /// A table has more repeated parts than a table may have.
     TooManyParts,
-    /// The first line that is another one, with what is to stand there.
+    /// The first line that differs, with the line that is expected there.
     Line(String),
-    /// The tables have so many jobs.
+    /// The table has this number of jobs, which is not the expected one.
     Jobs(usize),
 }
 

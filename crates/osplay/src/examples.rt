@@ -2,7 +2,7 @@
 
 /// Two cores that call each other.
 pub const MUTUAL: &str = r#"
-// Two cores that ask each other, with room for one envelope in each mailbox.
+// Two cores that call each other, with room for one envelope in each mailbox.
 config {"cap":1,"cores":[{"id":0,"start":[1],"tasks":[{"name":"A","prio":1,"auto":["M"],"activations":2,"script":"ActivateTask B;TerminateTask"}]},{"id":1,"tasks":[{"name":"B","prio":1,"auto":["M"],"activations":2,"script":"ActivateTask A;TerminateTask"}]}]}
 stimuli {"0":"op op","1":"op op"}
 run
@@ -77,7 +77,7 @@ as run up to pre B
 hook Shutdown E_OK
 ended
 
-// Who asked, and for what, is as the log says. A core may end with or without a shutdown of all.
+// The log says which core asked for a shutdown of all, and with which status. A core may also end without one.
 first
 on .. pass2 0 1
 
@@ -97,7 +97,7 @@ replay 1
 core 1 .. pre B
 hook Shutdown E_OS_VALUE
 
-// After the halt there is no stimulus and no further halt; after the last stimulus there is none either.
+// After the halt there is no stimulus and no further halt. Once the core has drained, there is no halt either.
 log
 halt 0 E_OK
 @
@@ -116,7 +116,7 @@ replay 1
 core 1 .. pre B
 fault 15 ItemRefused 7
 
-// Nor is there one behind the last barrier,
+// There is no halt behind the last barrier.
 log
 drained
 passend
@@ -126,7 +126,7 @@ replay 1
 core 1 .. pre B
 fault 15 ItemRefused 8
 
-// and before the second one.
+// There is no halt before the second barrier.
 first
 on
 entered
@@ -141,7 +141,7 @@ core 1
 hook Startup
 fault 15 ItemRefused 5
 
-// A core that has asked awaits the halt, whoever asked first.
+// A core that has asked for a shutdown of all awaits the halt, whichever core asked first.
 first
 began 1 E_OK .. pass2 0 1
 
@@ -168,7 +168,7 @@ fault 15 ItemRefused 7
 // Core 1 is down when core 0 asks for a shutdown of all.
 config {"cores":[{"id":0,"start":[1],"tasks":[{"name":"A","prio":1,"auto":["M"],"script":"work;ShutdownAllCores 0"}]},{"id":1,"tasks":[{"name":"B","prio":1,"auto":["M"],"script":"ShutdownOS 5"}]}]}
 stimuli {"0":"op op","1":"op op"}
-// It has called ShutdownHook already.
+// Core 1 has called ShutdownHook already.
 run
 as run up to pre B
 hook Shutdown E_OS_NOFUNC
@@ -240,12 +240,12 @@ halt 0 E_OS_LIMIT
 hook Shutdown E_OS_LIMIT
 ended
 
-// Core 1 has asked itself: its look does not halt it, its own turn does, and brings what core 0 asked for.
+// Core 1 has asked, too: its look does not halt it, but its own turn does, with the status that core 0 asked for.
 turns "0o 1l 1o 0o 0l 1l 0o 1o 0l 1l 0o 1o 0o 1l 1o 0o 1o 0l 1l 0l 1l"
 run
 as before
 
-// The same up to that look.
+// The same turns, up to the look of core 1.
 turns "0o 1l 1o 0o 0l 1l 0o 1o 0l 1l 0o 1o 0o 1l"
 run -> 3
 core 0
@@ -269,7 +269,7 @@ ended
 
 /// Calls of spinlocks that are refused.
 pub const REFUSED: &str = r#"
-// Task A of core 0 asks for S2 twice and for S1, which comes before it, and ends itself. Core 1 tries for S2 and
+// Task A of core 0 asks for S2 twice, asks for S1, which comes before S2, and tries to end. Core 1 tries for S2 and
 // asks for it.
 config {"spinlocks":[{"name":"S1","next":"S2"},{"name":"S2"}],"cores":[{"id":0,"start":[1],"tasks":[{"name":"A","prio":1,"auto":["M"],"script":"GetSpinlock S2;GetSpinlock S2;GetSpinlock S1;TerminateTask"}]},{"id":1,"tasks":[{"name":"B","prio":1,"auto":["M"],"script":"work;work;TryToGetSpinlock S2 v0;GetSpinlock S2"}]}]}
 stimuli {"0":"op op op op","1":"op op op op"}
@@ -353,7 +353,7 @@ start 1 E_OK .. pre A
 halt 1 E_OK
 hook Shutdown E_OK
 
-// It is granted once, and not after the halt.
+// The spinlock is granted once, and not after the halt.
 log
 granted S2
 granted S2
@@ -374,7 +374,7 @@ start 1 E_OK .. pre A
 halt 1 E_OK
 fault 15 ItemRefused 8
 
-// A core that did not ask takes none.
+// A core that did not ask for a spinlock takes none.
 first
 on .. pass2 0 1
 stim op
@@ -387,7 +387,7 @@ replay 1
 core 1 .. pre B
 fault 15 ItemRefused 7
 
-// A core that tries takes either answer of that spinlock; there is no halt before it.
+// A core that tries for a spinlock takes either answer, and no halt before the answer.
 log
 stim op
 stim op

@@ -9,7 +9,7 @@ const STIMULI: &str = "stim.json";
 
 const LOG: &str = "log.txt";
 
-/// A run by the turns of a schedule, if there is one.
+/// A run by the turns of a schedule, or by the default schedule. It prints the reports.
 pub fn run_of(schedule: Option<&'static str>) -> Job<'static> {
     Job::Run {
         config: CONFIG,
@@ -19,7 +19,7 @@ pub fn run_of(schedule: Option<&'static str>) -> Job<'static> {
     }
 }
 
-/// Such a run, of which one core's log is printed.
+/// A run by the turns of a schedule, or by the default schedule. It prints the log of core `number`.
 pub fn items_of(schedule: Option<&'static str>, number: u8) -> Job<'static> {
     Job::Run {
         config: CONFIG,
@@ -29,10 +29,12 @@ pub fn items_of(schedule: Option<&'static str>, number: u8) -> Job<'static> {
     }
 }
 
+/// The job `check`.
 pub fn check_of() -> Job<'static> {
     Job::Check { config: CONFIG }
 }
 
+/// The job `cut` of core `number`.
 pub fn cut_of(number: u8) -> Job<'static> {
     Job::Cut {
         config: CONFIG,
@@ -40,10 +42,12 @@ pub fn cut_of(number: u8) -> Job<'static> {
     }
 }
 
+/// The job `groups`.
 pub fn groups_of() -> Job<'static> {
     Job::Groups { config: CONFIG }
 }
 
+/// The job `group` of core `number`.
 pub fn group_of(number: u8) -> Job<'static> {
     Job::Group {
         config: CONFIG,
@@ -51,6 +55,7 @@ pub fn group_of(number: u8) -> Job<'static> {
     }
 }
 
+/// The job `replay` of core `number`, by its log.
 pub fn replay_of(number: u8) -> Job<'static> {
     Job::Replay {
         config: CONFIG,
@@ -59,6 +64,8 @@ pub fn replay_of(number: u8) -> Job<'static> {
     }
 }
 
+/// A run by threads. It prints the reports, or the log of core `items` if that is given. A core gives up once `turns`
+/// turns in a row changed nothing.
 pub fn threads_of(mail: MailKind, turns: u64, items: Option<u8>) -> Job<'static> {
     match items {
         Some(number) => threads_printing(mail, turns, Print::Log(CoreId { number })),
@@ -66,6 +73,7 @@ pub fn threads_of(mail: MailKind, turns: u64, items: Option<u8>) -> Job<'static>
     }
 }
 
+// A run by threads. It prints what `print` names. A core gives up once `turns` turns in a row changed nothing.
 fn threads_printing(mail: MailKind, turns: u64, print: Print) -> Job<'static> {
     Job::Threads {
         config: CONFIG,
@@ -76,7 +84,7 @@ fn threads_printing(mail: MailKind, turns: u64, print: Print) -> Job<'static> {
     }
 }
 
-/// The job of these words, by the turns of a schedule if there is one.
+/// The job of these words, by the turns of a schedule if there is one. None if the words name no job.
 pub fn job_of(words: &str, schedule: Option<&'static str>) -> Option<Job<'static>> {
     let (word, rest) = words.split_once(' ').unwrap_or((words, ""));
     match (word, rest) {
@@ -92,8 +100,8 @@ pub fn job_of(words: &str, schedule: Option<&'static str>) -> Option<Job<'static
     }
 }
 
-// A number of turns, and then maybe a core whose log is printed, or `order`. Before them `locked` is the kind of mail, which
-// else is rings.
+// A run by threads. The words are a number of turns, and then a core whose log is printed, or `order`, or nothing.
+// With `locked` in front, the mail goes through locked mailboxes, and else through rings. None for other words.
 fn threads_job(words: &str) -> Option<Job<'static>> {
     let (mail, words) = match words.strip_prefix("locked ") {
         Some(rest) => (MailKind::Locked, rest),

@@ -1,6 +1,6 @@
-//! Worked examples for tests: tables of texts in, and the texts that the program's jobs print.
+//! Worked examples for tests: tables of the texts that jobs read, and of the texts that they print.
 //!
-//! What is not as it is to be is answered as a `Difference`, and a test only hands it on.
+//! If something is not as expected, the answer is a `Difference`, and a test only passes it on.
 #![tactic(auto)]
 
 mod differences;

@@ -1,4 +1,4 @@
-//! What jobs and reports print, each in one text, and the first line in which one is not what it is to be.
+//! What jobs and reports print, each in one text, and the first line of a text that is not as expected.
 
 ghost use Rattle.std.specs.Prelude.{◌≡◌, IfOk, OnOk, string_bytes};
 ghost use Rattle.ostrace_text.specs.Trace.{text_of};
@@ -14,7 +14,7 @@ use std::alloc::{AllocError, Global};
 use std::sync::Wait;
 use std::thread::Threads;
 
-/// Does the job over these texts, and compares its result: what it prints, what it reports, and its status.
+/// Does the job over these texts. Checks that it prints `out`, reports `err`, and exits with `status`.
 pub fn compare(
     rt: &(impl Threads + Wait + Sync),
     alloc: Global,
@@ -27,7 +27,7 @@ pub fn compare(
     same(alloc, "", text.as_str(), due.as_str())
 }
 
-/// The result of a job over these texts.
+/// The result of a job over these texts, as `result_text` writes it.
 pub fn result_of(
     rt: &(impl Threads + Wait + Sync),
     alloc: Global,
@@ -38,7 +38,7 @@ pub fn result_of(
     result_over(rt, alloc, job, files.as_slice())
 }
 
-/// The result of a job over these files.
+/// The result of a job over these files, as `result_text` writes it.
 pub fn result_over(
     rt: &(impl Threads + Wait + Sync),
     alloc: Global,
@@ -51,7 +51,7 @@ pub fn result_over(
     result_from(alloc, out.bytes, err.bytes, status)
 }
 
-/// The result of a job that printed and reported these bytes.
+/// The result of a job that printed `out`, reported `err`, and exits with `status`, as `result_text` writes it.
 pub fn result_from(
     alloc: Global,
     out: Vec<u8>,
@@ -87,7 +87,7 @@ fn text_from(bytes: Vec<u8>) -> Result<String, Difference>
     }
 }
 
-/// The text is as it is to be; else the first line that is not is the difference.
+/// Checks that the text is `due`. If it is not, the difference names `job` and the first line that is not as expected.
 pub fn same(alloc: Global, job: &str, text: &str, due: &str) -> Result<(), Difference>
     ensures { OnOk result (text.now ≡ due.now) }
 {
@@ -97,7 +97,7 @@ pub fn same(alloc: Global, job: &str, text: &str, due: &str) -> Result<(), Diffe
     Err(Difference::Line(line_apart(alloc, job, text, due)?))
 }
 
-// The first line of the text that is not as it is to be.
+// Says which line of the text is the first that is not as expected, or that the last lines are missing.
 fn line_apart(alloc: Global, job: &str, text: &str, due: &str) -> Result<String, AllocError> {
     let mut lines = due.split('\n');
     for (at, line) in text.split('\n').enumerate() {

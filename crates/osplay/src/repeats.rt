@@ -1,13 +1,13 @@
-//! Long texts in short: a part that stands many times is written once.
+//! Short forms of long texts: a part that occurs many times is written once.
 
 use crate::differences::Difference;
 use std::alloc::{AllocError, Global};
 
-/// More parts than a table has.
+/// A table has fewer parts than this.
 const PARTS: u32 = 1_000;
 
-/// The text with its parts written out. `<N*T>` is N times T. `<N#T>` is N times T, too, where each `#` is the number of that
-/// time, from 1; so is `<N%T>`, where each `%` is that number with two digits. A T may have such parts of its own.
+/// The text with its parts written out. `<N*T>` is N copies of T. `<N#T>` is N copies of T, too, but each `#` becomes
+/// the number of the copy, from 1. In `<N%T>`, each `%` becomes that number with two digits. A T may itself have parts.
 pub fn written_out(alloc: Global, text: &str) -> Result<String, Difference> {
     let mut text = String::from_str(alloc, text)?;
     for _ in 0..PARTS {
@@ -19,7 +19,7 @@ pub fn written_out(alloc: Global, text: &str) -> Result<String, Difference> {
     Err(Difference::TooManyParts)
 }
 
-// The text with one part written out which has none of its own; `None` where the text has no part.
+// The text with one part written out. That part has no parts of its own. `None` if the text has no part.
 fn with_one_out(alloc: Global, text: &str) -> Result<Option<String>, Difference> {
     let Some((before, rest)) = text.rsplit_once('<') else {
         return Ok(None);
@@ -31,6 +31,7 @@ fn with_one_out(alloc: Global, text: &str) -> Result<Option<String>, Difference>
     Ok(Some(longer))
 }
 
+// Adds the copies that the part stands for. The part is written `N*T`, `N#T` or `N%T`.
 fn push_part(alloc: Global, longer: &mut String, part: &str) -> Result<(), Difference> {
     let rest = part.trim_start_matches(|c: char| c.is_ascii_digit());
     let count = part.strip_suffix(rest).ok_or("a count")?;

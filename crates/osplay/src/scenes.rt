@@ -20,7 +20,7 @@ pub struct Scene<'a> {
     // The lines of the last log, and what each log begins with.
     logged: String,
     first: String,
-    // What comes into the place of an `@`, one after the other, with `|` between.
+    // The values that replace an `@`, one after the other, with `|` between them.
     values: &'a str,
     before: Block,
     ran: String,
@@ -48,7 +48,7 @@ impl Block {
         })
     }
 
-    /// Adds a line, or those that it stands for.
+    /// Adds a line, or the lines that it stands for. From the line of a fault on, lines are reported, not printed.
     pub fn push(&mut self, line: &str) -> Result<(), Difference> {
         let text = if self.reported.is_empty() && !line.starts_with("fault ") {
             &mut self.printed
@@ -74,7 +74,7 @@ impl<'a> Scene<'a> {
         }
     }
 
-    /// Reads a line between blocks. One that heads a block is answered.
+    /// Reads a line between blocks. If the line heads a block, returns the line.
     pub fn read(&mut self, alloc: Global, line: &'a str) -> Result<Option<&'a str>, AllocError> {
         let (word, rest) = line.split_once(' ').unwrap_or((line, ""));
         match word {
@@ -92,6 +92,7 @@ impl<'a> Scene<'a> {
         Ok(None)
     }
 
+    // Takes this configuration, or, without a text, what the job before printed. Forgets the other files and `first`.
     fn configure(&mut self, alloc: Global, text: &str) -> Result<(), AllocError> {
         let text = if text.is_empty() {
             self.before.printed.as_str()
@@ -106,7 +107,8 @@ impl<'a> Scene<'a> {
         Ok(())
     }
 
-    /// Takes a block that has ended. Answers how many jobs were done.
+    /// Takes a block that has ended. Under `first` it is what each log begins with, under `log` the lines of a log.
+    /// Under the name of a job it is the expected result: does that job. Answers how many jobs were done.
     pub fn close(
         &mut self,
         rt: &(impl Threads + Wait + Sync),
@@ -118,7 +120,7 @@ impl<'a> Scene<'a> {
             "first" => self.first = block.printed,
             "log" | "log open" => {
                 self.logged = self.in_full(alloc, head, block)?.printed;
-                self.log = Some(self.begun(alloc, head)?);
+                self.log = Some(self.log_under(alloc, head)?);
             }
             job => {
                 self.before = self.in_full(alloc, job, block)?;
@@ -128,8 +130,9 @@ impl<'a> Scene<'a> {
         Ok(0)
     }
 
-    // The log of the last lines of one. An open one has no last line end.
-    fn begun(&self, alloc: Global, head: &str) -> Result<String, Difference> {
+    // The text of the log under this head: what each log begins with, and then the lines of the last log. Under
+    // `log open` it has no last line end.
+    fn log_under(&self, alloc: Global, head: &str) -> Result<String, Difference> {
         let lines = self.logged.as_str();
         let lines = if head == "log open" {
             lines.strip_suffix('\n').ok_or("a line")?
@@ -141,7 +144,8 @@ impl<'a> Scene<'a> {
         Ok(log)
     }
 
-    // Does the job of a head for each value, and compares its result with the block before. Answers how often.
+    // Does the job of a head for each value, and compares each result with the block. Keeps what `run` or `items`
+    // prints. Answers how many jobs were done.
     fn play_job(
         &mut self,
         rt: &(impl Threads + Wait + Sync),
@@ -163,7 +167,7 @@ impl<'a> Scene<'a> {
         Ok(jobs)
     }
 
-    // The block of a job with the lines of earlier blocks that it repeats.
+    // The block under a head, with the lines of earlier blocks that it repeats written out.
     fn in_full(&self, alloc: Global, head: &str, block: Block) -> Result<Block, Difference> {
         if block.reported.is_empty() {
             if let Some(words) = block.printed.strip_suffix('\n') {
@@ -182,7 +186,7 @@ impl<'a> Scene<'a> {
         })
     }
 
-    // Adds the lines of an earlier block that this line of a job's block stands for, or itself.
+    // Adds the lines of an earlier block that this line of a block stands for, or the line itself.
     fn push_repeated(
         &self,
         alloc: Global,
@@ -198,7 +202,7 @@ impl<'a> Scene<'a> {
         Ok(printed.push_str("\n")?)
     }
 
-    // The block that these words mean under a head, if they mean one.
+    // The earlier block that `as before` or `as run` means under a head. None for other words.
     fn earlier(&self, alloc: Global, head: &str, words: &str) -> Result<Option<Block>, AllocError> {
         match words {
             "as before" if head.starts_with("log") => Ok(Some(Block {
@@ -211,7 +215,7 @@ impl<'a> Scene<'a> {
         }
     }
 
-    // What the last run printed: of a replay's core its block.
+    // What the last run printed, or for a replay only the block of the replayed core.
     fn as_run(&self, alloc: Global, head: &str) -> Result<Block, AllocError> {
         let ran = self.ran.as_str();
         let printed = match head.strip_prefix("replay ") {
@@ -224,7 +228,7 @@ impl<'a> Scene<'a> {
         })
     }
 
-    // The values, if there is a place for them.
+    // The values, if the configuration or the log has an `@` for them; else one empty value.
     fn values(&self) -> &'a str {
         if has_place(&self.config) || has_place(&self.log) {
             self.values
@@ -233,7 +237,7 @@ impl<'a> Scene<'a> {
         }
     }
 
-    // Does the job once. Compares its result with the block.
+    // Does the job of a head once, with this value, and compares its result with its block.
     fn play_once(
         &self,
         rt: &(impl Threads + Wait + Sync),
@@ -250,14 +254,15 @@ impl<'a> Scene<'a> {
         same(alloc, job.as_str(), result.as_str(), due.as_str())
     }
 
-    // What the job is to result in. It exits with this status, unless it reports a fault.
+    // The expected result of the job. The job exits with this status, or with 1 if it reports a fault.
     fn due(&self, alloc: Global, status: u8) -> Result<String, AllocError> {
         let (printed, reported) = (self.before.printed.as_str(), self.before.reported.as_str());
         let status = if reported.is_empty() { status } else { 1 };
         result_text(alloc, printed, reported, status)
     }
 
-    // The files of the job, with the value in their places.
+    // The files of the job: the configuration, and then for a replay the log, for other jobs the stimuli and the turns.
+    // If the configuration or the log has an `@`, the value replaces the first one.
     fn files(
         &self,
         alloc: Global,
@@ -276,7 +281,7 @@ impl<'a> Scene<'a> {
     }
 }
 
-// The block of a core in what a run printed. The run's last line belongs to none.
+// The block of a core in what a run printed. The run's last line belongs to no block.
 fn block_of(alloc: Global, ran: &str, core: &str) -> Result<String, AllocError> {
     let heading = format!(in alloc; "core {core}")?;
     let mut block = String::new(alloc);
@@ -293,6 +298,7 @@ fn block_of(alloc: Global, ran: &str, core: &str) -> Result<String, AllocError> 
     Ok(block)
 }
 
+// Whether there is a text, and it has an `@`.
 fn has_place(text: &Option<String>) -> bool {
     match text {
         Some(text) => text.contains('@'),
@@ -300,7 +306,7 @@ fn has_place(text: &Option<String>) -> bool {
     }
 }
 
-// The file of a text, with the value in its place, if it has one.
+// The file of a text. If the text has an `@`, the value replaces the first one.
 fn filled(
     alloc: Global,
     text: &Option<String>,

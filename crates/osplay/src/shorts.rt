@@ -1,12 +1,12 @@
-//! Blocks in short: a line in place of some that stand together in each run, and a line in place of those of an earlier block.
+//! Short forms of blocks: one line stands for lines that each run has together, or for lines of an earlier block.
 
 ghost use Rattle.std.specs.Prelude.{◌≡◌, ◌-◌, IfSome, length, take, drop};
 
 use crate::differences::Difference;
 use std::alloc::Global;
 
-/// Adds what this line of a block stands for, with line ends. `A .. B` is A and B and the lines that a run has between them; any
-/// other line is itself.
+/// Adds what this line of a block stands for, with line ends. `A .. B` stands for A, B and the lines that a run has
+/// between them; any other line stands for itself.
 pub fn push_in_full(text: &mut String, line: &str) -> Result<(), Difference> {
     let Some((first, last)) = line.split_once(" .. ") else {
         return push_line(text, line);
@@ -16,9 +16,9 @@ pub fn push_in_full(text: &mut String, line: &str) -> Result<(), Difference> {
     push_line(text, last)
 }
 
-// Between the first item of a core's start and Pass2 there is the mode M, and between those of its end PassEnd. Behind a core's
-// number, or the last core that it starts, comes StartupHook, and then maybe a task that is activated before it runs. A job that
-// ends or waits with no line before that has PostTaskHook.
+// Adds the lines that a run has between `first` and `last`. Behind `on` or `began` they are `entered`, `pass1 M` and
+// `readied`; behind `entered`, the last two of these. Behind `drained`, `passend`; behind `pre T`, `post T`. Behind
+// `core` or `start`, `hook Startup`, and also `act T` if `last` is `pre T`. No other line has lines behind it.
 fn push_between(text: &mut String, first: &str, last: &str) -> Result<(), Difference> {
     match first.split(' ').next().unwrap_or("") {
         "on" | "began" => push_line(text, "entered\npass1 M\nreadied"),
@@ -41,12 +41,14 @@ fn push_between(text: &mut String, first: &str, last: &str) -> Result<(), Differ
     }
 }
 
+// Adds the line and a line end.
 fn push_line(text: &mut String, line: &str) -> Result<(), Difference> {
     text.push_str(line)?;
     Ok(text.push_str("\n")?)
 }
 
-/// Of a line `as WHICH up to L` or `as WHICH from L` the words `as WHICH`, and which lines of that block it stands for.
+/// Splits a line `as WHICH up to L` or `as WHICH from L` into `as WHICH` and the part of that block. None if the line
+/// has neither form.
 pub fn repeat_of(line: &str) -> Option<(&str, Part<'_>)> {
     if !line.starts_with("as ") {
         return None;
@@ -61,13 +63,13 @@ pub fn repeat_of(line: &str) -> Option<(&str, Part<'_>)> {
 /// Some lines of a block.
 #[derive(Clone, Copy)]
 pub enum Part<'a> {
-    /// Those up to the last one that is this line, and it.
+    /// The lines up to the last one that equals this line, and that one.
     UpTo(&'a str),
-    /// The first one that is this line, and those behind it.
+    /// The first line that equals this line, and those behind it.
     From(&'a str),
 }
 
-/// Adds this part of a block. Its line is not the block's first.
+/// Adds this part of a block. The line that the part names must not be the first line of the block.
 pub fn push_part(
     alloc: Global,
     text: &mut String,
@@ -90,7 +92,7 @@ pub fn push_part(
     }
 }
 
-// What stands in the block before the last place of these lines.
+// What comes in the block before the last occurrence of these lines.
 fn before_last<'a>(block: &'a str, lines: &str) -> Option<&'a str>
     ensures { IfSome result (λ before. before.now ≡ take (length before.now) block.now) }
 {
@@ -98,7 +100,7 @@ fn before_last<'a>(block: &'a str, lines: &str) -> Option<&'a str>
     Some(before)
 }
 
-// What stands in the block behind the first place of these lines.
+// What comes in the block behind the first occurrence of these lines.
 fn behind_first<'a>(block: &'a str, lines: &str) -> Option<&'a str>
     ensures { IfSome result (λ behind. behind.now ≡ drop (length block.now - length behind.now) block.now) }
 {

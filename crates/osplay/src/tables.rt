@@ -8,7 +8,7 @@ use std::mem;
 use std::sync::Wait;
 use std::thread::Threads;
 
-/// Plays the table, once its parts are written out. It has so many jobs.
+/// Plays the table, once its repeated parts are written out, and checks its number of jobs.
 pub fn play_table(
     rt: &(impl Threads + Wait + Sync),
     alloc: Global,
@@ -23,28 +23,29 @@ pub fn play_table(
     Ok(())
 }
 
-// Plays a table, and counts the jobs that were done. Between blocks a line that is empty or begins with `//` says nothing,
-// and the others are:
-// `config C`: the configuration of the jobs behind it, without stimuli, turns and log. Without a C it is what the job before
-// printed.
+// Plays a table, and counts the jobs that were done. Between blocks a line that is empty or begins with `//` says
+// nothing, and the others are:
+// `config C`: the configuration of the jobs behind it, without stimuli, turns and log. Without a C it is what the job
+// before printed.
 // `stimuli S`: their stimuli, without turns and log.
 // `turns T`: their schedule, in place of the default one.
 // `with V|V|..`: a job whose configuration or log has an `@` is done once for each V in its place.
 // Any other line heads a block, which goes up to an empty line:
-// `log`: the log of the jobs behind it. `log open`: one without its last line end. `first`: what each log begins with, up to
-// the next configuration.
-// `run`, `items CORE`, `replay CORE`, `check`, `cut CORE`, `groups`, `group CORE`, `threads TURNS`, `threads TURNS CORE` or
+// `log`: the log of the jobs behind it. `log open`: one without its last line end. `first`: what each log begins with,
+// up to the next configuration.
+// `run`, `items CORE`, `replay CORE`, `check`, `cut CORE`, `groups`, `group CORE`, `threads TURNS`, `threads TURNS
+// CORE` or
 // `threads TURNS order`: a job, and what it prints. `threads locked ..`: with locked mailboxes in place of rings.
-// A last line `fault ..` is reported, and the job exits with 1; else it exits with 0, or with the N of `JOB -> N`. What `items` prints
-// is the log of the jobs behind it.
+// A last line `fault ..` is reported, and the job exits with 1; else it exits with 0, or with the N of `JOB -> N`. What
+// `items` prints is the log of the jobs behind it.
 // A part `<3*T>` stands for three T (`repeats.rt`), and in a block one line may stand for several:
-// `A .. B`: A, the lines that each run has behind it, and B. Behind `core 0`, or `start 1 E_OK`, that is `hook Startup`, and with
-// `pre T` as B also `act T`; behind `on`, or `began 1 E_OK`, `entered`, `pass1 M` and `readied`; behind `entered` the latter two; and
-// behind `drained` it is `passend`; behind `pre T`, with `end T` or `wait T M` as B, it is `post T`.
+// `A .. B`: A, the lines that each run has between them, and B. Behind `core 0` or `start 1 E_OK`, `hook Startup`; if B
+// is `pre T`, also `act T`. Behind `on` or `began 1 E_OK`, `entered`, `pass1 M` and `readied`; behind `entered`, the
+// last two. Behind `drained`, `passend`. Behind `pre T`, if B is `end T` or `wait T M`, `post T`.
 // `as before`, alone: the block of the job before, or under `log` the log before, without what is `first`.
-// `as run`, alone: what the last `run` printed, and under a `replay` the block of its core in that.
-// `as before up to L`, `as run up to L`: the lines of that up to the last one that is L, and it.
-// `as before from L`, `as run from L`: the first one that is L, and the lines behind it.
+// `as run`, alone: what the last `run` printed, or under a `replay` only the block of the replayed core.
+// `as before up to L`, `as run up to L`: the lines of that block up to the last line L, with this line.
+// `as before from L`, `as run from L`: the lines of that block from the first line L on.
 fn play(
     rt: &(impl Threads + Wait + Sync),
     alloc: Global,
@@ -76,7 +77,7 @@ pub fn given(table: &str) -> Result<(&str, &str), Difference> {
     Ok((config, stimuli))
 }
 
-// What stands behind this word in the first line that begins with it.
+// What follows this word in the first line that begins with it.
 fn first_of<'a>(table: &'a str, word: &str) -> Option<&'a str> {
     table.lines().find_map(|line| line.strip_prefix(word))
 }

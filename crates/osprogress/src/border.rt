@@ -1,4 +1,5 @@
-//! What crosses a core's border: the open call, the outbox, how many letters went each way, and the spinlocks that the core got.
+//! What crosses a core's border: the open call, the outbox, how many letters went each way, and the spinlocks that the
+//! core got.
 
 ghost use Rattle.std.specs.Prelude.{◌≡◌, ◌<◌, ◌^◌, ℕ, length, slice_index, IsTrue};
 ghost use Rattle.osbase.specs.{declared.limits.TheConstants.CORES, Spins.spins_after};
@@ -21,7 +22,7 @@ pub struct Border<const OUT: usize> {
     pub outbox: ArrayVec<Sent, OUT>,
 }
 
-/// The call that is still open once an operation of this runner is done, or its job has ended.
+/// The open call, once an operation of this runner is done or its job has ended: none if this runner made the call.
 pub fn closed_by(runner: Runner, open_call: Option<OpenCall>) -> Option<OpenCall>
     ensures { result ≡ call_closed_by runner open_call }
 {
@@ -31,8 +32,9 @@ pub fn closed_by(runner: Runner, open_call: Option<OpenCall>) -> Option<OpenCall
     }
 }
 
-/// What an item changes of the spinlocks and of the open call: a spinlock that was taken is got by the job whose call is open; one
-/// that was given back is got no longer; once all cores are halted, the release of each is owed, and no call is open.
+/// Applies an item to the spinlocks and the open call. The job whose call is open gets a spinlock that was taken; a
+/// spinlock that was given back is no longer the core's. If the item is a halt, each release is owed, and no call is
+/// open any more.
 #[inline(always)]
 pub fn settle_by(spins: &mut Grants, open_call: &mut Option<OpenCall>, item: &Item)
     requires { IsTrue (is_grant_known item.now) }
@@ -55,7 +57,7 @@ pub fn settle_by(spins: &mut Grants, open_call: &mut Option<OpenCall>, item: &It
     }
 }
 
-/// A post takes the front of the outbox.
+/// If the item is a post, takes the front of the outbox.
 pub fn post_by<const OUT: usize>(outbox: &mut ArrayVec<Sent, OUT>, item: &Item)
     requires { IsTrue (is_posted item.now) → 0 < length outbox.old.items }
     ensures { outbox.new.items ≡ outbox_after (Took item.now) outbox.old.items }
@@ -65,7 +67,7 @@ pub fn post_by<const OUT: usize>(outbox: &mut ArrayVec<Sent, OUT>, item: &Item)
     }
 }
 
-/// A letter that was received counts for its sender.
+/// If the item is a letter that was received, counts it for its sender.
 pub fn receive_by(received: &mut [u64; CORES], item: &Item)
     requires sender { IsTrue (is_sender_known item.now) }
     requires count { (k : ℕ) → slice_index received.old k < 2 ^ 63 }
@@ -81,7 +83,7 @@ pub fn receive_by(received: &mut [u64; CORES], item: &Item)
     }
 }
 
-/// One letter more for this core.
+/// Counts one letter more for this core.
 pub fn count_one(counts: &mut [u64; CORES], core: CoreId)
     requires core { core.number < CORES }
     requires count { slice_index counts.old core.number < 2 ^ 63 }

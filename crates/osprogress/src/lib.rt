@@ -1,4 +1,4 @@
-//! Where a core stands, and what crosses its border: the parts of its state that speak of none of its objects.
+//! A core's progress, and what crosses its border: the parts of its state that refer to none of its objects.
 //!
 //! No function here takes memory.
 #![tactic(auto)]

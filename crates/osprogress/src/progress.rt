@@ -1,4 +1,4 @@
-//! Where a core stands: the part of its state that speaks of no task and of no other core.
+//! A core's progress: the part of its state that refers to no object of any core.
 
 ghost use Rattle.std.specs.Prelude.{◌≡◌, ◌<◌, ◌^◌, vec_capacity, vec_len};
 ghost use Rattle.osbase.specs.History.{Took, Printed, Noted, WentDown, agreement_after, began_after, course_after, phase_after, phase_past_first_gate, started_after};
@@ -6,7 +6,7 @@ ghost use Rattle.osprogress.specs.Progress.{Joins, first_progress, moved_by, pro
 
 use osbase::{Agreement, CORES, CoreSet, Course, Item, Mark, Phase};
 
-/// Where a core stands.
+/// The progress of a core.
 #[derive(Clone, Copy, PartialEq, Eq)]
 pub struct Progress {
     pub phase: Phase,
@@ -19,12 +19,12 @@ pub struct Progress {
     pub started: CoreSet,
     /// How many items were taken.
     pub items: u64,
-    /// How many entries the history has, so also the next place in it.
+    /// How many entries the history has. This is also the place of the next entry.
     pub entries: u64,
 }
 
 impl Progress {
-    /// Where a core stands that took no item: the master in boot, another core off.
+    /// The progress of a core that took no item: the master is in boot, another core is off.
     pub fn new(is_master: bool) -> Self
         ensures { result ≡ first_progress is_master }
     {
@@ -41,14 +41,14 @@ impl Progress {
         }
     }
 
-    /// Goes on by an item.
+    /// Takes an item, and counts it as an item and as an entry of the history.
     pub fn take_item(&mut self, item: &Item)
         requires began { self.old.began < 2 ^ 63 }
         requires items { self.old.items < 2 ^ 63 }
         requires entries { self.old.entries < 2 ^ 63 }
         ensures { self.new ≡ progress_after (Took item.now) self.old }
     {
-        // What a live core takes most leaves it where it stands.
+        // The items that a live core takes most often change only the counts.
         match item {
             Item::Stim(_) => {}
             Item::Posted(_) => {}
@@ -63,7 +63,7 @@ impl Progress {
         self.entries += 1;
     }
 
-    // Where the core stands once it took this item; nothing is counted.
+    // Makes the changes of an item to all but the counts of items and entries.
     fn move_by(&mut self, item: &Item)
         requires { self.old.began < 2 ^ 63 }
         ensures { self.new ≡ moved_by item.now self.old }
@@ -75,7 +75,7 @@ impl Progress {
         self.started = started_by(self.started, item);
     }
 
-    /// The core goes down (AUTOSAR SWS OS 4.x, ShutdownOS).
+    /// The core shuts down (AUTOSAR SWS OS 4.x, ShutdownOS).
     pub fn go_down(&mut self)
         requires { self.old.entries < 2 ^ 63 }
         ensures { self.new ≡ progress_after (Noted WentDown) self.old }
@@ -84,7 +84,7 @@ impl Progress {
         self.entries += 1;
     }
 
-    /// Goes on by a mark that is printed.
+    /// Records a mark that is printed: counts it as an entry, and puts it behind the other marks.
     pub fn record(&mut self, mark: Mark, marks: &mut Vec<Mark>)
         requires entries { self.old.entries < 2 ^ 63 }
         requires place { vec_len marks.old < vec_capacity marks.old }
@@ -96,7 +96,7 @@ impl Progress {
     }
 }
 
-// Every other item leaves the core in its phase.
+// The phase after an item; an item that is not listed here leaves it as it is.
 fn phase_by(phase: Phase, item: &Item) -> Phase
     ensures { result ≡ phase_after (Took item.now) phase }
 {
@@ -113,7 +113,7 @@ fn phase_by(phase: Phase, item: &Item) -> Phase
     }
 }
 
-// A conflict of modes ends the core.
+// The phase past the first gate. If the application modes conflict, it is the last phase.
 fn past_first_gate(agreement: Agreement) -> Phase
     ensures { result ≡ phase_past_first_gate agreement }
 {
@@ -124,6 +124,7 @@ fn past_first_gate(agreement: Agreement) -> Phase
     }
 }
 
+// The course after an item: a shutdown of all cores halts a core that is not down.
 fn course_by(course: Course, item: &Item) -> Course
     ensures { result ≡ course_after (Took item.now) course }
 {
@@ -133,6 +134,7 @@ fn course_by(course: Course, item: &Item) -> Course
     course
 }
 
+// How many entries of the start list are done after an item.
 fn began_by(began: usize, item: &Item) -> usize
     requires { began < 2 ^ 63 }
     ensures { result ≡ began_after (Took item.now) began }
@@ -143,6 +145,7 @@ fn began_by(began: usize, item: &Item) -> usize
     began
 }
 
+// The result of the first gate after an item, once the gate is passed.
 fn agreement_by(agreement: Option<Agreement>, item: &Item) -> Option<Agreement>
     ensures { result ≡ agreement_after (Took item.now) agreement }
 {
@@ -152,6 +155,7 @@ fn agreement_by(agreement: Option<Agreement>, item: &Item) -> Option<Agreement>
     agreement
 }
 
+// The started cores after an item, once the second gate is passed; none before.
 fn started_by(started: CoreSet, item: &Item) -> CoreSet
     ensures { result ≡ started_after (Took item.now) started }
 {

@@ -1,4 +1,4 @@
--- What a job put into a place or taken out of one leaves of the links.
+-- What the links are after a job was put into a place, or taken out of one.
 use Rattle.std.proofs.Common.{◌≡◌, ◌⊎◌, inl, inr, ℕ, ◌≤◌, ◌<◌, true, Option, Some, None, is_some, refl, ap, sym, subst, ◌∙◌, arith}
 use Rattle.std.proofs.lemmas.Bool.{false≢true, cases_eq, cases_order}
 use Rattle.osqueue.specs.declared.ready.Ready.{Ready}
@@ -61,7 +61,7 @@ module _ (old new : ℕ → Option Ready) (n : ℕ) (x : Ready) (puts : Puts old
   ]
 
 module _ (old new : ℕ → Option Ready) (next front end marks : ℕ → ℕ) (n : ℕ) (x : Ready) (puts : Puts old new n x) (links : IsLinked old next front end marks) where
-  -- an old job's place in the new pool as first or last of a queue that the new one is not first or last of
+  -- an old job stays first or last of a queue, if the new job is not first or last of it
   first-kept : (p : ℕ) → marks p ≡ 1 → (x.priority ≡ p → stamp_of (old (front p)) ≤ x.job.stamp) → IsFirst new p (front p)
   first-kept p m low =
       let f = links.first p m in
@@ -88,7 +88,7 @@ module _ (old new : ℕ → Option Ready) (next front end marks : ℕ → ℕ) (
         ];
       }
 
-  -- and its link, where the new job does not come between
+  -- the link of an old job stays, if the new job does not come between it and the next one
   next-kept : (i : ℕ) → is_some (old i) ≡ true → (i ≡ end (priority_of (old i)) → ⊥) → (x.priority ≡ priority_of (old i) → stamp_of (old i) < x.job.stamp → stamp_of (old (next i)) ≤ x.job.stamp) → IsNext new i (next i)
   next-kept i used out low =
       let f = links.follows i used out in
@@ -104,7 +104,7 @@ module _ (old new : ℕ → Option Ready) (next front end marks : ℕ → ℕ) (
         ];
       }
 
-  -- no job had its priority and stamp
+  -- no job had the priority and the stamp of the new job
   apart-kept : ((i : ℕ) → is_some (old i) ≡ true → priority_of (old i) ≡ x.priority → stamp_of (old i) ≡ x.job.stamp → ⊥) → (i k : ℕ) → is_some (new i) ≡ true → is_some (new k) ≡ true → priority_of (new i) ≡ priority_of (new k) → stamp_of (new i) ≡ stamp_of (new k) → i ≡ k
   apart-kept alone i k used there p s = elim (split old new n x puts i used) [
     | inl fresh ↦ elim (split old new n x puts k there) [
@@ -117,7 +117,7 @@ module _ (old new : ℕ → Option Ready) (next front end marks : ℕ → ℕ) (
     ]
   ]
 
-  -- behind all of its priority, if there are some
+  -- the new job comes behind all of its priority, if there are some
   pub put-behind : (next' end' : ℕ → ℕ) → marks x.priority ≡ 1 → Sets next next' (end x.priority) n → Sets end end' x.priority n → ((i : ℕ) → is_some (old i) ≡ true → priority_of (old i) ≡ x.priority → stamp_of (old i) < x.job.stamp) → IsLinked new next' front end' marks
   put-behind next' end' m linked ended newest = record {
     marked = λ i used. elim (split old new n x puts i used) [
@@ -181,7 +181,7 @@ module _ (old new : ℕ → Option Ready) (next front end marks : ℕ → ℕ) (
             | inr apart ↦ out (e ∙ sym (ap end' o.priority ∙ ended.kept (priority_of (old i)) apart))
           ]
 
-  -- before all of its priority, if there are some
+  -- the new job comes before all of its priority, if there are some
   pub put-before : (next' front' : ℕ → ℕ) → marks x.priority ≡ 1 → Sets next next' n (front x.priority) → Sets front front' x.priority n → ((i : ℕ) → is_some (old i) ≡ true → priority_of (old i) ≡ x.priority → x.job.stamp < stamp_of (old i)) → IsLinked new next' front' end marks
   put-before next' front' m linked begun oldest = record {
     marked = λ i used. elim (split old new n x puts i used) [
@@ -226,7 +226,7 @@ module _ (old new : ℕ → Option Ready) (next front end marks : ℕ → ℕ) (
             ];
           }
 
-  -- alone of its priority
+  -- the new job is the only one of its priority
   pub put-alone : (front' end' marks' : ℕ → ℕ) → marks x.priority ≡ 0 → Sets front front' x.priority n → Sets end end' x.priority n → Sets marks marks' x.priority 1 → IsLinked new next front' end' marks'
   put-alone front' end' marks' m begun ended marked' = record {
     marked = λ i used. elim (split old new n x puts i used) [

@@ -9,7 +9,7 @@ use Rattle.osqueue.specs.Ordered.{is_same, ordered, placed, precedes, without}
 
 -- ---- the order
 
--- by numbers: of two priorities and two stamps
+-- the order of two jobs, from their priorities and their stamps as numbers
 abbrev goes : ℕ → ℕ → ℕ → ℕ → Bool
 goes a s b t = cond (nat_eq a b) (nat_lt s t) (nat_lt b a)
 

@@ -244,7 +244,7 @@ module _ (priorities room word : ℕ) (fronts ends next : List ℕ) (pool : List
     pub low-m : x.priority < priorities
     low-m = omega (arith, is.low m used-m, priority-m)
 
-    -- its place is known by its priority and stamp
+    -- the job's place is known by its priority and stamp
     pub is-place : (i : ℕ) → is_some (at pool i) ≡ true → priority_of (at pool i) ≡ x.priority → stamp_of (at pool i) ≡ x.job.stamp → at pool i ≡ Some x
     is-place i used p s =
         ap (at pool) (is.linked.apart i m used used-m (p ∙ sym priority-m) (s ∙ sym stamp-m)) ∙ there

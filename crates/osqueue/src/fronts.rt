@@ -1,4 +1,4 @@
-//! The word of the priorities that have entries, and where the queue of each begins. Whoever reads one of these counts it.
+//! The word of the priorities that have entries, and where the queue of each begins. Each read of these is counted.
 
 ghost use Rattle.std.specs.Prelude.{◌≡◌, ◌+◌, ◌<◌, ◌^◌, replicate, slice_index, slice_set};
 
@@ -12,7 +12,7 @@ pub(crate) struct Fronts<const P: usize> {
 }
 
 impl<const P: usize> Fronts<P> {
-    /// No priority has any.
+    /// No priority has entries.
     pub(crate) fn new() -> Self
         ensures { result ≡ record { word = 0; places = replicate P 0 } }
     {
@@ -22,7 +22,7 @@ impl<const P: usize> Fronts<P> {
         }
     }
 
-    /// Reads the word.
+    /// Reads the word of the priorities that have entries.
     pub(crate) fn word(&self, reads: &mut Reads) -> u32
         requires { reads.old < 2 ^ 63 }
         ensures word { result ≡ self.now.word }
@@ -43,12 +43,14 @@ impl<const P: usize> Fronts<P> {
         self.places[usize::from(priority)]
     }
 
+    /// Sets the word of the priorities that have entries.
     pub(crate) fn put_word(&mut self, word: u32)
         ensures { self.new ≡ record self.old { word = word } }
     {
         self.word = word;
     }
 
+    /// Sets where the queue of a priority begins.
     pub(crate) fn put_place(&mut self, priority: u8, place: usize)
         requires { priority < P }
         ensures { self.new ≡ record self.old { places = slice_set self.old.places priority place } }

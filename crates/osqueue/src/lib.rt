@@ -1,5 +1,5 @@
-//! The ready jobs of a core, each with a priority: one word that tells which priorities have any, for each of these a
-//! queue in a pool of linked places, and a count of how often the word or the front of a queue is read.
+//! The ready jobs of a core, each with a priority. A word tells which priorities have jobs. Each such priority has a
+//! queue in a pool of linked places. A count tells how often the word or the front of a queue was read.
 //!
 //! Nothing here takes memory.
 #![tactic(auto)]

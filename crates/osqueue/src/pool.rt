@@ -10,7 +10,7 @@ use std::marker::Model;
 #[derive(Drop)]
 pub(crate) struct Pool<const J: usize> {
     places: [Option<Ready>; J],
-    // The places that have none: the first ones here, so many.
+    // The places that have no job: the first `free` of `blanks`.
     blanks: [usize; J],
     free: usize,
 }
@@ -27,7 +27,7 @@ impl<const J: usize> Model for Pool<J> {
 }
 
 impl<const J: usize> Pool<J> {
-    /// No place has any.
+    /// No place has a job.
     pub(crate) fn new() -> Self
         ensures { result ≡ replicate J None }
     {
@@ -42,7 +42,7 @@ impl<const J: usize> Pool<J> {
         }
     }
 
-    /// Whether there is a place that has none.
+    /// Whether there is a place without a job.
     pub(crate) fn has_room(&self) -> bool
         ensures { IsTrue result ↔ (length (ordered self.now) < J) }
     {
@@ -50,7 +50,7 @@ impl<const J: usize> Pool<J> {
         self.free > 0
     }
 
-    /// Puts a job into a place that has none.
+    /// Puts a job into a place that has none, and returns that place.
     pub(crate) fn put(&mut self, ready: Ready) -> usize
         requires { length (ordered self.old) < J }
         ensures { IsPut self.old ready result self.new }

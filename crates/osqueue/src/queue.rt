@@ -12,15 +12,15 @@ use crate::ready::Ready;
 use crate::words::{greatest, is_marked, marked, unmarked};
 use std::marker::Model;
 
-/// The ready jobs of a core, with room for `J` of them, of priorities below `P`: a list, the job to run first. A greater
-/// priority comes before a smaller one, and of equal priorities the smaller stamp.
+/// The ready jobs of a core, with room for `J` jobs of priorities below `P`: a list, the first to run in front.
+/// A greater priority comes before a smaller one. If two are equal, the job with the smaller stamp comes first.
 #[derive(Drop)]
 pub struct ReadyQueue<const P: usize, const J: usize> {
     fronts: Fronts<P>,
     // Where the queue of each priority ends, if it has entries.
     ends: [usize; P],
     pool: Pool<J>,
-    // Of a place that has a job and ends no queue, the place behind it in its queue.
+    // If a place has a job and does not end its queue: the place behind it in the queue.
     next: [usize; J],
 }
 
@@ -50,14 +50,14 @@ impl<const P: usize, const J: usize> ReadyQueue<P, J> {
         }
     }
 
-    /// Whether one job more has a place.
+    /// Whether there is a place for one more job.
     pub fn has_room(&self) -> bool
         ensures { IsTrue result ↔ (length self.now < J) }
     {
         self.pool.has_room()
     }
 
-    /// A job comes behind all others of its priority.
+    /// Puts a job behind all others of its priority.
     pub fn push_back(&mut self, ready: Ready, reads: &mut Reads)
         requires place { HasPlaceFor P J ready self.old }
         requires newest { All (ComesBefore ready) self.old }
@@ -79,7 +79,7 @@ impl<const P: usize, const J: usize> ReadyQueue<P, J> {
         }
     }
 
-    /// A job comes before all others of its priority.
+    /// Puts a job before all others of its priority.
     pub fn push_front(&mut self, ready: Ready, reads: &mut Reads)
         requires place { HasPlaceFor P J ready self.old }
         requires oldest { All (ComesAfter ready) self.old }
@@ -101,8 +101,8 @@ impl<const P: usize, const J: usize> ReadyQueue<P, J> {
         }
     }
 
-    /// The job of greatest priority, and of these the one of smallest stamp, which stays where it is. It reads what `pop_best`
-    /// reads.
+    /// The job of greatest priority and, among those, of smallest stamp; none if no job is ready. The job stays where
+    /// it is. The call reads what `pop_best` reads.
     pub fn best(&self, reads: &mut Reads) -> Option<Ready>
         requires count { reads.old < 2 ^ 48 }
         ensures best { IfSome result (λ ready. IsBest ready self.now) }
@@ -118,8 +118,8 @@ impl<const P: usize, const J: usize> ReadyQueue<P, J> {
         Some(self.pool.get(place))
     }
 
-    /// Takes out the job of greatest priority, and of these the one of smallest stamp. It reads the word of priorities and the
-    /// front of one queue; the word alone, if no job is ready.
+    /// Takes out the job of greatest priority and, among those, of smallest stamp. The call reads the word of
+    /// priorities and, if a job is ready, the front of one queue.
     pub fn pop_best(&mut self, reads: &mut Reads) -> Option<Ready>
         requires count { reads.old < 2 ^ 48 }
         ensures best { IfSome result (λ ready. IsBest ready self.old) }
@@ -149,7 +149,7 @@ impl<const P: usize, const J: usize> ReadyQueue<P, J> {
         }
     }
 
-    /// Takes out a job that is ready.
+    /// Takes this job, which is ready, out of the queue.
     pub fn remove(&mut self, ready: Ready, reads: &mut Reads)
         requires there { Contains self.old ready }
         requires count { reads.old < 2 ^ 48 }
@@ -184,7 +184,8 @@ impl<const P: usize, const J: usize> ReadyQueue<P, J> {
     }
 }
 
-// The place before that of a job which is not the first of its queue: the queue is followed from its front.
+// The place before that of the job `ready` in its queue. The search follows the queue from the place `first`, which has
+// an older job.
 fn place_before<const J: usize>(
     pool: &Pool<J>,
     next: &[usize; J],

@@ -4,7 +4,7 @@ ghost use Rattle.std.specs.Prelude.{◌≡◌, ◌+◌, ◌<◌, ◌^◌};
 
 use std::marker::Model;
 
-/// How many reads of the word of priorities or of the front of a queue there were. Only such a read adds to it.
+/// The number of reads of the word of priorities and of the fronts of queues. Only such a read adds to the number.
 #[derive(Drop)]
 pub struct Reads {
     count: u64,
@@ -19,20 +19,21 @@ impl Model for Reads {
 }
 
 impl Reads {
-    /// None yet.
+    /// No read yet.
     pub fn new() -> Self
         ensures { result ≡ 0 }
     {
         Reads { count: 0 }
     }
 
-    /// How many there were.
+    /// The number of reads.
     pub fn count(&self) -> u64
         ensures { result ≡ self.now }
     {
         self.count
     }
 
+    /// Counts one more read.
     pub(crate) fn tick(&mut self)
         requires { self.old < 2 ^ 63 }
         ensures { self.new ≡ self.old + 1 }

@@ -1,4 +1,4 @@
--- A seat that took the first of some items.
+-- The run of a core that took the first of some items.
 use Rattle.std.proofs.Common.{◌≡◌, ◌<◌, ◌+◌, ℕ, Bool, true, false, Some, List, [], length, take, sym, ap, ◌∙◌}
 use Rattle.std.specs.List.{slice_get}
 use Rattle.std.proofs.{lemmas.List.take_more, lemmas.Option.get_or_from_slice_get, lemmas.Option.slice_get_within}
@@ -15,7 +15,7 @@ pub record HasTaken (plan : Plan) (id : CoreId) (items : List Item) (core_run : 
   pub id_is : core_run.id ≡ id
   pub items_are : core_run.items.items ≡ items
 
--- What it reports is the report of those items.
+-- The report of such a core run is the report of those items.
 pub reports : (plan : Plan) (id : CoreId) (items : List Item) (core_run : CoreRun) (report : Report) → HasTaken plan id items core_run → report ≡ report_of core_run → IsReplayed plan id items report
 reports plan id items core_run report taken is = record {
   alone = rw (taken.id_is, taken.items_are) at taken.seated.alone;
@@ -34,13 +34,13 @@ cut-short plan id items n within core_run roomy taken keeps report is = record {
   }) is;
 }
 
--- The seat before the next item.
+-- The core run before the next item.
 module _ (plan : Plan) (id : CoreId) (items : List Item) (n : ℕ) (core_run : CoreRun) (taken : HasTaken plan id (take n items) core_run) (item : Item) (next : slice_get items n ≡ Some item)
     (may : Bool) (reads : Reads (λ v h. takes outbox_size v h item) core_run.kernel may) where
   is-read : takes outbox_size (view_of plan core_run.id) (history_by plan core_run.id core_run.items.items) item ≡ may
   is-read = sym (reads (view_of plan core_run.id) (history_by plan core_run.id core_run.items.items) taken.seated.tracks.stands)
 
-  -- it may not take it
+  -- the core run may not take the next item
   pub refuses : may ≡ false → (number : ℕ) → number ≡ n → (report : Report) → report ≡ report_of core_run → IsRefused plan id items (number + 1) report
   refuses may_not number counted report is = record {
     before = n;
@@ -51,7 +51,7 @@ module _ (plan : Plan) (id : CoreId) (items : List Item) (n : ℕ) (core_run : C
     refused = rw (← taken.id_is, ← taken.items_are) (is-read ∙ may_not);
   }
 
-  -- it takes it
+  -- the core run takes the next item
   pub takes-on : may ≡ true → (roomy new : CoreRun) → Keeps core_run roomy → Took roomy new item → HasTaken plan id (take (n + 1) items) new
   takes-on may_take roomy new keeps took =
       let on : Took core_run new item = took-kept core_run roomy new item keeps took in

@@ -27,11 +27,12 @@ pub record IsCutShort (plan : Plan) (id : CoreId) (items : List Item) (report : 
   pub within : before < length items
   pub replayed : IsReplayed plan id (take before items) report
 
+-- The fault says why the core did not take all items, and has the report of those that it took.
 abbrev pub IsReplayFault : Plan → CoreId → List Item → ReplayFault → Type 0
 IsReplayFault plan id items (NoMemory report) = IsCutShort plan id items report
 IsReplayFault plan id items (ItemRefused number report) = IsRefused plan id items number report
 
--- Either the core took all items, or this is why it did not. [own]
+-- The core took all items, or the fault says why it did not. [own]
 pub record IsReplayResult (plan : Plan) (id : CoreId) (items : List Item) (result : Result Report ReplayFault) : Type 0 where
   pub ok : IfOk result (IsReplayed plan id items)
   pub fault : IfErr result (IsReplayFault plan id items)

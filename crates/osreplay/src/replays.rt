@@ -10,19 +10,19 @@ use osrun::CoreRun;
 use std::alloc::Global;
 use thiserror::Error;
 
-/// Why items were not replayed to their end.
+/// Why not all items were replayed.
 #[derive(Debug, Drop, Error)]
 pub enum ReplayFault {
-    /// An allocation failed. The report is that of the items before.
+    /// An allocation failed. The report is that of the items before that point.
     #[error("out of memory")]
     NoMemory { report: Report },
-    /// The item of this number, counted from 1, may not be taken. The report is that of the items before.
+    /// The item of this number, counted from 1, may not be taken. The report is that of the items before it.
     #[error("item {number} may not be taken")]
     ItemRefused { number: u64, report: Report },
 }
 
-/// Plays a configured core alone: it takes the items in their order, up to the first that it may not take. The
-/// report is that of the items taken.
+/// Plays a configured core alone: it takes the items in their order, up to the first that it may not take, or for which
+/// an allocation fails. The report, also that of a fault, is that of the items taken.
 pub fn replay(
     alloc: Global,
     config: &Config,

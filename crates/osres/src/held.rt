@@ -7,7 +7,7 @@ use arrayvec::ArrayVec;
 use osbase::{HeldResource, RESOURCES};
 use std::marker::Model;
 
-/// The resources that a job holds, the newest first, with the greatest of their ceilings at hand.
+/// The resources that a job holds, the newest first, and the greatest of their ceilings.
 #[derive(Drop)]
 pub struct Held {
     resources: ArrayVec<HeldResource, RESOURCES>,
@@ -45,7 +45,7 @@ impl Held {
         self.resources.insert(0, resource);
     }
 
-    /// Gives the newest resource back, if there is one.
+    /// If there is a resource, gives the newest one back and returns it.
     pub fn lower(&mut self) -> Option<HeldResource>
         ensures newest { result ≡ slice_get self.old 0 }
         ensures rest { self.new ≡ drop 1 self.old }
@@ -77,7 +77,7 @@ impl Held {
         self.resources.is_empty()
     }
 
-    /// The greatest of the ceilings, 0 of none (OSEK/VDX OS 2.2.3, section 8.5).
+    /// The greatest of the ceilings, or 0 if there is none (OSEK/VDX OS 2.2.3, section 8.5).
     pub fn ceiling(&self) -> u8
         ensures { result ≡ greatest_ceiling self.now }
     {
@@ -100,6 +100,7 @@ pub fn greater(a: u8, b: u8) -> u8
     if a < b { b } else { a }
 }
 
+// The greatest ceiling of these resources; 0 if there is none.
 fn greatest_ceiling(resources: &[HeldResource]) -> u8
     ensures { result ≡ greatest_ceiling resources.now }
 {

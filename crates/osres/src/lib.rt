@@ -4,7 +4,7 @@
 #![tactic(auto)]
 
 pub mod held;
-pub mod locks;
+pub mod suspensions;
 
 pub use held::{Held, greater};
-pub use locks::Locks;
+pub use suspensions::Suspensions;

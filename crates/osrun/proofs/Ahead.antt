@@ -1,4 +1,4 @@
--- What a separate core prints by what it took, its configuration alone prints by what it takes alone.
+-- What a separate core prints at its items is a prefix of what it prints in its configuration alone.
 use mathlib.Core.List.{IsPrefix}
 use Rattle.std.proofs.Common.{◌≡◌, ◌^◌, ◌+◌, ◌<◌, ◌≤◌, ◌||◌, suc, Bool, true, false, not, Some, None, List, [], ◌∷◌, ◌++◌, length, map, refl, sym, ap, ◌∙◌, arith, append-nil}
 use Rattle.std.specs.List.{list_all}
@@ -41,7 +41,7 @@ first v h i is taken =
       rest = record { each = turn.1; no_mail = grind (arith, taken.no_mail); calm = grind (arith, taken.calm) };
     }
 
--- The last items, of a core that drained, print nothing and take no stimulus.
+-- The last items of a core that has drained print nothing and take no stimulus.
 abbrev Ends : View → History → List Item → Type 0
 Ends v h items = (marks_of (history_from v h items) ≡ marks_of h) × (stimuli_in items ≡ []) × (course_of (history_from v h items) ≡ course_of h)
 
@@ -60,9 +60,9 @@ grows v ms h [] begins = begins
 grows v ms h (i ∷ is) begins =
     grows v ms (after v h i) is (kept_after (λ (k : History). IsPrefix ms (marks_of k)) (λ m k p. begins-through _ _ _ p (begins-longer (marks_of k) (m ∷ []))) (λ n k p. p) v h i begins)
 
--- ---- a core by what it took, and alone by what is ahead of it
+-- ---- a core with the items that it took, and alone with the items ahead of it
 
--- What it took prints a prefix of what is ahead alone, and all of it once the core has drained.
+-- The items that the core took print a prefix of what the items ahead print alone, and all of it once it has drained.
 abbrev pub Goes : View → View → History → History → List Item → List Item → Type 0
 Goes v self h k items ahead =
     IsPrefix (marks_of (history_from v h items)) (marks_of (history_from self k ahead))
@@ -77,7 +77,7 @@ live_items st = map Item.Stim st ++ Item.Drained ∷ []
 abbrev pub gates_of : ModeId → CoreSet → List Item
 gates_of m own = Item.Entered ∷ Item.Pass1 (Agreement.Mode m) ∷ Item.Readied ∷ Item.Pass2 own ∷ []
 
--- Of these stimuli those that it takes alone.
+-- The stimuli among these that the core takes alone.
 abbrev pub ahead_of : View → ModeId → CoreSet → List Stimulus → List Stimulus
 ahead_of self m own st = until_down self (history_from self [] (gates_of m own)) st
 
@@ -88,18 +88,18 @@ module _ (v : View) (ids : List CoreId) (allowed : NamesAllow v nobody) where
   abbrev self : View
   self = alone_view v ids
 
-  -- What the core names is the same where it stands alone.
+  -- What the core names is the same when it is alone.
   allow_alone : NamesAllow self nobody
   allow_alone = record {
     scripts = λ r n op e. let one = allowed.scripts r n op e in record { objects = one.objects; locks = one.locks; shared = one.shared; halt = one.halt };
     actions = allowed.actions;
   }
 
-  -- The stimuli among these items begin the listed ones, and are all of them once the core has drained, unless it is down.
+  -- The stimuli among these items are a prefix of the listed ones, and all of them if the core has drained and runs.
   abbrev FitsIn : History → List Item → List Stimulus → Type 0
   FitsIn h items st = IsPrefix (stimuli_in items) st × (has_drained items ≡ true → is_going (course_of (history_from v h items)) ≡ true → stimuli_in items ≡ st)
 
-  -- If it is down, or nothing is listed, nothing is ahead but that it drains.
+  -- If the core is down or halted, or no stimulus is listed, no stimulus is ahead.
   until-none : (k : History) (st : List Stimulus) → (is_going (course_of k) ≡ true → st ≡ []) → until_down self k st ≡ []
   until-none k [] none = refl
   until-none k (x ∷ xs) none =
@@ -113,7 +113,7 @@ module _ (v : View) (ids : List CoreId) (allowed : NamesAllow v nobody) where
     marks_here : (h k : History) → h ≡ here k → marks_of h ≡ marks_of k
     marks_here h k same = ap marks_of same ∙ marks-same s v.around.is_master k
 
-    -- A live core that is started, in the world and alone, without an open call or a letter.
+    -- The core is live, calm, and started, both in the world and alone.
     record Steady (h k : History) : Type 0 where
       pub same : h ≡ here k
       pub live : phase_at v h ≡ Phase.Live
@@ -130,7 +130,7 @@ module _ (v : View) (ids : List CoreId) (allowed : NamesAllow v nobody) where
       alone = rw (started-after self k (Item.Stim stimulus)) steady.alone;
     }
 
-    -- From live on: each stimulus is the same, and the end.
+    -- From the phase Live on, each stimulus does the same in the world and alone, and so does draining.
     live : (items : List Item) (h k : History) (st : List Stimulus) → Steady h k → Taken v h items → FitsIn h items st → Goes v self h k items (live_items (until_down self k st))
     live [] h k st steady taken fits = stops v self h k (live_items (until_down self k st)) (marks_here h k steady.same)
     live (Item.Stim stimulus ∷ is) h k st steady taken fits =
@@ -165,7 +165,7 @@ module _ (v : View) (ids : List CoreId) (allowed : NamesAllow v nobody) where
   passed_first m = Printed Mark.StartupHook ∷ Took (Item.Pass1 (Agreement.Mode m)) ∷ entered
 
   module _ (m : ModeId) (mode : v.own.mode ≡ Named m) (start : v.own.start ≡ []) (own : CoreSet) (own_in : has_core own v.core ≡ true) where
-    -- What is ahead of these stimuli.
+    -- The stimuli among these that are ahead of the core.
     abbrev ahead : List Stimulus → List Stimulus
     ahead st = ahead_of self m own st
 
@@ -187,7 +187,7 @@ module _ (v : View) (ids : List CoreId) (allowed : NamesAllow v nobody) where
       alone = rw (started-after self readied (Item.Pass2 own)) own_in;
     }
 
-    -- From each gate on, and from the beginning of each part before the gates.
+    -- The same holds from each gate on, and from the start of each part before the gates.
     second : (items : List Item) (h : History) (st : List Stimulus) → h ≡ here own readied → Taken v h items → FitsIn h items st → Goes v self h readied items (Item.Pass2 own ∷ live_items (ahead st))
     second [] h st same taken fits = stops v self h readied (Item.Pass2 own ∷ live_items (ahead st)) (marks_here own h readied same)
     second (Item.Pass2 s ∷ is) h st same taken fits =
@@ -224,7 +224,7 @@ module _ (v : View) (ids : List CoreId) (allowed : NamesAllow v nobody) where
     off other (Item.On ∷ is) st taken fits = boot is (Took Item.On ∷ []) st (ap base_of (sym other)) (first v [] Item.On is taken).rest fits
     off other (i ∷ is) st taken fits = let f = first v [] i is taken in absurd (grind (arith, other, f.may, f.plain))
 
-    -- A core by what it took from the beginning.
+    -- The same holds for all items that a core took, from the first on.
     pub goes-alone : (items : List Item) (st : List Stimulus) → Taken v [] items → FitsIn [] items st → Goes v self [] [] items (boot_items self m own st)
     goes-alone items st taken fits = by v.around.is_master refl
       where
@@ -255,7 +255,7 @@ module _ (v : View) (ids : List CoreId) (allowed : NamesAllow v nobody) where
         (λ going. takes-next k (Item.Stim x) (live_items later) (omega arith) (grind (arith, at, parts.0, calm-goes self k calm going)) rest)
         (λ down. drain-alone k at calm (omega arith))
 
-    -- Up to the second gate only an empty start list and the own mode matter.
+    -- Up to the second gate only an empty start list and the core's own mode matter.
     pub solo-alone : are_started_cores self own ≡ true → (st : List Stimulus) → list_all (knows_stimulus v.own) st ≡ true → 4 + suc (length st) ≤ 2 ^ 48 → solo self (boot_items self m own st) ≡ Some (history_from self [] (boot_items self m own st))
     solo-alone known st all few =
         takes-next [] Item.Entered (after_entering st) (omega arith) (grind (arith, start))

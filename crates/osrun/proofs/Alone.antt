@@ -44,14 +44,14 @@ module _ (plan : Plan) (stimuli : List CoreStimuli) (lists : List (CoreId × Lis
   abbrev v : View
   v = view_of plan id
 
-  -- What it sees alone.
+  -- What the core sees alone.
   abbrev self : View
   self = alone_view v (id ∷ [])
 
   same : core.id ≡ id
   same = found-id plan id core found
 
-  -- It sees what it sees in the whole configuration, but that it is the master and no other core is there.
+  -- The core sees what it sees in the whole configuration, except that it is the master and that no other core exists.
   view_alone : view_of (cut_of plan id) id ≡ self
   view_alone = rw (found, same, same_core-refl id) refl
 
@@ -70,16 +70,16 @@ module _ (plan : Plan) (stimuli : List CoreStimuli) (lists : List (CoreId × Lis
   own_self : is_this_core v v.own.id ≡ true
   own_self = rw (found, same) (same_core-refl id)
 
-  -- Where it stands in both configurations, it is the same core.
+  -- Both configurations have the same core at its number.
   core_alone : (c : CoreId) → is_this_core v c ≡ true → core_of plan c ≡ core_of (cut_of plan id) c
   core_alone c mine = rw (same_core-true c id mine) (grind (arith, found, same, same_core-refl id))
 
-  -- Its mode is that of its own configuration.
+  -- The core names a mode in its configuration.
   module _ (m : ModeId) (mode : core.mode ≡ Named m) where
     in_mode : v.own.mode ≡ Named m
     in_mode = rw found mode
 
-    -- Only replies come from every other core, by that core's items alone; so it takes no mail.
+    -- Each other core's items show that only replies come from it. So this core takes no mail.
     replies : (from : CoreId) → same_core from id ≡ false → list_all is_reply (received from (history_by plan id (items_of lists id))) ≡ true
     replies from other =
         let spared = other-allow plan id from (rw same at parts.unnamed) parts.unhalted other in
@@ -135,7 +135,7 @@ module _ (plan : Plan) (stimuli : List CoreStimuli) (lists : List (CoreId × Lis
       alone = (λ j. solo (view_alone j) (items_alone j)) ∙ takes_alone ∙ sym (λ j. Some (history_from (view_alone j) [] (items_alone j)));
     }
 
--- Where the items of all cores fit, each separate core is alone.
+-- Where the items of all cores fit, each separate core prints what it prints alone (`IsAlone`).
 pub fits-alone : (plan : Plan) (stimuli : List CoreStimuli) (lists : List (CoreId × List Item)) → Fits plan stimuli lists → IsTrue (is_within_limits plan) → AreKnown plan stimuli → ArePrintedAlone plan stimuli lists
 fits-alone plan stimuli lists fits limits known id separate = by (core_of plan id) refl separate
   where

@@ -1,4 +1,4 @@
--- The calls to whose answers the items of cores lead.
+-- The calls whose answers result in the items of cores.
 use Rattle.std.proofs.Common.{◌≡◌, false, List, [], ◌∷◌, ◌++◌, refl, sym, arith, append_assoc, append-nil}
 use Rattle.osbase.specs.{declared.references.CoreId.CoreId, declared.items.Item.Item, History.History, History.same_core}
 use Rattle.osplan.specs.View.{View}
@@ -16,7 +16,7 @@ joined-joined a b c = simp append_assoc
 pub calls_of-joined : (id : CoreId) (a b : Calls) → calls_of id (joined a b) ≡ joined (calls_of id a) (calls_of id b)
 calls_of-joined id a b = simp calls_by-append
 
--- One more of a core's.
+-- One more item of a core, and its call.
 pub answered-push : (v : View) (h : History) (is : List Item) (es : Calls) (request : Request) (answer : Reply) (i : Item) → AreAnswered v h is es → ResultsIn v (history_from v h is) request answer i → AreAnswered v h (is ++ i ∷ []) (joined es (call_of_turn v.core request answer))
 answered-push v h [] es request answer i none leads = (request, answer, leads, no_calls, rw none (sym (joined-none (call_of_turn v.core request answer))), refl)
 answered-push v h (j ∷ is) es request answer i all leads = (

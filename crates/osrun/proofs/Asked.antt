@@ -1,4 +1,4 @@
--- What a core's turn asks is its own.
+-- What a core's turn requests is its own.
 use Rattle.std.proofs.Common.{◌≡◌, Bool, true, false, cond, Option, Some, None, refl, sym, subst, ◌∙◌}
 use Rattle.std.proofs.lemmas.Bool.{false≢true}
 use Rattle.osbase.specs.{declared.items.Stimulus.Stimulus, declared.turns.Choice.Choice, Phases.is_going}
@@ -10,8 +10,9 @@ use Rattle.osboard.specs.declared.calls.BoardCall.TheVariants.{AskHalt, Drain, E
 use Rattle.osrun.specs.{declared.requests.Request.Request, declared.requests.Request.TheVariants.OfBoard, declared.requests.Request.TheVariants.StartUnknown, declared.requests.Request.TheVariants.TakeStimulus, Requests.request_by, Requests.look_request}
 use Rattle.osrun.proofs.Going.{asks-open, drains-down}
 
--- What a core's turn requests is its own: it starts a configured core, names its own mode, takes its next stimulus, and drains where
--- none is left or it is down or halted; for a shutdown of all cores it asks where that call is open.
+-- What a core's turn requests is its own: it starts a configured core, names its own mode, or takes its next stimulus.
+-- It drains only if none is left or it is down or halted. It asks for a shutdown of all cores only if that call is
+-- open.
 abbrev pub IsOwnRequest : View → KernelState → Option Stimulus → Option Request → Type 0
 IsOwnRequest v s next (Some (OfBoard (Start k))) = is_configured v k ≡ true
 IsOwnRequest v s next (Some (OfBoard (Enter mode))) = mode ≡ v.own.mode
@@ -42,7 +43,7 @@ asks-own v s next choice = by (want_in s) (watch_in s) next choice refl
         looks watch = tt
     by want watch next choice wants = tt
 
--- Without such an open call it asks for no shutdown of all cores.
+-- The request is for a shutdown of all cores. A core makes it only if it has an open call for one.
 abbrev pub is_halt_request : Request → Bool
 is_halt_request (OfBoard (AskHalt status)) = true
 is_halt_request request = false

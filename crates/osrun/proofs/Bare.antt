@@ -1,4 +1,4 @@
--- A core without its objects takes, of what the core took, what such a core takes.
+-- Without its objects, a core can still take those of its items that a core without objects takes.
 use Rattle.std.proofs.Common.{◌≡◌, ◌^◌, nat_lt, ◌≤◌, true, false, Some, List, [], ◌∷◌, filter, refl, sym, ap, ◌∙◌, arith}
 use Rattle.std.proofs.lemmas.Bool.{and_from, and_parts, lt-ltb, ltb-true, true≢false}
 use Rattle.osbase.specs.declared.items.Item.{Item}
@@ -20,7 +20,7 @@ use Rattle.osrun.proofs.Going.{dispatch-course, going-before}
 use Rattle.osrun.proofs.Longer.{solo-takes}
 use Rattle.osrun.proofs.Readings.{began-after, count-after, phase-after, started-after}
 
--- Of these items, what a core without objects takes.
+-- The items among these that a core without objects takes.
 abbrev pub bare_items : List Item → List Item
 bare_items items = filter is_bare_item items
 
@@ -31,12 +31,12 @@ module _ (v : View) where
   abbrev pub bare : View
   bare = record v { own = bare_core v.own }
 
-  -- It has no script, alarm or table.
+  -- Without its objects, the core asks nobody for anything, since it has no script, alarm or schedule table.
   allowed : NamesAllow bare nobody
   allowed = names-allow bare nobody anybody refl (λ object e. absurd (true≢false e))
       (λ r n op e. locks-none nobody op (script-fails bare.own asks_shared refl r n op e)) (script-none bare.own asks_shared refl) (script-none bare.own halts_all refl)
 
-  -- By what it took of the same items it stands where the core stands, and nothing is open.
+  -- After its part of the same items, the core without objects is in the same phase as the core, and no call is open.
   pub record Alike (h k : History) : Type 0 where
     pub phase : phase_at v h ≡ phase_at bare k
     pub began : began_count h ≡ began_count k
@@ -48,12 +48,12 @@ module _ (v : View) where
   pub alike-first : Alike [] []
   alike-first = record { phase = refl; began = refl; started = refl; count = omega arith; calm = record { closed = refl; empty = refl; none_got = refl }; going = λ g. g }
 
-  -- It goes down only where the core does.
+  -- The core without objects goes down only if the core does.
   going-on : (h k : History) (i : Item) → is_bare_item i ≡ true → (is_going (course_of h) ≡ true → is_going (course_of k) ≡ true) → is_going (course_of (after v h i)) ≡ true → is_going (course_of (after bare k i)) ≡ true
   going-on h k i b before going =
       grind (arith, dispatch-course v (does (effect i) v (Took i ∷ h)), dispatch-course bare (does (effect i) bare (Took i ∷ k)), before (going-before v h i going))
 
-  -- An item that it takes too, and one that it does not take.
+  -- Both stay alike at an item that both take, and at one that only the core takes.
   pub keeps : (h k : History) (i : Item) → is_bare_item i ≡ true → Alike h k → Alike (after v h i) (after bare k i)
   keeps h k i b a = record {
     phase = phase-after v h i ∙ ap (phase_on i) a.phase ∙ sym (phase-after bare k i);
@@ -76,7 +76,7 @@ module _ (v : View) where
 
   -- ---- what it may take
 
-  -- A core that did not ask for the shutdown of all cores looks for it.
+  -- If the core may halt and did not ask for the shutdown itself, the core without objects may look for it.
   pub looks-halt : (h k : History) → Alike h k → has_asked_halt (state_of v h) ≡ false → may_halt (state_of v h) ≡ true → may_look_halt (state_of bare k) ≡ true
   looks-halt h k a never may = rw (a.calm.closed, a.calm.none_got) (grind (arith, never, may, a.going))
 

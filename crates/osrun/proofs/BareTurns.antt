@@ -1,4 +1,4 @@
--- What resulted in such an item results in it without the core's objects.
+-- If a turn of a core results in an item that a core without objects takes, it also does so without the core's objects.
 use Rattle.std.proofs.Common.{◌≡◌, Bool, true, false, Some, None, List, [], ◌∷◌, refl, ap, arith}
 use Rattle.osbase.specs.{declared.references.CoreId.CoreId, declared.items.Item.Item, declared.turns.Choice.Choice, History.History}
 use Rattle.osplan.specs.View.{View}
@@ -12,7 +12,7 @@ use Rattle.osrun.proofs.Asked.{asks-none}
 use Rattle.osrun.proofs.Bare.{Alike, bare, bare-mail, bare_items, keeps, looks-halt, skips, takes-bare}
 use Rattle.osrun.proofs.Sane.{never-asked}
 
--- A reply of the board results in an item of each core; a reply of a spinlock or a mailbox does not.
+-- A reply of the board results only in items that a core without objects takes; a reply of a spinlock never does.
 no-board : (id core : CoreId) (w : Watch) (request : Request) (answer : Reply) (i : Item) → item_by id w request answer ≡ Some i → is_bare_item i ≡ false → (call_of_turn core request answer).board ≡ []
 no-board id core w request answer i e b = grind arith
 
@@ -20,7 +20,7 @@ no-spins : (id core : CoreId) (w : Watch) (request : Request) (answer : Reply) (
 no-spins id core w request answer i e b = grind arith
 
 module _ (v : View) (h k : History) (a : Alike v h k) (never : has_asked_halt (state_of v h) ≡ false) (request : Request) (answer : Reply) where
-  -- It drains by its own turn, is halted by a look, and makes any other turn as the core did.
+  -- Without its objects, the core drains by its own turn, is halted by a look, and makes any other turn as before.
   led : (i : Item) → is_bare_item i ≡ true → ResultsIn v h request answer i → admits outbox_size (state_of v h) i ≡ true → ResultsIn (bare v) k request answer i
   led Item.Drained b leads may = record {
     choice = Choice.Own;
@@ -50,12 +50,12 @@ module _ (v : View) where
   abbrev pub no_spins : Calls → Calls
   no_spins calls = record { board = calls.board; spins = [] }
 
-  -- Each of them may be taken in turn, and is the result of a reply.
+  -- Each item that a core without objects takes may be taken in turn, and results from a reply.
   pub record IsBare (k : History) (items : List Item) (calls : Calls) : Type 0 where
     pub each : solo_from (bare v) k (bare_items items) ≡ Some (history_from (bare v) k (bare_items items))
     pub answers : AreAnswered (bare v) k (bare_items items) (no_spins calls)
 
-  -- If no script of the core shuts all cores down, this holds of all these items.
+  -- If no script of the core shuts all cores down, this holds of all its items.
   pub all-bare : NamesAllow v but_halt → (items : List Item) (h k : History) (calls : Calls) → Alike v h k → Asks but_halt h → solo_from v h items ≡ Some (history_from v h items) → AreAnswered v h items calls → IsBare k items calls
   all-bare unhalted [] h k calls a never each none = record { each = refl; answers = ap no_spins none }
   all-bare unhalted (i ∷ is) h k calls a never each all =

@@ -1,10 +1,10 @@
--- A list that begins another.
+-- Lists that are prefixes of other lists.
 use mathlib.Core.List.{IsPrefix}
 use Rattle.std.proofs.Common.{◌≡◌, Bool, true, Some, None, List, [], ◌∷◌, ◌++◌, length, refl, sym, ap, ◌∙◌, append_assoc, append-nil}
 use Rattle.std.specs.List.{flat_map, list_all, slice_get}
 use Rattle.std.proofs.{lemmas.Bool.and_parts, lemmas.Grind.flat_map-append, lemmas.List.Folds.list_all-append, lemmas.Option.same_Some}
 
--- Each list begins itself, and what is longer by a rest; and what begins a beginning begins the whole.
+-- Each list is a prefix of itself, and of itself followed by a rest; and a prefix of a prefix is a prefix of the whole.
 pub begins-itself : {A : Type 0} (xs : List A) → IsPrefix xs xs
 begins-itself xs = ([], append-nil xs)
 
@@ -15,7 +15,7 @@ pub begins-through : {A : Type 0} (xs ys zs : List A) → IsPrefix xs ys → IsP
 begins-through {A} xs ys zs first second =
     (first.0 ++ second.0, sym (append_assoc xs first.0 second.0) ∙ ap (λ (front : List A). front ++ second.0) first.1 ∙ second.1)
 
--- If a list is a prefix, so are the parts of its elements, behind one front.
+-- If a list is a prefix, so is the list of its elements' parts, behind the same front.
 pub begins-flat_map : {A B : Type 0} (f : A → List B) (front : List B) (xs ys : List A) → IsPrefix xs ys → IsPrefix (front ++ flat_map f xs) (front ++ flat_map f ys)
 begins-flat_map {A} {B} f front xs ys begins = (
   flat_map f begins.0,
@@ -23,12 +23,12 @@ begins-flat_map {A} {B} f front xs ys begins = (
       ∙ ap (λ (text : List B). front ++ text) (sym (flat_map-append f xs begins.0) ∙ ap (flat_map f) begins.1),
 )
 
--- What all of the whole pass all of a beginning pass.
+-- If all elements of the whole pass a test, all elements of a prefix pass it.
 pub begins-all_pass : {A : Type 0} (test : A → Bool) (xs ys : List A) → IsPrefix xs ys → list_all test ys ≡ true → list_all test xs ≡ true
 begins-all_pass test xs ys begins all =
     (and_parts (list_all test xs) (list_all test begins.0) (sym (list_all-append test xs begins.0) ∙ ap (list_all test) begins.1 ∙ all)).0
 
--- A prefix with the next element of the whole is a prefix; without a next one it is the whole.
+-- A prefix with the next element of the whole is a prefix; if there is no next element, the prefix is the whole.
 seam : {A : Type 0} (xs rest : List A) → slice_get (xs ++ rest) (length xs) ≡ slice_get rest 0
 seam [] rest = refl
 seam (x ∷ xs) rest = seam xs rest

@@ -1,4 +1,4 @@
--- A core whose items end has begun each core of its start list, and the board has started that one.
+-- If a core has ended, it has begun each core of its start list, and the board has started each of these.
 use Rattle.std.proofs.Common.{◌≡◌, sym, ap, ◌∙◌, Option, ◌⊎◌, ℕ, ◌≤◌, nat_lt, ◌&&◌, ◌||◌, Bool, true, false, Some, is_none, List, [], ◌∷◌, inl, inr, refl, arith}
 use Rattle.std.specs.List.{list_any, slice_get}
 use Rattle.std.proofs.lemmas.Bool.{and_parts, cases_lt, false≢true, or_left, or_right}
@@ -28,29 +28,29 @@ begins k item = false
 
 -- ---- the start list
 
--- The core has not reached its first gate.
+-- A core in this phase has not reached its first gate.
 abbrev is_before_gate : Phase → Bool
 is_before_gate p = nat_lt (place_of p) (place_of Phase.FirstGate)
 
 unscheduled : (p : Phase) → is_before_gate p ≡ true → is_scheduling p ≡ true → ⊥
 unscheduled p before schedules = grind arith
 
--- Behind the end of a list there is nothing.
+-- Past the end of a list there is nothing.
 none-later : {X : Type 0} (xs : List X) (m n : ℕ) → is_none (slice_get xs m) ≡ true → m ≤ n → is_none (slice_get xs n) ≡ true
 none-later xs m n e le = grind (arith, (slice_get_cases xs m).1, (slice_get_cases xs n).1)
 
--- Each core of a list has its place there.
+-- Each core of a list has a place in it.
 place-of : (xs : List CoreId) (k : CoreId) → is_among xs k ≡ true → (n : ℕ) × (is_for k (slice_get xs n) ≡ true)
 place-of xs k e =
     let (n, c, inside, is, alike) = Any-from_list_any (λ (c : CoreId). same_core c k) xs e in
     (n, rw (slice_get-get_or xs n c inside, is) (same_core-comm k c ∙ alike))
 
--- Two that are next are one.
+-- Two cores that are next at the same place are the same.
 next-same : (c k : CoreId) (next : ℕ → Option CoreId) (m n : ℕ) → m ≡ n → is_for c (next m) ≡ true → is_for k (next n) ≡ true → same_core c k ≡ true
 next-same c k next m n same e f = grind arith
 
 module _ (v : View) where
-  -- Before its first gate a core takes nothing but that it is on, and the replies to its starts, one for each of its start list.
+  -- Before its first gate a core takes only `On` and, for each core of its start list, the reply to the start.
   begun-by : (h : History) (i : Item) (rest : Bool) (n : ℕ) (k : CoreId) → admits outbox_size (state_of v h) i ≡ true → is_before_gate (phase_at v h) ≡ true → began_count h ≤ n → is_for k (slice_get v.own.start n) ≡ true
       → (is_before_gate (phase_at v (after v h i)) ≡ true → began_count (after v h i) ≤ n → rest ≡ true) → (begins k i || rest) ≡ true
   begun-by h Item.On rest n k may before le next later = grind (arith, le, later, phase-after v h Item.On, began-after v h Item.On)
@@ -65,14 +65,14 @@ module _ (v : View) where
   begun-by h (Item.Received from number message) rest n k may before le next later = absurd (unscheduled _ before (mail-schedules v h (Item.Received from number message) refl may))
   begun-by h i rest n k may before le next later = absurd (false≢true (sym (ap is_before_gate (same_Some _ _ (stage v h i refl may))) ∙ before))
 
-  -- From before its first gate to behind it, a core begins the rest of its start list.
+  -- If a core takes these items from before its first gate to past it, it begins the rest of its start list by them.
   begun-later : (h : History) (items : List Item) → solo_from v h items ≡ Some (history_from v h items) → is_before_gate (phase_at v h) ≡ true → is_before_gate (phase_at v (history_from v h items)) ≡ false → (n : ℕ) (k : CoreId) → began_count h ≤ n → is_for k (slice_get v.own.start n) ≡ true → list_any (begins k) items ≡ true
   begun-later h [] each before past n k le next = cc
   begun-later h (i ∷ is) each before past n k le next =
       let turn = solo-parts v h i is each in
       begun-by h i (list_any (begins k) is) n k turn.0 before le next (λ early more. begun-later (after v h i) is turn.1 early past n k more next)
 
-  -- So where its items end, it has begun each core of its start list.
+  -- So if a core's last item ends it, it has begun each core of its start list.
   pub all-begun : (items : List Item) → solo v items ≡ Some (history_from v [] items) → end_by items ≡ true → (k : CoreId) → is_among v.own.start k ≡ true → list_any (begins k) items ≡ true
   all-begun items each ended k named =
       let place = place-of v.own.start k named in
@@ -80,11 +80,11 @@ module _ (v : View) where
 
 -- ---- the calls of one core
 
--- Of two, one that implies something.
+-- If one of two tests holds, and each of the two implies another test, one of those other tests holds.
 or_both : (a b c d : Bool) → (a ≡ true → c ≡ true) → (b ≡ true → d ≡ true) → (a || b) ≡ true → (c || d) ≡ true
 or_both a b c d first second either = grind arith
 
--- The call starts this core; and the reply was that the core is started now.
+-- The call starts this core. For `is_start_of`, the reply also says that the core is now started.
 abbrev pub calls_start : CoreId → BoardCall → Bool
 calls_start k (Start j) = same_core j k
 calls_start k call = false
@@ -100,7 +100,7 @@ abbrev pub is_start_of : CoreId → BoardEntry → Bool
 is_start_of k e = is_ok_reply e.reply && calls_start k e.call
 
 module _ (v : View) (k : CoreId) where
-  -- A configured core is started by a call of the board.
+  -- If an item begins a configured core, a call of the board starts that core.
   item-called : is_configured v k ≡ true → (h : History) (watch : Watch) (request : Request) (answer : Reply) (i : Item) → item_by v.core watch request answer ≡ Some i → begins k i ≡ true → admits outbox_size (state_of v h) i ≡ true → list_any (is_call_of k) (call_of_turn v.core request answer).board ≡ true
   item-called there h watch (StartUnknown j) answer i e begun may = grind (arith, there, e, begun, may, same_core-true j k)
   item-called there h watch request answer i e begun may = grind (arith, e, begun)
@@ -129,7 +129,7 @@ module _ (k : CoreId) where
   abbrev Begun : BoardState → List BoardEntry → Type 0
   Begun s es = (has_core s.view.started k ≡ true) ⊎ (list_any (is_start_of k) es ≡ true)
 
-  -- One that a call makes started, that call starts, and its reply says so.
+  -- If the core is started only after a call, that call starts it, and its reply says so.
   started-now : (core : CoreId) (call : BoardCall) (s : BoardState) → has_core s.view.started k ≡ false → has_core (board_after core call s).view.started k ≡ true → calls_start k call ≡ true
   started-now core (Start j) s free there = elim (has_core-more j k s.view.started there) as (λ _. same_core j k ≡ true) [
     | inl same ↦ rw same (same_core-refl j)
@@ -145,7 +145,8 @@ module _ (k : CoreId) where
   first-start s (e ∷ es) legal called =
       grind (arith, called, legal.0, answered-now e.core e.call s, started-now e.core e.call s, first-start (board_after e.core e.call s) es legal.1)
 
--- What one of the calls is, it is as a call of its core; and what one of a core's calls is, one of all calls is.
+-- If some call passes a test, some core's calls have one that passes it; and if a core's calls have one, so have all
+-- calls.
 module _ (p : BoardEntry → Bool) where
   pub some-call : (es : List BoardEntry) → list_any p es ≡ true → (c : CoreId) × (list_any p (calls_by c es) ≡ true)
   some-call [] any = cc

@@ -1,4 +1,4 @@
--- The call of a spinlock in a reply is that of the item in which the reply results.
+-- The spinlock call of a turn is the spinlock call of the item that results from the reply.
 use Rattle.std.proofs.Common.{◌≡◌, Some, arith}
 use Rattle.osbase.specs.{declared.references.CoreId.CoreId, declared.items.Item.Item}
 use Rattle.oskernel.specs.declared.wants.Watch.{Watch}

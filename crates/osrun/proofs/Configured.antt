@@ -11,14 +11,14 @@ id_at n = record { number = n }
 abbrev pub is_there : Plan → CoreId → Bool
 is_there plan id = is_some (core_of plan id)
 
--- Those with a number below n.
+-- The configured cores with a number below n.
 abbrev pub ids_below : Plan → ℕ → List CoreId
 ids_below plan n = filter (is_there plan) (take n core_ids)
 
 pub one_more_id : (n : ℕ) → n < 16 → take (n + 1) core_ids ≡ take n core_ids ++ id_at n ∷ []
 one_more_id n lt = take_more core_ids n (id_at n) lt ∙ ap (λ (id : CoreId). take n core_ids ++ id ∷ []) (table-at id_at 0 CORES n n (id_at n) (omega arith) lt)
 
--- One number more, of a core that is configured or not.
+-- One number more adds the core of that number if it is configured, and nothing if it is not.
 pub ids_below-more : (plan : Plan) (n : ℕ) → n < 16 → ids_below plan (n + 1) ≡ ids_below plan n ++ cond (is_there plan (id_at n)) (id_at n ∷ []) []
 ids_below-more plan n lt = ap (filter (is_there plan)) (one_more_id n lt) ∙ filter-append (is_there plan) (take n core_ids) (id_at n ∷ [])
 

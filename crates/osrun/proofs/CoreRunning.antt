@@ -9,7 +9,7 @@ use Rattle.osrun.specs.{declared.core_runs.CoreRun.CoreRun, Fits.history_by, Sou
 use Rattle.osrun.specs.CoreRuns.{Keeps, Took, stimulus_count, left_after, IsCoreRun, is_ended_phase, report_of}
 use Rattle.osrun.proofs.{Longer.history_from-push, Longer.solo-push, Longer.stimulus_count-push, Ending.ended-by}
 
--- A core that took nothing.
+-- A core that took nothing is a core of this plan.
 pub seated-first : (plan : Plan) (stimuli : List CoreStimuli) (core_run : CoreRun) (id : CoreId) → core_run.id ≡ id → core_run.plan.now ≡ plan → core_run.kernel ≡ state_of (view_of plan id) [] → core_run.stimuli.now ≡ stimuli_of stimuli id → core_run.items.items ≡ [] → core_run.marks.items ≡ [] → IsCoreRun plan stimuli core_run
 seated-first plan stimuli core_run id is_id is_plan is_kernel is_left no_items no_marks = record {
   planned = is_plan;
@@ -39,7 +39,7 @@ seated-on plan stimuli old new item seated taken took = record {
   left = rw (took.id, took.items, took.left, seated.left, stimulus_count-push old.items.items item) (left-on item (stimulus_count old.items.items) (stimuli_of stimuli old.id));
 }
 
--- It makes room, and then takes an item.
+-- A core that makes room and then takes an item takes that item from where it was before.
 pub took-kept : (old roomy new : CoreRun) (item : Item) → Keeps old roomy → Took roomy new item → Took old new item
 took-kept old roomy new item keeps took = record {
   id = took.id ∙ keeps.id;
@@ -49,7 +49,7 @@ took-kept old roomy new item keeps took = record {
   does = rw (← keeps.kernel, ← keeps.marks) took.does;
 }
 
--- Its report says what its items say.
+-- A core's report says what its items say.
 pub seated-own : (plan : Plan) (stimuli : List CoreStimuli) (s : CoreRun) → IsCoreRun plan stimuli s → IsOwn plan (report_of s)
 seated-own plan stimuli s here =
     ap (λ (marks : List Mark). let r : Report = record (report_of s) { marks = marks } in r) (here.tracks.behind ∙ here.tracks.shows)

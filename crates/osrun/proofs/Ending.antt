@@ -1,4 +1,4 @@
--- A core has ended exactly where its items end.
+-- A core has ended exactly if its last item ends it.
 use Rattle.std.proofs.Common.{◌≡◌, Some, List, [], ◌∷◌, ap, ◌∙◌, arith, true}
 use Rattle.osbase.specs.{declared.items.Item.Item, History.History, History.phase_on}
 use Rattle.osplan.specs.View.{View}
@@ -16,7 +16,7 @@ end-later : (v : View) (h : History) (i : Item) (is : List Item) → solo_from v
 end-later v h i [] each = ap is_ended_phase (phase-after v h i) ∙ end-on v h i (solo-parts v h i [] each).0
 end-later v h i (j ∷ js) each = end-later v (after v h i) j js (solo-parts v h i (j ∷ js) each).1
 
--- Where a core could take its items in turn, it has ended exactly where they end.
+-- If a core could take its items in turn, it has ended exactly if the last of them ends it.
 pub ended-by : (v : View) (items : List Item) → solo v items ≡ Some (history_from v [] items) → is_ended_phase (phase_at v (history_from v [] items)) ≡ end_by items
 ended-by v [] each = grind arith
 ended-by v (i ∷ is) each = end-later v [] i is each

@@ -1,5 +1,5 @@
--- Where every started core has ended, each separate core has drained: each core that the configuration starts was started, since
--- whoever starts it ended only behind its start list.
+-- If every started core has ended, each separate core has drained: each core that the configuration starts was started,
+-- since the core that starts it ended only after its whole start list.
 use Rattle.std.proofs.Common.{◌≡◌, inl, inr, ℕ, zero, suc, ◌<◌, not, ◌&&◌, ◌||◌, Bool, true, false, IsTrue, Option, Some, None, is_some, List, [], ◌∷◌, length, map, refl, sym, ap, ◌∙◌, arith}
 use Rattle.std.specs.{List.AllByRecursion, List.list_all, List.list_any, Option.option_map_or}
 use Rattle.std.proofs.lemmas.Bool.{and_from, and_parts, or_cases, or_left, or_right}
@@ -20,12 +20,12 @@ use Rattle.osrun.proofs.{Configured.id_at, Members.only-one, OwnCore.found-id}
 
 -- ---- a core's report
 
--- What a core's list of items starts, its report starts.
+-- If an item in a core's list starts a core, so does an item of some report.
 started-in : (reports : List Report) (id k : CoreId) → list_any (starts k) (items_of (lists_in reports) id) ≡ true → list_any (λ (r : Report). list_any (starts k) r.items) reports ≡ true
 started-in [] id k any = any
 started-in (r ∷ rs) id k any = grind (arith, started-in rs id k)
 
--- If each started core's report has ended, the items of such a core end.
+-- If each started core's report says that the core ended, the last item of such a core ends it.
 ends-in : (plan : Plan) (was : CoreId → Bool) (id : CoreId) → was id ≡ true → (reports : List Report) → AllByRecursion (IsOwn plan) reports → list_all (λ (r : Report). r.ended || not (was r.core)) reports ≡ true → is_among (map (λ (r : Report). r.core) reports) id ≡ true → end_by (items_of (lists_in reports) id) ≡ true
 ends-in plan was id asked [] own all among = cc
 ends-in plan was id asked (r ∷ rs) own all among =
@@ -51,13 +51,13 @@ module _ (plan : Plan) (stimuli : List CoreStimuli) (reports : List Report) (lim
   abbrev fits : FitsBy plan stimuli lists calls
   fits = sound.fit.1
 
-  -- A configured core that was started has a report, and it has ended.
+  -- A configured core that was started has a report, and the last item of that report ends it.
   ends : (id : CoreId) → is_some (core_of plan id) ≡ true → was id ≡ true → end_by (items_of lists id) ≡ true
   ends id there asked =
       ends-in plan was id asked reports sound.own all
       (rw sound.cores (kept (λ c. is_some (core_of plan c)) core_ids id ∙ and_from _ _ there (listed id (configured-low plan id limits there))))
 
-  -- A core that a call starts was started.
+  -- If a call of the board starts a core, that core was started.
   start-called : (k : CoreId) → list_any (is_call_of k) calls.board ≡ true → was k ≡ true
   start-called k called = elim (first-start k (first_board plan.master) calls.board fits.board called) as (λ _. was k ≡ true) [
     | inl first ↦ or_left (same_core k plan.master) _ (rw (only-one plan.master k first) (same_core-refl plan.master))
@@ -66,7 +66,7 @@ module _ (plan : Plan) (stimuli : List CoreStimuli) (reports : List Report) (lim
         or_right (same_core k plan.master) _ (started-in reports one.0 k (one-started (view_of plan one.0) k [] (items_of lists one.0) (calls_of one.0 calls) (fits.answers one.0) one.1))
   ]
 
-  -- So was each core that the start list of a started core names.
+  -- So was each core in the start list of a started core.
   next-started : (id k : CoreId) (core : Core) → core_of plan id ≡ Some core → was id ≡ true → is_among core.start k ≡ true → is_some (core_of plan k) ≡ true → was k ≡ true
   next-started id k core found asked named there =
       let begun = all-begun (view_of plan id) (items_of lists id) (fits.cores id).alone (ends id (ap is_some found) asked) k (rw found named) in
@@ -75,7 +75,7 @@ module _ (plan : Plan) (stimuli : List CoreStimuli) (reports : List Report) (lim
   abbrev Within : ℕ → CoreId → Bool
   Within n k = is_among (started_within plan n) k
 
-  -- One of the started cores names it.
+  -- If a started core of this list names a core in its start list, that core was started.
   named-started : (n : ℕ) (k : CoreId) → is_some (core_of plan k) ≡ true → ((id : CoreId) → Within n id ≡ true → was id ≡ true) → (cores : List Core) → AllByRecursion (IsFound plan.cores) cores → list_any (λ (c : Core). Within n c.id && is_among c.start k) cores ≡ true → was k ≡ true
   named-started n k there before [] found named = cc
   named-started n k there before (c ∷ cs) found named = elim (or_cases (Within n c.id && is_among c.start k) _ named) as (λ _. was k ≡ true) [
@@ -83,7 +83,7 @@ module _ (plan : Plan) (stimuli : List CoreStimuli) (reports : List Report) (lim
     | inr later ↦ named-started n k there before cs found.1 later
   ]
 
-  -- So was each core that the configuration starts.
+  -- Each core that the configuration starts was started.
   within-started : (n : ℕ) (k : CoreId) → Within n k ≡ true → was k ≡ true
   within-started zero k e = or_left (same_core k plan.master) _ (and_parts (same_core k plan.master) _ (rw (kept (λ c. same_core c plan.master) (configured_ids plan) k) at e)).0
   within-started (suc n) k e =
@@ -93,7 +93,7 @@ module _ (plan : Plan) (stimuli : List CoreStimuli) (reports : List Report) (lim
         | inr named ↦ named-started n k (sym (among-configured plan k) ∙ round.1) (within-started n) plan.cores (each-found plan.cores (limit-parts plan limits).distinct) named
       ]
 
-  -- A separate core is one of them, and so it has drained.
+  -- A separate core is one of these, so it has drained.
   pub separate-drained : (id : CoreId) → IsTrue (is_separate plan id) → has_drained (items_of lists id) ≡ true
   separate-drained id separate = by (core_of plan id) refl separate
     where

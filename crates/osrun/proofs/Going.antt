@@ -1,4 +1,4 @@
--- A core runs until it is down or halted, and then never again; and what it wants for itself then.
+-- A core runs until it is down or halted, and then never again. Also: what it wants for itself then.
 use Rattle.std.proofs.Common.{◌≡◌, ◌∷◌, true, false, refl, arith}
 use Rattle.osbase.specs.{declared.statuses.Status.Status, declared.items.Item.Item, History.History, History.Took, History.course_of, Phases.is_going}
 use Rattle.osplan.specs.View.{View}
@@ -24,7 +24,8 @@ dispatch-course v h = grind arith
 pub drained-course : (v : View) (h : History) → course_of (after v h Item.Drained) ≡ course_of h
 drained-course v h = dispatch-course v (Took Item.Drained ∷ h)
 
--- It drains whatever stimuli are left only if it is down or halted, and asks for a shutdown of all cores only where that call is open.
+-- A core drains with stimuli left only if it is down or halted, and asks for a shutdown of all cores only if that call
+-- is open.
 pub drains-down : (s : KernelState) → want_in s ≡ Want.Drain → is_going s.progress.course ≡ false
 drains-down s e = grind arith
 

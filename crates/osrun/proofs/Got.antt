@@ -19,7 +19,7 @@ module _ (l : SpinlockId) where
   abbrev has : List GotSpinlock → Bool
   has got = has_spinlock l got
 
-  -- Each spinlock is there once.
+  -- This spinlock is in the list at most once.
   abbrev IsOnce : List GotSpinlock → Type 0
   IsOnce got = has (without_spinlock l got) ≡ false
 

@@ -1,4 +1,5 @@
--- Of each core's items alone: a core answers no core from which only replies came, and takes nothing from a number that no core has.
+-- By each core's items alone: a core answers no core from which only replies came, and takes nothing from a number that
+-- no core has.
 use Rattle.std.proofs.Common.{◌≡◌, nat_lt, true, false, not, Some, List, [], ◌∷◌, refl, arith}
 use Rattle.std.specs.List.{list_all}
 use Rattle.std.proofs.lemmas.List.Folds.{list_all-append}
@@ -12,14 +13,14 @@ use Rattle.oskernel.proofs.{Carried.is_replied, Stages.solo-parts}
 use Rattle.osrun.proofs.{Mailed.is_reply, Mailed.received-pass, Streams.is_from, Streams.received-is, Streams.received_letter}
 
 module _ (c : CoreId) (v : View) where
-  -- Where only replies come from there, no item is a request from there.
+  -- If only replies come from a core, no item is a request from it.
   pub none-asked : (items : List Item) (h : History) → list_all is_reply (received c (history_from v h items)) ≡ true → list_all (is_replied (λ (core : CoreId). not (same_core core c)) anybody) items ≡ true
   none-asked [] h all = refl
   none-asked (i ∷ is) h all =
       let so_far = received-pass is_reply v c is (after v h i) all in
       grind (arith, so_far, received-is v c i h, list_all-append is_reply (received c h) (received_letter i), none-asked is (after v h i) all)
 
-  -- From a number that no core may have nothing is taken.
+  -- Nothing is taken from a number that no core may have.
   high-not : (h : History) (i : Item) → admits outbox_size (state_of v h) i ≡ true → nat_lt c.number CORES ≡ false → is_from i c ≡ false
   high-not h i taken high = grind arith
 

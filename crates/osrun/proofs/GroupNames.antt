@@ -1,4 +1,4 @@
--- Whom the cores of a group may ask, and whom those outside, by what their scripts, alarms and tables name.
+-- Whom the cores of a group may ask, and whom those outside it may ask, by what their scripts, alarms and tables name.
 use Rattle.std.proofs.Common.{arith, List, ◌≡◌, ℕ, Bool, true, false, not, ◌&&◌, ◌||◌, Some, [], ◌∷◌, refl}
 use Rattle.std.specs.List.{list_all, list_any, slice_get}
 use Rattle.osbase.specs.{declared.references.CoreId.CoreId, declared.references.Runner.Runner, declared.references.SpinlockId.SpinlockId, declared.items.CoreSet.CoreSet, declared.objects.Object.Object, declared.objects.TheConstants.NOBODY, History.same_core, Objects.spinlock_of, Sets.has_core}
@@ -14,27 +14,27 @@ use Rattle.oskernel.proofs.Carried.{NamesAllow, allow-cores}
 use Rattle.oskernel.proofs.Scripts.{but_halt, names-allow, none-all, script-fails, script-none}
 use Rattle.osrun.proofs.OwnCore.{found-id, own-by}
 
--- A core of the group asks cores of the group, for spinlocks that the group names, and for whatever all share.
+-- A core of the group may ask cores of the group, spinlocks that the group names, and whatever all cores share.
 abbrev pub asks_inside : Plan → CoreSet → Partner → Bool
 asks_inside plan group (Partner.Core core) = has_core group core || same_core core NOBODY
 asks_inside plan group (Partner.Spinlock l) = is_taken_in plan group l
 asks_inside plan group Partner.Shared = true
 asks_inside plan group Partner.Halt = true
 
--- Another core asks no core of the group, and for no such spinlock, and does not shut all cores down.
+-- A core outside may ask no core of the group and no such spinlock, and it may not shut all cores down.
 abbrev pub asks_outside : Plan → CoreSet → Partner → Bool
 asks_outside plan group (Partner.Core core) = not (has_core group core)
 asks_outside plan group (Partner.Spinlock l) = not (is_taken_in plan group l)
 asks_outside plan group Partner.Shared = true
 asks_outside plan group Partner.Halt = false
 
--- Objects, none of them a spinlock that may not be requested.
+-- If no forbidden spinlock is among the objects, each of them is no spinlock or one that may be asked for.
 locks-by : (may : Partner → Bool) (objects : List Object) → ((l : SpinlockId) → may (Partner.Spinlock l) ≡ false → list_any (is_that_spinlock l) objects ≡ false) → list_all (may_lock may) objects ≡ true
 locks-by may [] none = refl
 locks-by may (o ∷ os) none = grind (arith, none (spinlock_of o.place), locks-by may os (λ k fails. grind (arith, none k fails)))
 
 module _ (plan : Plan) (group : CoreSet) (keeps : list_all (keeps_apart plan group) plan.cores ≡ true) (id : CoreId) where
-  -- What its part of the configuration fails, if a core is configured that keeps apart.
+  -- If a core without objects and each core that keeps apart fail a test, a core's own part fails it.
   own-fails : (test : Core → Bool) → test (no_core id) ≡ false → ((core : Core) → core.id ≡ id → keeps_apart plan group core ≡ true → test core ≡ false) → test (view_of plan id).own ≡ false
   own-fails test none each =
       own-by plan id (λ (core : Core). test core ≡ false) none
@@ -58,7 +58,7 @@ module _ (plan : Plan) (group : CoreSet) (keeps : list_all (keeps_apart plan gro
         (λ r n op e halts. refl)
 
   module _ (outside : has_core group id ≡ false) where
-    -- No script of it shuts all cores down.
+    -- No script of a core outside the group shuts all cores down.
     unhalted : has_operation halts_all (view_of plan id).own ≡ false
     unhalted = own-fails (has_operation halts_all) refl (λ core same apart. grind (arith, outside, same, apart))
 

@@ -1,4 +1,4 @@
--- What a group's configuration leaves: of what a core outside sees, of the item lists, of the stimuli, and of the calls of spinlocks.
+-- What a group's configuration keeps of an outside core's view, the item lists, the stimuli, and the spinlock calls.
 use Rattle.std.proofs.Common.{◌≡◌, true, false, Option, Some, None, option_map, List, [], ◌∷◌, filter, refl, ap, unwrap_or, arith}
 use Rattle.osbase.specs.{declared.references.CoreId.CoreId, declared.items.CoreSet.CoreSet, declared.items.Item.Item, declared.turns.CoreStimuli.CoreStimuli, History.History, History.received, Runs.stimuli_of, Sets.has_core}
 use Rattle.osbase.proofs.Same.{same_core-true}

@@ -1,4 +1,4 @@
--- Each call of a spinlock that led to an item of a core is of one that the core may ask for.
+-- Each call of a spinlock that resulted in an item of a core is for a spinlock that the core may ask for.
 use Rattle.std.proofs.Common.{◌≡◌, Bool, true, Option, Some, List, [], ◌∷◌, refl, arith}
 use Rattle.std.specs.List.{list_all}
 use Rattle.std.proofs.lemmas.List.Folds.{list_all-append}
@@ -11,7 +11,7 @@ use Rattle.osspin.specs.Spins.{SpinEntry}
 use Rattle.osrun.specs.{declared.requests.Request.Request, declared.requests.Request.TheVariants.OfSpins, declared.requests.Reply.Reply, declared.requests.Reply.TheVariants.Spun, Fits.AreAnswered, Fits.ResultsIn}
 use Rattle.osrun.specs.Requests.{Calls, request_by, call_of_turn}
 
--- Of a spinlock a turn asks only what the core wants.
+-- A turn asks a spinlock only for what the core wants.
 asks-wish : (v : View) (want : Want) (watch : Watch) (next : Option Stimulus) (choice : Choice) (wish : SpinWish) → request_by v want watch next choice ≡ Some (OfSpins wish) → want ≡ Want.Spin wish
 asks-wish v want watch next choice wish e = grind arith
 

@@ -33,7 +33,7 @@ module _ (plan : Plan) (stimuli : List CoreStimuli) (lists : List (CoreId × Lis
   abbrev part : Plan
   part = group_of plan group
 
-  -- All calls of the board, and of the spinlocks those of the group.
+  -- All calls of the board, and those calls of the spinlocks that cores of the group make.
   abbrev made : Calls
   made = record { board = calls.board; spins = inside_calls (has_core group) (is_taken_in plan group) calls.spins }
 
@@ -104,7 +104,7 @@ module _ (plan : Plan) (stimuli : List CoreStimuli) (lists : List (CoreId × Lis
       (λ inside. rw (sees-same plan group id inside, items-inside id inside, calls-inside group id inside calls.spins) (fits.answers id))
       (λ outside. rw (view-outside plan group id outside, items-outside id outside, calls-outside group id outside calls.spins) (outside-bare id outside).answers)
 
-  -- Each call of a spinlock is of its core's side.
+  -- Each call is of a spinlock on its core's side.
   sided : are_of_sides (has_core group) (is_taken_in plan group) calls.spins ≡ true
   sided =
       sides-together (has_core group) (is_taken_in plan group) calls.spins (λ id.
@@ -117,11 +117,11 @@ module _ (plan : Plan) (stimuli : List CoreStimuli) (lists : List (CoreId × Lis
 
 -- ---- what the group's cores print
 
--- A core of the group says the same.
+-- A core of the group has the same report by both configurations.
 same-report : (plan : Plan) (group : CoreSet) (lists : List (CoreId × List Item)) (id : CoreId) → has_core group id ≡ true → report_by (group_of plan group) id (items_of (part_lists group lists) id) ≡ report_by plan id (items_of lists id)
 same-report plan group lists id inside = rw (sees-same plan group id inside, items-part group id lists, inside) refl
 
--- The core is of the group, or the number of no core.
+-- The core is in the group, or its number is that of no core.
 abbrev is_near : CoreSet → CoreId → Bool
 is_near group id = has_core group id || same_core id NOBODY
 
@@ -133,7 +133,7 @@ core-near plan group limits id near = core-part plan group id ∙ by (core_of pl
     by None found = refl
     by (Some c) found = grind (arith, near, found-id plan id c found, configured-low plan id limits (ap is_some found))
 
--- What a core of the group prints names objects of the group alone, which have the same names there.
+-- What a core of the group prints names objects of the group alone, which have the same names in both configurations.
 module _ (plan : Plan) (group : CoreSet) (limits : IsTrue (is_within_limits plan)) (keeps : list_all (keeps_apart plan group) plan.cores ≡ true) (id : CoreId) (inside : has_core group id ≡ true) where
   own-near : is_near group (view_of plan id).own.id ≡ true
   own-near = own-by plan id (λ (c : Core). is_near group c.id ≡ true) (grind (arith, inside)) (λ c found. grind (arith, inside, found-id plan id c found))

@@ -10,12 +10,12 @@ use Rattle.osrun.specs.Fits.{has_drained, is_drain, stimuli_in, FitsCore, histor
 use Rattle.std.proofs.lemmas.Option.{slice_get_past}
 use Rattle.osrun.proofs.{Beginnings.begins-next, Beginnings.begins-whole, Going.going-before}
 
--- The items in order.
+-- The history after one more item.
 pub history_from-push : (v : View) (h : History) (items : List Item) (item : Item) → history_from v h (items ++ item ∷ []) ≡ after v (history_from v h items) item
 history_from-push v h [] item = refl
 history_from-push v h (i ∷ items) item = history_from-push v (after v h i) items item
 
--- The stimuli among them.
+-- The stimuli among the items, with one more item.
 stimuli_in-push : (items : List Item) (item : Item) → stimuli_in (items ++ item ∷ []) ≡ stimuli_in items ++ stimuli_in (item ∷ [])
 stimuli_in-push [] item = refl
 stimuli_in-push (i ∷ items) item = grind (arith, stimuli_in-push items item)
@@ -32,7 +32,7 @@ pub stimulus_count-push : (items : List Item) (item : Item) → stimulus_count (
 stimulus_count-push [] item = omega arith
 stimulus_count-push (i ∷ items) item = grind (arith, stimulus_count-push items item)
 
--- Each item in turn may be taken, the first of them first.
+-- If all items may be taken in turn, the first of them may be taken.
 some-if : {A : Type 0} (b : Bool) (o : Option A) (x : A) → cond b o None ≡ Some x → b ≡ true
 some-if b o x e = grind arith
 
@@ -45,8 +45,8 @@ solo-push v h (i ∷ items) item so_far taken =
     let takes_first = solo-takes v h i items so_far in
     rw takes_first (solo-push v (after v h i) items item (rw takes_first at so_far) taken)
 
--- What an item says of the stimuli of the core that takes it: that it is the next one, or that there is none, unless the core is
--- down or halted.
+-- What an item says of its core's stimuli: a stimulus is the next one, and draining says that none is left, unless the
+-- core is down or halted.
 abbrev pub IsInTurn : List Stimulus → Course → List Item → Item → Type 0
 IsInTurn listed course past (Item.Stim s) = slice_get listed (length (stimuli_in past)) ≡ Some s
 IsInTurn listed course past Item.Drained = is_going course ≡ true → slice_get listed (length (stimuli_in past)) ≡ None

@@ -1,5 +1,6 @@
--- Of the cores' items alone, each by its own view: a core that another one may not ask receives only replies from that one, and nothing
--- that it did not ask for; and one that asks for nothing receives none of these and posts nothing.
+-- By each core's items alone, with its own view: a core receives only replies from a core that may not ask it, and
+-- nothing if it sent that one no request. If only replies come to a core that asks nobody, it receives nothing and
+-- posts nothing.
 use Rattle.std.proofs.Common.{◌≡◌, ℕ, ℤ, Bool, true, false, not, ◌||◌, Option, Some, List, [], ◌∷◌, refl, arith}
 use Rattle.std.specs.List.{list_all}
 use Rattle.std.proofs.lemmas.List.Folds.{list_all-append}
@@ -14,7 +15,7 @@ use Rattle.oskernel.specs.Step.{after, history_from, outbox_size, solo_from}
 use Rattle.oskernel.proofs.{Calm.Calm, Calm.calm-after, Carried.NamesAllow, Carried.is_replied, Carried.replied-anybody, Holding.Holds, Holding.holds-after, Stages.is_mail, Stages.solo-parts}
 use Rattle.osrun.proofs.Streams.{posted-after, received-is, received_letter}
 
--- A letter that replies.
+-- The letter is a reply.
 abbrev pub is_reply : Letter → Bool
 is_reply e = by e.message
   where
@@ -46,7 +47,7 @@ module _ (c : CoreId) (v : View) (may : Partner → Bool) (spares : may (Partner
     posted-on : (h : History) (i : Item) → admits outbox_size (state_of v h) i ≡ true → Meek h → list_all test (posted c h) ≡ true → list_all test (posted c (after v h i)) ≡ true
     posted-on h i taken meek all = rw posted-after (grind (arith, taken, meek, all, list_all-append test (posted c h) (front_letter (outbox h))))
 
-    -- Where its replies pass too, all that it posts there passes, by items after each of which it may answer.
+    -- If its replies pass the test too, so does all that it posts to that core, for items whose requests it may answer.
     module _ (replies : CoreId → Bool) (answers : (core : CoreId) (s : Status) (value : Option ℤ) (number : ℕ) → replies core ≡ true → (not (same_core core c) || test (letter_with number (reply s value))) ≡ true) where
       holds : Holds may replies anybody Meek
       holds = record {
@@ -66,11 +67,11 @@ module _ (c : CoreId) (v : View) (may : Partner → Bool) (spares : may (Partner
   any-replied [] = refl
   any-replied (i ∷ is) = grind (arith, replied-anybody i, any-replied is)
 
-  -- Whatever it takes, it posts only replies there.
+  -- Whatever the core takes, it posts only replies to that core.
   pub posts-replies : (items : List Item) → solo_from v [] items ≡ Some (history_from v [] items) → list_all is_reply (posted c (history_from v [] items)) ≡ true
   posts-replies items each = posts is_reply anybody (λ core s value number m. grind arith) items [] each (any-replied items) refl refl
 
-  -- And nothing, if no request came from there.
+  -- If no request came from that core, this core posts nothing to it.
   pub posts-nothing : (items : List Item) → solo_from v [] items ≡ Some (history_from v [] items) → list_all (is_replied (λ (core : CoreId). not (same_core core c)) anybody) items ≡ true → posted c (history_from v [] items) ≡ []
   posts-nothing items each fine =
       none (posted c (history_from v [] items)) (posts nobody (λ (core : CoreId). not (same_core core c)) (λ core s value number m. grind (arith, m)) items [] each fine refl refl)
@@ -81,14 +82,14 @@ module _ (c : CoreId) (v : View) (may : Partner → Bool) (spares : may (Partner
 
 -- ---- what a core takes
 
--- What all letters from there pass at the end, they pass before.
+-- If all letters received from a core pass a test at the end, all letters received before pass it.
 pub received-pass : (test : Letter → Bool) (v : View) (from : CoreId) (items : List Item) (h : History) → list_all test (received from (history_from v h items)) ≡ true → list_all test (received from h) ≡ true
 received-pass test v from [] h all = all
 received-pass test v from (i ∷ is) h all =
     grind (arith, received-pass test v from is (after v h i) all, received-is v from i h, list_all-append test (received from h) (received_letter i))
 
 module _ (v : View) (allowed : NamesAllow v nobody) where
-  -- Only replies come from every other core.
+  -- From every other core, only replies come.
   abbrev OnlyReplies : History → Type 0
   OnlyReplies h = (from : CoreId) → same_core from v.core ≡ false → list_all is_reply (received from h) ≡ true
 
@@ -100,7 +101,7 @@ module _ (v : View) (allowed : NamesAllow v nobody) where
       absurd (grind (arith, taken, calm.closed, late, got, same_core-refl from, list_all-append is_reply (received from h) (letter_with number message ∷ [])))
   no-mail h i is calm taken replies = refl
 
-  -- It posts nothing and receives nothing.
+  -- The core posts nothing and receives nothing.
   pub takes-no-mail : (items : List Item) (h : History) → solo_from v h items ≡ Some (history_from v h items) → Calm h → OnlyReplies (history_from v h items) → list_all (λ (i : Item). not (is_mail i)) items ≡ true
   takes-no-mail [] h each calm replies = refl
   takes-no-mail (i ∷ is) h each calm replies =

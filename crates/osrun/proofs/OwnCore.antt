@@ -8,7 +8,7 @@ use Rattle.osplan.proofs.Tests.{find-holds}
 pub found-id : (plan : Plan) (id : CoreId) (core : Core) → core_of plan id ≡ Some core → core.id ≡ id
 found-id plan id core found = same_core-true core.id id (find-holds (λ (c : Core). same_core c.id id) plan.cores core found)
 
--- What holds of both holds of the part that the core sees.
+-- What holds of the configured core and of the core without objects holds of the part that the core sees.
 pub own-by : (plan : Plan) (id : CoreId) (P : Core → Type 0) → P (no_core id) → ((core : Core) → core_of plan id ≡ Some core → P core) → P (view_of plan id).own
 own-by plan id P none each = by (core_of plan id) refl
   where

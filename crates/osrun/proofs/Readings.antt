@@ -1,4 +1,4 @@
--- What is read off the items alone, which no mark and no note changes.
+-- Readings that depend on the items alone: no mark and no note changes them.
 use Rattle.std.proofs.Common.{◌≡◌, suc, ◌∷◌, refl, ◌∙◌, add-one}
 use Rattle.osbase.specs.{declared.items.Item.Item, History.History, History.Took, History.began_count, History.item_count, History.started_cores}
 use Rattle.osplan.specs.View.{View}

@@ -1,5 +1,5 @@
--- What each core's calls of an object keep, as long as each answer that the core had was one of a state that has it, the
--- object's one history keeps; so each core has only such answers. It is said of any object and names no call.
+-- Suppose each core's calls keep a property of an object's states, as long as the core had only answers of states with
+-- it. Then the object's one history keeps it, and each core has only such answers. This holds of any object.
 use Rattle.std.proofs.Common.{◌≡◌, List, [], ◌∷◌}
 use Rattle.std.proofs.lemmas.Bool.{cond_both}
 use Rattle.osbase.specs.{declared.references.CoreId.CoreId, History.same_core}
@@ -7,27 +7,27 @@ use Rattle.osbase.proofs.Same.{same_core-refl}
 use Rattle.osshared.specs.{declared.histories.Entry.Entry, Histories.IsLegalFrom, Histories.Object, Histories.calls_by}
 
 module _ {A S C R : Type 0} (o : Object A S C R) (P : S → Type 0) where
-  -- The call keeps it.
+  -- The call keeps the property.
   abbrev pub Keeps : CoreId → Entry C R → Type 0
   Keeps id e = (s : S) → P s → P (o.after id e.call s)
 
-  -- The answer is one of a state that has it.
+  -- The answer is that of a state with the property.
   pub record Sees (e : Entry C R) : Type 0 where
     pub state : S
     pub has : P state
     pub answers : e.reply ≡ o.reply e.core e.call state
 
-  -- Each call of a core keeps it, if the answers before were all of states that have it.
+  -- If all answers before were those of states with the property, each call of a core keeps it.
   abbrev pub Relies : CoreId → List (Entry C R) → Type 0
   Relies id [] = Unit {0}
   Relies id (e ∷ es) = Keeps id e × (Sees e → Relies id es)
 
-  -- Each answer is.
+  -- Each answer is that of a state with the property.
   abbrev pub AllSee : List (Entry C R) → Type 0
   AllSee [] = Unit {0}
   AllSee (e ∷ es) = Sees e × AllSee es
 
-  -- So each core has only such answers.
+  -- So each core has only answers of states with the property.
   pub only-seen : (s : S) (es : List (Entry C R)) → P s → IsLegalFrom o s es → ((id : CoreId) → Relies id (calls_by id es)) → (id : CoreId) → AllSee (calls_by id es)
   only-seen s [] p legal relies id = tt
   only-seen s (e ∷ es) p legal relies id =

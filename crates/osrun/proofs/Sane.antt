@@ -29,7 +29,7 @@ use Rattle.osrun.proofs.Relying.{AllSee, Relies, only-seen}
 
 -- ---- modes and start lists
 
--- Without a flag nothing is counted, and with flags at one place only at most one.
+-- If no flag is set, the count is 0; if only the flag at one place may be set, the count is at most 1.
 count-none : (xs : List Bool) → ((j : ℕ) → get_or xs j false ≡ false) → count_by (λ b. b) xs ≡ 0
 count-none [] none = refl
 count-none (x ∷ xs) none = grind (arith, sum_by-cons (λ (b : Bool). cond b 1 0) x xs, none 0, count-none xs (λ j. none (suc j)))
@@ -45,7 +45,7 @@ count-one (x ∷ xs) (suc n) others =
 for-among : (core : CoreId) (cores : List CoreId) (n : ℕ) → is_for core (slice_get cores n) ≡ true → is_among cores core ≡ true
 for-among core cores n e = grind (arith, (slice_get_cases cores n).1, list_any_at (λ (c : CoreId). same_core c core) cores n)
 
--- The first gate met a conflict, or a shutdown of all cores is taken, or was requested by the end.
+-- The core met a conflict at its first gate, halts for a shutdown of all cores, or learns of one at its end.
 abbrev pub is_disturbance : Item → Bool
 is_disturbance (Item.Pass1 Agreement.Conflict) = true
 is_disturbance (Item.Halt core status) = true
@@ -55,7 +55,7 @@ is_disturbance item = false
 abbrev pub AreUndisturbed : List Item → Type 0
 AreUndisturbed items = list_all (λ (i : Item). not (is_disturbance i)) items ≡ true
 
--- A core that may ask for anything else has no open call for a shutdown of all cores.
+-- A core that may ask for anything but a shutdown of all cores has no open call for one.
 pub never-asked : (v : View) (h : History) → Asks but_halt h → has_asked_halt (state_of v h) ≡ false
 never-asked v h never = grind arith
 
@@ -71,7 +71,7 @@ module _ (plan : Plan) (m : ModeId) where
   no-conflict : (b : BoardState) → Sane b → is_disturbance (Item.Pass1 (agreement_in b.view.modes)) ≡ false
   no-conflict b sane = grind (arith, count-one b.view.modes.members m.index sane.modes)
 
-  -- What such a board replies results in neither, nor does any other reply.
+  -- Such a board's reply results in no disturbance, unless the call asks for a shutdown; nor does any other reply.
   reply-calm : (core : CoreId) (w : Watch) (call : BoardCall) (reply : BoardReply) (i : Item) (s : BoardState) → Sane s → is_halt_request (OfBoard call) ≡ false → reply ≡ board_reply core call s → item_of_board core w call reply ≡ Some i → is_disturbance i ≡ false
   reply-calm core w call reply i s sane asked replies e = grind (arith, no-conflict s sane, sane.quiet)
 
@@ -85,17 +85,17 @@ module _ (plan : Plan) (m : ModeId) where
     abbrev v : View
     v = view_of plan core
 
-    -- It is off, or it is started.
+    -- The core is off, or the configuration starts it.
     abbrev IfOn : History → Type 0
     IfOn h = (phase_at v h ≡ Phase.Off) ⊎ (is_started plan core ≡ true)
 
-    -- Whom it starts is started.
+    -- If the configuration starts the core, it also starts each configured core of this core's start list.
     starts : (k : CoreId) → is_started plan core ≡ true → is_configured v k ≡ true → is_among v.own.start k ≡ true → is_started plan k ≡ true
     starts k started there among =
         own-by plan core (λ (c : Core). is_among c.start k ≡ true → is_started plan k ≡ true) (λ none. cc)
         (λ c found named. started-next plan core k c started found named (is_some-core_of k plan.cores ∙ there)) among
 
-    -- A core whose mode is named is started.
+    -- If the configuration starts the core, the core adds no mode but this one to the modes on the board.
     told : (b : BoardState) → Sane b → (j : ℕ) → j ≢ m.index → is_started plan core ≡ true → get_or (with_mode v.own.mode b.view.modes).members j false ≡ false
     told b sane j ne started =
         own-by plan core (λ (c : Core). get_or (with_mode c.mode b.view.modes).members j false ≡ false) (sane.modes j ne) (λ c found. named c.mode (agrees c found))
@@ -108,7 +108,7 @@ module _ (plan : Plan) (m : ModeId) where
         named : (mode : CoreMode) → agree (Named m) mode ≡ true → get_or (with_mode mode b.view.modes).members j false ≡ false
         named mode e = grind (arith, sane.modes j ne, get_or-set_other)
 
-    -- The call of a turn whose item may be taken keeps the board sane.
+    -- If the core may take the item that a turn results in, the call of that turn keeps the board sane.
     keeps : (h : History) → IfOn h → has_asked_halt (state_of v h) ≡ false → (call : BoardCall) (reply : BoardReply) (i : Item) (next : Option Stimulus) → IsOwnRequest v (state_of v h) next (Some (OfBoard call)) → item_of_board core (watch_of v h) call reply ≡ Some i → admits outbox_size (state_of v h) i ≡ true → (b : BoardState) → Sane b → Sane (board_after core call b)
     keeps h if_on never (Start k) reply i next own e may b sane = record {
       begun = λ j there. elim (has_core-more k j b.view.started there) as (λ _. is_started plan j ≡ true) [
@@ -125,7 +125,7 @@ module _ (plan : Plan) (m : ModeId) where
     asks-on : halts_somewhere plan ≡ false → (h : History) (i : Item) → Asks but_halt h → Asks but_halt (after v h i)
     asks-on unhalted h i never = asks-after but_halt v (halt-allow plan core unhalted) h i never
 
-    -- Each call of the core keeps the board sane, if the core saw only sane ones before.
+    -- If the core saw only sane boards before, each of its calls keeps the board sane.
     relies : halts_somewhere plan ≡ false → (items : List Item) (h : History) (es : Calls) → IfOn h → Asks but_halt h → solo_from v h items ≡ Some (history_from v h items) → AreAnswered v h items es → Relies one_board Sane core es.board
     relies unhalted [] h es if_on never each none = rw none tt
     relies unhalted (i ∷ is) h es if_on never each all =
@@ -159,8 +159,8 @@ module _ (plan : Plan) (m : ModeId) where
         by (OfSpins wish) (Spun reply) leads see rest = and_from _ _ (not_from_false _ (other-calm core (watch_of v h) (OfSpins wish) (Spun reply) i refl leads.names)) (rest see)
         by request answer leads see rest = and_from _ _ (not_from_false _ (other-calm core (watch_of v h) request answer i refl leads.names)) (rest see)
 
-  -- In one history of the board that is legal, and answers each core's calls, no core came to a conflict or a shutdown, where no script
-  -- shuts all cores down.
+  -- If no script shuts all cores down and started cores agree on the mode, no core meets a conflict or a shutdown. This
+  -- is for a legal history of the board from whose calls each core's items result.
   module _ (agreed : is_agreed_mode plan (Named m) ≡ true) (unhalted : halts_somewhere plan ≡ false) (there : is_some (core_of plan plan.master) ≡ true) (calls : Calls) (legal : IsLegal one_board plan.master calls.board) (items : CoreId → List Item)
       (each : (id : CoreId) → solo_from (view_of plan id) [] (items id) ≡ Some (history_from (view_of plan id) [] (items id)))
       (answers : (id : CoreId) → AreAnswered (view_of plan id) [] (items id) (calls_of id calls)) where

@@ -23,6 +23,6 @@ module _ (plan : Plan) (id : CoreId) (limits : IsTrue (is_within_limits plan)) w
   pub view-activations : IsSome (core_of plan id) → sum_by (λ (t : Task). t.activations) (view_of plan id).own.tasks ≤ 64
   view-activations some = (view-fits some).activations
 
-  -- what its alarms and tables post at once has places
+  -- the outbox has places for what its alarms and tables post at once
   pub view-outbox : IsSome (core_of plan id) → outbox_needed (view_of plan id).own ≤ outbox_size
   view-outbox some = omega (arith, (view-fits some).posted)

@@ -1,5 +1,5 @@
--- The items of all cores fit one another and what the run was given. It is said of the cores' item lists alone:
--- nothing is said of turns, and nothing of how the cores were run. [own]
+-- The items of all cores fit one another and what the run was given. This is a statement about the cores' item lists
+-- alone: it says nothing of turns, nor of how the cores were run. [own]
 use mathlib.Core.List.{IsPrefix}
 use Rattle.std.specs.Prelude.{◌≡◌, Bool, true, false, ◌||◌, Option, Some, is_some, List, [], ◌∷◌, filter, find}
 use Rattle.std.specs.Option.{option_map_or}
@@ -17,52 +17,56 @@ use Rattle.osrun.specs.Requests.{Calls, request_of_turn, calls_of, joined, item_
 abbrev pub ids_of : Plan → List CoreId
 ids_of plan = filter (λ id. is_some (core_of plan id)) core_ids
 
--- The items of a core in the lists of all, the oldest first; none of a core that has no list.
+-- The items of a core in the lists of all, the oldest first; none if the core has no list.
 abbrev pub items_of : List (CoreId × List Item) → CoreId → List Item
 items_of lists id = option_map_or (λ (p : CoreId × List Item). p.1) (find (λ p. same_core p.0 id) lists) []
 
--- A core's history by its items, by its own view of the configuration.
+-- A core's history after these items, by the core's own view of the configuration.
 abbrev pub history_by : Plan → CoreId → List Item → History
 history_by plan id items = history_from (view_of plan id) [] items
 
--- The stimuli among a core's items, and whether it has drained.
+-- The stimuli among a core's items.
 abbrev pub stimuli_in : List Item → List Stimulus
 stimuli_in [] = []
 stimuli_in (Item.Stim s ∷ items) = s ∷ stimuli_in items
 stimuli_in (item ∷ items) = stimuli_in items
 
+-- The core drains by this item.
 abbrev pub is_drain : Item → Bool
 is_drain Item.Drained = true
 is_drain item = false
 
+-- The core has drained: one of its items is `Drained`.
 abbrev pub has_drained : List Item → Bool
 has_drained [] = false
 has_drained (item ∷ items) = is_drain item || has_drained items
 
--- A core's items: each in turn may be taken; its stimuli begin the listed ones, and are all of them if it has drained and is neither
--- down nor halted.
+-- A core can take each of these items in order. The stimuli among them are a prefix of the listed ones. If the core has
+-- drained and is neither down nor halted, they are all of the listed ones.
 pub record FitsCore (plan : Plan) (stimuli : List CoreStimuli) (id : CoreId) (items : List Item) : Type 0 where
   pub alone : solo (view_of plan id) items ≡ Some (history_by plan id items)
   pub begins : IsPrefix (stimuli_in items) (stimuli_of stimuli id)
   pub drains : has_drained items ≡ true → is_going (course_of (history_by plan id items)) ≡ true → stimuli_in items ≡ stimuli_of stimuli id
 
--- Some turn of the core makes this request, and the reply results in this item.
+-- After this history, some turn of the core makes this request, with some next stimulus or none. The reply `answer`
+-- results in this item.
 pub record ResultsIn (v : View) (h : History) (request : Request) (answer : Reply) (item : Item) : Type 0 where
   pub choice : Choice
   pub next : Option Stimulus
   pub asks : request_of_turn v h next choice ≡ Some request
   pub names : item_for_reply v h request answer ≡ Some item
 
--- Each of these items in turn is the result of a reply, and the calls of the board and the spinlocks among them are these, in order.
+-- After this history, each of these items, in order, results from a request and its reply. `calls` are the calls of the
+-- board and the spinlocks among these requests, with their replies.
 abbrev pub AreAnswered : View → History → List Item → Calls → Type 0
 AreAnswered v h [] calls = calls ≡ no_calls
 AreAnswered v h (i ∷ is) calls =
     (request : Request) × (answer : Reply) × ResultsIn v h request answer i
     × (rest : Calls) × (calls ≡ joined (call_of_turn v.core request answer) rest) × AreAnswered v (after v h i) is rest
 
--- The lists fit by one history of the board and one of the spinlocks: each core's items do; what one core received from
--- another begins what that one posted; the histories are legal, and in them each core's calls stand once each, in its
--- order.
+-- The item lists fit by `calls`, one history of the board and one of the spinlocks. Each core's items fit (`FitsCore`).
+-- What a core received from another is a prefix of what that one posted to it. Both histories are legal. Each core's
+-- calls in them are exactly those from which its items result, in the core's order.
 pub record FitsBy (plan : Plan) (stimuli : List CoreStimuli) (lists : List (CoreId × List Item)) (calls : Calls) : Type 0 where
   pub cores : (id : CoreId) → FitsCore plan stimuli id (items_of lists id)
   pub streams : (from to : CoreId) → IsPrefix (received from (history_by plan to (items_of lists to))) (posted to (history_by plan from (items_of lists from)))
@@ -70,6 +74,6 @@ pub record FitsBy (plan : Plan) (stimuli : List CoreStimuli) (lists : List (Core
   pub spins : IsLegal spinlocks tt calls.spins
   pub answers : (id : CoreId) → AreAnswered (view_of plan id) [] (items_of lists id) (calls_of id calls)
 
--- The lists fit: there are such histories.
+-- The lists fit: there are histories of the board and the spinlocks by which they fit.
 abbrev pub Fits : Plan → List CoreStimuli → List (CoreId × List Item) → Type 0
 Fits plan stimuli lists = (calls : Calls) × FitsBy plan stimuli lists calls

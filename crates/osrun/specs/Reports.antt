@@ -4,20 +4,23 @@ use Rattle.osbase.specs.{declared.references.CoreId.CoreId, declared.items.Agree
 use Rattle.osplan.specs.declared.plans.Plan.{Plan}
 use Rattle.osrun.specs.Fits.{history_by}
 
--- The item ends its core: the end of a shutdown, or a first gate that met a conflict.
--- [AUTOSAR SWS OS 4.x, SWS_Os_00608 to SWS_Os_00610, for the conflict; that a core drains and closes is this project's own]
+-- The item ends its core: its last look for a shutdown of all cores, or a first gate at which the cores' modes are in
+-- conflict.
+-- [AUTOSAR SWS OS 4.x, SWS_Os_00608 to SWS_Os_00610, for the conflict; that a core drains and closes is this project's
+-- own]
 abbrev pub is_end : Item → Bool
 is_end (Item.Last shutdown) = true
 is_end (Item.Pass1 Agreement.Conflict) = true
 is_end item = false
 
--- The last of the items does.
+-- The last of the items ends its core.
 abbrev pub end_by : List Item → Bool
 end_by [] = false
 end_by (item ∷ []) = is_end item
 end_by (item ∷ items) = end_by items
 
--- The report of items: the marks that the core prints by them, by its own view of the configuration, and whether they end.
+-- The report of a core with these items: the marks that the core prints by them in its own view, and whether the last
+-- item ends the core.
 abbrev pub report_by : Plan → CoreId → List Item → Report
 report_by plan id items = record {
   core = id;
@@ -31,6 +34,6 @@ report_by plan id items = record {
 abbrev pub unclocked : Report → Report
 unclocked report = record report { clocks = [] }
 
--- A report says what its own items say. Of their clocks nothing is said.
+-- Without its clocks, the report is that of its own items (`report_by`). Nothing is said of the clocks.
 abbrev pub IsOwn : Plan → Report → Type 0
 IsOwn plan report = unclocked report ≡ report_by plan report.core report.items

@@ -1,5 +1,5 @@
--- The promise about a run, said of what was given (configuration and listed stimuli) and of the reports, and of nothing
--- else: whoever runs the cores, in turns or otherwise, can promise it.
+-- The promise about a run. It relates the reports to the configuration and the listed stimuli, and to nothing else. So
+-- any way to run the cores, in turns or otherwise, can make it.
 use mathlib.Core.List.{IsPrefix}
 use Rattle.std.specs.Prelude.{◌≡◌, ℕ, true, if◌then◌else◌, IsTrue, Some, List, ◌∷◌, [], ◌++◌, map}
 use Rattle.std.specs.List.{AllByRecursion}
@@ -15,38 +15,40 @@ pub use Rattle.osrun.specs.Reports.{IsOwn, end_by, is_end, report_by, unclocked}
 
 -- ---- a separate core
 
--- The result of the first gate for one core alone: the mode that it names.
+-- The result of the first gate for one core alone: the mode that the core names, if it names one.
 abbrev pub own_agreement : CoreMode → Agreement
 own_agreement (Named m) = Agreement.Mode m
 own_agreement DontCare = Agreement.NoMode
 
--- Each gate, with its result for this core alone.
+-- The items by which this core alone reaches and passes both gates.
 abbrev pub gate_items : Plan → CoreId → List Item
 gate_items plan id = Item.Entered ∷ Item.Pass1 (own_agreement (view_of plan id).own.mode) ∷ Item.Readied ∷ Item.Pass2 (with_core id no_cores) ∷ []
 
--- The stimuli that a core alone takes from here on, one after the other: all of these, or those up to the first by which it goes
--- down.
+-- The stimuli that a core alone takes after this history, in order: all of these, or those up to the first by which the
+-- core goes down.
 abbrev pub until_down : View → History → List Stimulus → List Stimulus
 until_down v h [] = []
 until_down v h (s ∷ stimuli) = if is_going (course_of h) then s ∷ until_down v (after v h (Item.Stim s)) stimuli else []
 
--- What a core alone takes: each gate, its stimuli in order up to the first by which it goes down, and that it has drained.
+-- The items that a core alone takes: those of both gates, its stimuli in order up to the first by which it goes down,
+-- and at last `Drained`.
 -- [own]
 abbrev pub alone_items : Plan → List CoreStimuli → CoreId → List Item
 alone_items plan stimuli id =
     gate_items plan id
     ++ map Item.Stim (until_down (view_of (cut_of plan id) id) (history_by (cut_of plan id) id (gate_items plan id)) (stimuli_of stimuli id)) ++ Item.Drained ∷ []
 
--- The report of these items by the core's own configuration, and its text, with the names of that configuration. [own]
+-- The report of a core alone: of its `alone_items`, by the core's own configuration. [own]
 abbrev pub alone_report : Plan → List CoreStimuli → CoreId → Report
 alone_report plan stimuli id = report_by (cut_of plan id) id (alone_items plan stimuli id)
 
+-- The text of `alone_report`, with the names of the core's own configuration. [own]
 abbrev pub alone_block : Plan → List CoreStimuli → CoreId → List ℕ
 alone_block plan stimuli id = block_of (cut_of plan id) (alone_report plan stimuli id)
 
--- A separate core that took these items prints a prefix of what its configuration alone prints, and all of it once it has
--- drained. This holds of the marks, and of their text, the block. If it has ended, it has drained. Alone it may take each of
--- those items in turn. [own]
+-- A separate core that took these items prints a prefix of what its configuration alone prints, and all of it once it
+-- has drained. This holds of the marks, and of their text, the block. If the core has ended, it has drained. Alone, it
+-- can take each of the items of `alone_items` in turn. [own]
 pub record IsAlone (plan : Plan) (stimuli : List CoreStimuli) (id : CoreId) (items : List Item) : Type 0 where
   pub begins : IsPrefix (report_by plan id items).marks (alone_report plan stimuli id).marks
   pub whole : has_drained items ≡ true → (report_by plan id items).marks ≡ (alone_report plan stimuli id).marks
@@ -55,7 +57,7 @@ pub record IsAlone (plan : Plan) (stimuli : List CoreStimuli) (id : CoreId) (ite
   pub ends : end_by items ≡ true → has_drained items ≡ true
   pub alone : solo (view_of (cut_of plan id) id) (alone_items plan stimuli id) ≡ Some (history_by (cut_of plan id) id (alone_items plan stimuli id))
 
--- Each separate core of these lists is.
+-- `IsAlone` holds of each separate core of these lists.
 abbrev pub ArePrintedAlone : Plan → List CoreStimuli → List (CoreId × List Item) → Type 0
 ArePrintedAlone plan stimuli lists = (id : CoreId) → IsTrue (is_separate plan id) → IsAlone plan stimuli id (items_of lists id)
 
@@ -65,11 +67,11 @@ ArePrintedAlone plan stimuli lists = (id : CoreId) → IsTrue (is_separate plan 
 abbrev pub lists_in : List Report → List (CoreId × List Item)
 lists_in reports = map (λ (r : Report). (r.core, r.items)) reports
 
--- The promise. The reports are those of the configured cores, ascending, one each; each says what its own items say; the
--- items fit one another, the listed stimuli and what the cores share: stimuli, mailboxes, the spinlocks and the shared board
--- each have one order that all cores' items agree with; each separate core, one that names no other core's object and no
--- spinlock and that no other core names, prints what its configuration alone prints; and the items of a
--- group of cores, in which no core outside has a say, fit by the group's own configuration and print the same there. [own]
+-- The promise. The reports are those of the configured cores, ascending, one each. Each is the report of its own items
+-- (`IsOwn`). The items fit one another, the listed stimuli and what the cores share: stimuli, mailboxes, the spinlocks
+-- and the shared board each have one order that all cores' items agree with. A separate core is one that names no other
+-- core's object and no spinlock, and that no other core names. It prints what its configuration alone prints. The items
+-- of a group of cores on which no other core acts fit by the group's own configuration and print the same by it. [own]
 pub record AreSound (plan : Plan) (stimuli : List CoreStimuli) (reports : List Report) : Type 0 where
   pub cores : map (λ (r : Report). r.core) reports ≡ ids_of plan
   pub own : AllByRecursion (IsOwn plan) reports

@@ -18,11 +18,12 @@ use osplan::{Config, Plan};
 use std::alloc::{AllocError, Global};
 use std::mem;
 
-/// A kernel of the sizes that every configuration within the limits fits: 32 priorities, 64 jobs, and an
+/// A kernel that is large enough for every configuration within the limits: 32 priorities, 64 jobs, and an
 /// outbox of `OUTBOX` letters.
 pub type CoreKernel<'a> = Kernel<'a, 32, 64, OUTBOX>;
 
-/// A core of a run: the configuration's plan, its kernel, the stimuli that are left, and what it took and printed so far.
+/// A core of a run: the configuration's plan, its kernel, the stimuli that are left, and what it took and printed so
+/// far.
 #[derive(Drop)]
 pub struct CoreRun<'a> {
     pub id: CoreId,
@@ -38,8 +39,8 @@ pub struct CoreRun<'a> {
 impl<'a> CoreRun<'a> {
     ghost use Rattle.osrun.specs.CoreRuns.{HasRoomForItem, Keeps, Took, is_ended_phase};
 
-    /// The core at the beginning of a run, with room for the items and lines that its stimuli are likely to
-    /// bring, which then need not be moved while they grow. Where so much is refused it begins with none.
+    /// The core at the start of a run. It has room for the items and lines that its stimuli usually bring, so its
+    /// vectors rarely grow. A vector whose allocation fails starts without room.
     pub fn new(alloc: Global, config: &'a Config, id: CoreId, stimuli: &'a [CoreStimuli]) -> Self
         requires { IsSome (core_of config.now id) }
         ensures plan { result.plan.now ≡ config.now }
@@ -56,13 +57,13 @@ impl<'a> CoreRun<'a> {
             plan: config.plan(),
             kernel: Kernel::new(config, id),
             stimuli,
-            // A stimulus is taken to bring itself and a letter, and three lines.
+            // This assumes two items (the stimulus and a letter) and three lines for each stimulus.
             items: roomy(alloc, ahead.saturating_mul(2)),
             marks: roomy(alloc, ahead.saturating_mul(3)),
         }
     }
 
-    /// The request of a turn. The kernel is asked what the core wants for the core's own turn alone.
+    /// The request of the turn `choice`. `None` if it is the core's own turn and the core wants nothing.
     #[inline(always)]
     pub fn request_of_turn(&self, choice: Choice) -> Option<Request>
         ensures value { result ≡ request_by (view_of self.now.plan.now self.now.id) (want_in self.now.kernel) (watch_in self.now.kernel) (slice_get self.now.stimuli.now 0) choice }
@@ -78,12 +79,12 @@ impl<'a> CoreRun<'a> {
         }
     }
 
-    /// The item in which the reply results for this core; `None` if it results in none.
+    /// The item that results when this core makes the request and gets the answer. `None` if no item results.
     #[inline(always)]
     pub fn item_for_reply(&self, request: Request, answer: &Reply) -> Option<Item>
         ensures { result ≡ item_by self.now.id (watch_in self.now.kernel) request answer.now }
     {
-        // The kernel is asked what the core watches for only after a reply of the board: most turns request something else.
+        // Only a call of the board asks the kernel what the core watches for: most turns request something else.
         let watch = match request {
             Request::OfBoard(_) => self.kernel.watch(),
             _ => Watch::Nothing,
@@ -91,7 +92,8 @@ impl<'a> CoreRun<'a> {
         item_for_reply(self.id, watch, request, answer)
     }
 
-    /// Makes room for one more item and all lines that it may print. Without memory nothing changes.
+    /// Makes room for one more item and all lines that it may print. Nothing else of the core changes, even if an
+    /// allocation fails.
     #[inline(always)]
     pub fn make_room(&mut self) -> Result<(), AllocError>
         ensures room { OnOk result (HasRoomForItem self.new) }
@@ -101,7 +103,8 @@ impl<'a> CoreRun<'a> {
         self.marks.reserve(STEP_MARKS)
     }
 
-    /// Takes an item: the kernel steps, and a stimulus is used up.
+    /// Takes an item: appends it to the core's items, and the kernel takes one step, which may print lines. A stimulus
+    /// is removed from the stimuli that are left.
     #[inline(always)]
     pub fn take(&mut self, item: Item)
         requires room { HasRoomForItem self.old }
@@ -124,8 +127,8 @@ impl<'a> CoreRun<'a> {
         matches!(self.kernel.phase(), Phase::Ended)
     }
 
-    /// The core's report, without clocks. Its items and lines are moved out, and its kernel stays where it is,
-    /// since moving that costs more than all else at the end of a short run.
+    /// The core's report, without clocks. This moves the items and lines out and leaves the kernel where it is,
+    /// since moving the kernel costs more than all else at the end of a short run.
     pub fn report(&mut self) -> Report
         ensures { result ≡ record { core = self.old.id; items = self.old.items.items; clocks = []; marks = self.old.marks.items; ended = is_ended_phase self.old.kernel.progress.phase } }
     {
@@ -140,7 +143,7 @@ impl<'a> CoreRun<'a> {
     }
 }
 
-/// An empty vector with room for so many, or with none where that is refused.
+/// An empty vector with room for `capacity` elements, or with no room if the allocation fails.
 pub fn roomy<T>(alloc: Global, capacity: usize) -> Vec<T>
     ensures { result.items ≡ [] }
 {

@@ -10,15 +10,16 @@ ghost use Rattle.osspin.specs.Spins.{IsRefusedCall, SpinEntry, holder_of, is_hel
 ghost use Rattle.osspin.specs.{declared.calls.SpinAction.TheVariants.Free, declared.calls.SpinReply.TheVariants.Answered};
 ghost use Rattle.osrun.specs.{Requests.Calls, Ends.have_all_ended, Fits.AreAnswered, Fits.has_drained, Fits.items_of, Sound.AreSound, Sound.lists_in};
 
-/// Where every started core has ended, each separate core was started and has drained. So its block is all that its
-/// configuration alone prints (`IsAlone`).
+/// If every started core has ended, each separate core was started and has drained. So by `IsAlone`, the separate core
+/// prints all that its configuration alone prints.
 pub fn separate_cores_have_drained_where_all_have_ended()
     ensures { (plan : Plan) (stimuli : List CoreStimuli) (reports : List Report) → IsTrue (is_within_limits plan) → AreSound plan stimuli reports
         → IsTrue (have_all_ended plan reports) → (id : CoreId) → IsTrue (is_separate plan id) → has_drained (items_of (lists_in reports) id) ≡ true }
 {}
 
-/// The spinlocks that a core got by its items are those that it holds, in every history of all cores' calls in which its own are
-/// those of its items and any that were refused. So the release of a spinlock that it got is never refused.
+/// Take a legal history of all cores' spinlock calls. In it, this core's calls are those of its items, besides refused
+/// ones. The core then holds exactly the spinlocks that it got by its items, so a release of one of them is never
+/// refused.
 pub fn a_core_holds_the_spinlocks_that_it_got()
     ensures holds { (l : SpinlockId) → l.index < SPINLOCKS → (v : View) (items : List Item) (calls : Calls) → solo v items ≡ Some (history_from v [] items)
         → AreAnswered v [] items calls → (all : List SpinEntry) → IsLegal spinlocks tt all → Thinned IsRefusedCall (calls_by v.core all) calls.spins

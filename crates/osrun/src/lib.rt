@@ -1,4 +1,4 @@
-//! What a turn of a core asks, and a core of a run by itself, whoever gives it its turns.
+//! What a turn of a core requests, and one core of a run, whatever gives the core its turns.
 #![tactic(auto)]
 
 pub mod core_runs;

@@ -1,4 +1,4 @@
-//! What a turn of a core requests of what it shares with the others, and the item in which the reply results.
+//! What a turn of a core requests of the board, the spinlocks and the mailboxes, and the item that then results.
 
 ghost use Rattle.std.specs.Prelude.{◌≡◌};
 ghost use Rattle.osbase.specs.declared.references.CoreId.{CoreId as CoreIdValue};
@@ -11,8 +11,8 @@ use oskernel::{SpinWish, Want, Watch};
 use osplan::Plan;
 use osspin::{SpinAction, SpinCall, SpinReply};
 
-/// The call of the spinlocks that a wish is: two are tries to take it (AUTOSAR SWS OS 4.x, GetSpinlock,
-/// TryToGetSpinlock and ReleaseSpinlock).
+/// The spinlock call for a wish: GetSpinlock and TryToGetSpinlock both try to take the spinlock, and ReleaseSpinlock
+/// frees it (AUTOSAR SWS OS 4.x).
 pub fn spin_call_of(wish: SpinWish) -> SpinCall
     ensures { result ≡ spin_call_of wish }
 {
@@ -35,13 +35,13 @@ pub enum Request {
     OfBoard(BoardCall),
     /// A call of the spinlocks.
     OfSpins(SpinWish),
-    /// Room for the front of the outbox in the mailbox for that core.
+    /// Room in the mailbox for that core, for the first letter of the outbox.
     Room(CoreId),
     /// The oldest letter from that core.
     Oldest(CoreId),
-    /// Nothing: StartCore of a core that is not configured.
+    /// Nothing: the turn is a StartCore of a core that is not configured.
     StartUnknown(CoreId),
-    /// Nothing: the core's next stimulus.
+    /// Nothing: the turn takes the core's next stimulus.
     TakeStimulus(Stimulus),
 }
 
@@ -60,7 +60,7 @@ pub enum Reply {
     Unasked,
 }
 
-/// The request of a core's own turn, by what it wants and its next stimulus; `None` if it wants nothing.
+/// The request of a core's own turn, by what the core wants and its next stimulus; `None` if the core wants nothing.
 #[inline(always)]
 pub fn own_request(plan: &Plan, id: CoreId, want: Want, next: Option<Stimulus>) -> Option<Request>
     ensures { result ≡ own_request (view_of plan.now id) next want }
@@ -78,7 +78,8 @@ pub fn own_request(plan: &Plan, id: CoreId, want: Want, next: Option<Stimulus>) 
     }
 }
 
-// StartCore of a core that is not configured is answered without the board (AUTOSAR SWS OS 4.x, StartCore).
+// The request of a StartCore: a call of the board if the core is configured. Otherwise StartCore is answered without
+// the board (AUTOSAR SWS OS 4.x, StartCore).
 fn start_request(core: CoreId, is_configured: bool) -> Request
     ensures { result ≡ start_request core is_configured }
 {
@@ -89,13 +90,14 @@ fn start_request(core: CoreId, is_configured: bool) -> Request
     }
 }
 
-// Every core sees alike which cores are configured.
+// Whether the core is configured. The answer is the same in every core's view.
 fn is_configured(plan: &Plan, core: CoreId) -> bool
     ensures { (id : CoreIdValue) → result ≡ is_configured (view_of plan.now id) core }
 {
     plan.core(core).is_some()
 }
 
+// The application mode that the core names. `DontCare` if it names none, or is not configured.
 fn mode_of(plan: &Plan, id: CoreId) -> CoreMode
     ensures { result ≡ (view_of plan.now id).own.mode }
 {
@@ -105,7 +107,7 @@ fn mode_of(plan: &Plan, id: CoreId) -> CoreMode
     }
 }
 
-// The next stimulus, or else the core drains.
+// The request to take the next stimulus, or to drain the core if there is none.
 fn next_request(next: Option<Stimulus>) -> Request
     ensures { result ≡ next_request next }
 {
@@ -115,7 +117,7 @@ fn next_request(next: Option<Stimulus>) -> Request
     }
 }
 
-/// The request of a look: each loads one word of the board.
+/// The request of a look: a load of one word of the board. What the core watches for decides which word.
 pub fn look_request(watch: Watch) -> Request
     ensures { result ≡ look_request watch }
 {
@@ -126,8 +128,8 @@ pub fn look_request(watch: Watch) -> Request
     }
 }
 
-/// The item in which the reply results for a core that watches for this; `None` if it results in none, as at a gate that
-/// is still closed.
+/// The item that results when core `id`, whose look waits for `watch`, makes the request and gets the answer. `None` if
+/// no item results, for example at a gate that is still closed.
 #[inline(always)]
 pub fn item_for_reply(id: CoreId, watch: Watch, request: Request, answer: &Reply) -> Option<Item>
     ensures { result ≡ item_by id watch request answer.now }
@@ -150,6 +152,7 @@ pub fn item_for_reply(id: CoreId, watch: Watch, request: Request, answer: &Reply
     }
 }
 
+// The item that results from the board's reply to this call. `None` if no item results.
 fn item_of_board(id: CoreId, watch: Watch, call: BoardCall, reply: &BoardReply) -> Option<Item>
     ensures { result ≡ item_of_board id watch call reply.now }
 {
@@ -169,7 +172,8 @@ fn item_of_board(id: CoreId, watch: Watch, call: BoardCall, reply: &BoardReply) 
     }
 }
 
-// A gate opens once all started cores have reached it (AUTOSAR SWS OS 4.x, SWS_Os_00579 and SWS_Os_00580).
+// The item that results from what a look shows of the board, if one does. A core is on once it is started. A gate opens
+// once all started cores have reached it (AUTOSAR SWS OS 4.x, SWS_Os_00579 and SWS_Os_00580).
 fn item_of_look(id: CoreId, view: &BoardView, watch: Watch) -> Option<Item>
     ensures { result ≡ item_of_look id view.now watch }
 {
@@ -181,7 +185,8 @@ fn item_of_look(id: CoreId, view: &BoardView, watch: Watch) -> Option<Item>
     }
 }
 
-// A core that has drained closes where the cores have that were started when its second gate opened.
+// The item that results when a look shows these drained cores, if one does. A core that has drained goes on to its end
+// once all cores that were started when its second gate opened have drained.
 fn item_of_drained(watch: Watch, drained: &CoreSet) -> Option<Item>
     ensures { result ≡ item_of_drained watch drained.now }
 {
@@ -191,8 +196,9 @@ fn item_of_drained(watch: Watch, drained: &CoreSet) -> Option<Item>
     }
 }
 
-// A core halts once a shutdown of all cores was requested, and learns at its end whether one was (AUTOSAR SWS OS
-// 4.x, ShutdownAllCores).
+// The item that results when a look shows who requested a shutdown of all cores, if one does. A core that watches for a
+// shutdown halts once one was requested. A core at its end learns whether one was requested (AUTOSAR SWS OS 4.x,
+// ShutdownAllCores).
 fn item_of_halt(watch: Watch, halt: Option<(CoreId, Status)>) -> Option<Item>
     ensures { result ≡ item_of_halt watch halt }
 {
@@ -203,7 +209,7 @@ fn item_of_halt(watch: Watch, halt: Option<(CoreId, Status)>) -> Option<Item>
     }
 }
 
-// This core requested the shutdown first, with this status.
+// The halt item, with the core that requested the shutdown first and the status of that request.
 fn halt_by(asked: (CoreId, Status)) -> Item
     ensures { result ≡ Item.Halt asked.0 asked.1 }
 {
@@ -211,7 +217,8 @@ fn halt_by(asked: (CoreId, Status)) -> Item
     Item::Halt { core, status }
 }
 
-// GetSpinlock returns once it took the spinlock, TryToGetSpinlock by either answer (AUTOSAR SWS OS 4.x).
+// The item that results from the reply to a spinlock call, if one does. GetSpinlock returns once it has taken the
+// spinlock, and ReleaseSpinlock once it has freed it. TryToGetSpinlock returns with either answer (AUTOSAR SWS OS 4.x).
 fn item_of_spinlock(wish: SpinWish, reply: SpinReply) -> Option<Item>
     ensures { result ≡ item_of_spinlock wish reply }
 {

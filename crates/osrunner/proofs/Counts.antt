@@ -10,7 +10,7 @@ use Rattle.osrunner.specs.Rows.{IsFlagged, flag_count, held_count, is_occupied, 
 same-itself : (n : ℕ) → nat_eq n n ≡ true
 same-itself n = eq-eqb n n refl
 
--- ---- a resource is among these exactly if it counts
+-- ---- a resource is held exactly if its count is not zero
 
 abbrev is_some_of : ℕ → Bool
 is_some_of zero = false
@@ -66,7 +66,7 @@ kept all occupied t new is same = record {
   once = λ n. total-kept n t all new same ∙ is.once n;
 }
 
--- ---- each counts once at most, so there are no more than resources
+-- ---- each resource is held at most once, so no job holds more than RESOURCES of them
 
 not-past : (i k : ℕ) → (k ≤ i → ⊥) → i < k
 not-past i k out = omega (arith, out)
@@ -98,7 +98,7 @@ past (flag ∷ flags) (suc n) h = past flags n (omega (arith, h))
 abbrev pub lowered : Row → Row
 lowered row = record row { held = drop 1 row.held }
 
--- A free resource has its place.
+-- If a resource is free, the list of what a job holds has room for it.
 pub room : (all : List Row) (occupied : List Bool) (t : ℕ) (x : HeldResource) → IsFlagged all occupied → length occupied ≡ RESOURCES → x.index < RESOURCES → is_occupied x.index all ≡ false → length (row_at t all).held < RESOURCES
 room all occupied t x is flags known free = omega (arith, few-held (x ∷ (row_at t all).held) none once)
   where
@@ -156,7 +156,7 @@ newest : (n : ℕ) (held : List HeldResource) (x : HeldResource) → slice_get h
 newest n [] x e = cc
 newest n (y ∷ held) x e = let same : y ≡ x = cc in ap (λ (z : HeldResource). held_count n (z ∷ held)) same
 
--- What is held has its flag.
+-- A held resource has a flag.
 pub place-of : (all : List Row) (occupied : List Bool) (t : ℕ) (x : HeldResource) → IsFlagged all occupied → slice_get (row_at t all).held 0 ≡ Some x → x.index < length occupied
 place-of all occupied t x is e = not-past x.index (length occupied) out
   where
@@ -166,7 +166,7 @@ place-of all occupied t x is e = not-past x.index (length occupied) out
         let here : held_count x.index (row_at t all).held ≡ suc (held_count x.index (drop 1 (row_at t all).held)) = newest x.index (row_at t all).held x e ∙ first-counts x (drop 1 (row_at t all).held) in
         omega (arith, held_at-within x.index t all, none, here)
 
--- Who holds anything has a place.
+-- A job that holds a resource has a row.
 within : (t : ℕ) (all : List Row) (x : HeldResource) → slice_get (row_at t all).held 0 ≡ Some x → t < length all
 within t [] x e = cc
 within zero (row ∷ all) x e = omega arith

@@ -7,9 +7,9 @@ use Rattle.osbase.specs.{declared.limits.TheConstants.RESOURCES, declared.marks.
 use Rattle.osbase.specs.History.{History, Entry, Printed, Noted, ResourceOccupied, ResourceReleased, InterruptsSuspended, InterruptsResumed, Done, same_runner}
 use Rattle.oscript.specs.declared.Op.{Op}
 use Rattle.oscript.specs.Runners.{Row, row_after, row_by, row_of, row_step, runner_of}
-use Rattle.osrunner.specs.Laws.{is_running, is_tick, lock_ticks_of, takes_lock}
+use Rattle.osrunner.specs.Laws.{is_running, is_tick, lock_ticks_of, takes_resource}
 
--- there is a number for each resource
+-- the row has a count of lock ticks for each resource
 long : (script : List Op) (r : Runner) (h : History) → length (row_of script r h).lock_used ≡ RESOURCES
 long script r [] = refl
 long script r (e ∷ h) = by (runner_of (runner_of_job (running_job h)) e) (long script r h)
@@ -66,7 +66,7 @@ lock-used-since script r index (e ∷ h) below = of e (lock-used-since script r 
         by false = same
 
     of : (e : Entry) → get_or row.lock_used index 0 ≡ ticks
-        → get_or (row_after script r running e row).lock_used index 0 ≡ cond (takes_lock r index e) 0 (cond (is_tick e && is_running r h) (suc ticks) ticks)
+        → get_or (row_after script r running e row).lock_used index 0 ≡ cond (takes_resource r index e) 0 (cond (is_tick e && is_running r h) (suc ticks) ticks)
     of (Printed Mark.Tick) same = ticked running same
     of (Noted (ResourceOccupied q x)) same = taken (same_runner q r) x (x.index == index) refl same
     of (Printed (Mark.Terminated t)) same = kept (same_runner (Runner.Task t) r) (row_step script (Printed (Mark.Terminated t)) row) refl same

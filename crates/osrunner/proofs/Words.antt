@@ -25,7 +25,7 @@ cleared-word (suc zero) (suc zero) word h k e = refl
 cleared-word (suc (suc x)) y word h k e = absurd (omega (arith, h))
 cleared-word x (suc (suc y)) word h k e = absurd (omega (arith, k))
 
--- each kind of entry that concerns a task's row, as it is this task's or another's
+-- an activation, events that are set, and events that are cleared: each for this task's row and for another's
 word-begun : (mine : Bool) (event : ℕ) (row : Row) (before : Bool) → is_in_mask row.events.set event ≡ before → is_in_mask (cond mine (record row { events = with_none_set row.events }) row).events.set event ≡ unwrap_or (cond mine (Some false) None) before
 word-begun true event row before e = ap (λ n. nat_eq n 1) (bit_at-zero event)
 word-begun false event row before e = e
@@ -43,7 +43,7 @@ word-cleared true mask event row before small below e =
     ∙ cleared-word (bit_at row.events.set event) (bit_at mask event) before (bit_at-lt row.events.set event) (bit_at-lt mask event) e
 word-cleared false mask event row before small below e = e
 
--- and each that sets and clears none
+-- an entry that sets and clears no event
 word-kept : (mine : Bool) (event : ℕ) (new row : Row) (before : Bool) → new.events.set ≡ row.events.set → is_in_mask row.events.set event ≡ before → is_in_mask (cond mine new row).events.set event ≡ before
 word-kept true event new row before same e = ap (λ set. is_in_mask set event) same ∙ e
 word-kept false event new row before same e = e

@@ -1,5 +1,5 @@
-//! What belongs to each task and ISR of a core: the resources that its oldest job holds, its events, where that job
-//! stands in its script, how often it has suspended interrupts, and how much of its budget it has used.
+//! The row of each task and ISR of a core: its events, the resources that its oldest job holds, the place of that job
+//! in its script, how often it has suspended interrupts, and how much of its budget it has used.
 //!
 //! Nothing here takes memory.
 #![tactic(auto)]

@@ -13,7 +13,7 @@ use osbase::{HeldResource, RESOURCES, RUNNERS, Runner, Status, TaskEvents};
 use osbudget::{LockUsed, Used};
 use oscript::{Action, Frame, Op};
 use osevent::{no_events, with_awaited};
-use osres::{Held, Locks};
+use osres::{Held, Suspensions};
 use std::marker::Model;
 
 // What belongs to one task or ISR.
@@ -22,7 +22,7 @@ struct RunnerRow {
     held: Held,
     events: TaskEvents,
     frame: Frame,
-    locks: Locks,
+    suspensions: Suspensions,
     used: Used,
     lock_used: LockUsed,
 }
@@ -32,11 +32,11 @@ impl Model for RunnerRow {
 
     ghost Value = { Row };
 
-    ghost view = { λ row. record { held = row.held; events = row.events; frame = row.frame; depth = row.locks; used = row.used; lock_used = row.lock_used } };
+    ghost view = { λ row. record { held = row.held; events = row.events; frame = row.frame; depth = row.suspensions; used = row.used; lock_used = row.lock_used } };
 }
 
 impl RunnerRow {
-    // Before the first job.
+    // The row before the first job.
     fn new() -> Self
         ensures { result ≡ first_row }
     {
@@ -44,7 +44,7 @@ impl RunnerRow {
             held: Held::new(),
             events: no_events(),
             frame: Frame::new(),
-            locks: Locks::new(),
+            suspensions: Suspensions::new(),
             used: Used::new(),
             lock_used: LockUsed::new(),
         }
@@ -59,12 +59,12 @@ impl Default for RunnerRow {
     }
 }
 
-/// The rows of a core's tasks and ISRs, by their places. No resource is held twice. A call for a runner that no core has
-/// a place for changes nothing.
+/// The rows of a core's tasks and ISRs, by their places. No resource is held twice. A call for a runner that has no row
+/// changes nothing.
 #[derive(Drop)]
 pub struct Rows {
     rows: ArrayVec<RunnerRow, RUNNERS>,
-    // Whether a job holds the resource, by its index, so that nobody looks through what others hold.
+    // Whether a job holds each resource, by the resource's index. It saves a search through all rows.
     occupied: [bool; RESOURCES],
 }
 
@@ -81,7 +81,7 @@ impl Model for Rows {
 }
 
 impl Rows {
-    /// No runner had a job yet.
+    /// The rows before any task or ISR had a job.
     pub fn new() -> Self
         ensures { result ≡ replicate RUNNERS first_row }
     {
@@ -95,7 +95,8 @@ impl Rows {
         }
     }
 
-    /// The runner's oldest job takes a resource that is free (OSEK/VDX OS 2.2.3, section 8.2).
+    /// The runner's oldest job takes a resource that is free (OSEK/VDX OS 2.2.3, section 8.2). The ticks of the
+    /// resource's lock budget count from zero (the project's own).
     pub fn raise(&mut self, runner: Runner, resource: HeldResource)
         requires resource { resource.index < RESOURCES }
         requires free { is_occupied resource.index self.old ≡ false }
@@ -109,7 +110,8 @@ impl Rows {
         self.occupied[usize::from(resource.index)] = true;
     }
 
-    /// The runner's oldest job gives its newest resource back, if it holds one (OSEK/VDX OS 2.2.3, section 8.2).
+    /// If the runner's oldest job holds a resource, it gives back the newest one, which is returned (OSEK/VDX OS 2.2.3,
+    /// section 8.2).
     pub fn lower(&mut self, runner: Runner) -> Option<HeldResource>
         ensures newest { result ≡ slice_get (held_in runner self.old) 0 }
         ensures rest { self.new ≡ with_row runner (λ row. record row { held = drop 1 row.held }) self.old }
@@ -119,9 +121,9 @@ impl Rows {
         Some(resource)
     }
 
-    /// The runner's oldest job has ended: it gives back all that it holds and resumes interrupts, and the next one begins
-    /// at the first operation, with its whole budget (AUTOSAR SWS OS 4.x, SWS_Os_00070, for the resources; SWS_Os_00473 and, of
-    /// an ISR, SWS_Os_00474, for the budget).
+    /// The runner's oldest job ends, gives back all its resources and resumes interrupts. The runner's next job begins
+    /// at the first operation, with its whole budget (AUTOSAR SWS OS 4.x, SWS_Os_00070, for the resources; SWS_Os_00473
+    /// and, of an ISR, SWS_Os_00474, for the budget).
     pub fn end(&mut self, runner: Runner)
         ensures { self.new ≡ with_row runner ended self.old }
     {
@@ -131,8 +133,8 @@ impl Rows {
         rewind_at(&mut self.rows, runner.slot());
     }
 
-    /// The runner's job waits for one of these events; once it is released, it has its whole budget (OSEK/VDX OS 2.2.3,
-    /// section 13.5.3.4; AUTOSAR SWS OS 4.x, SWS_Os_00473).
+    /// The runner's task waits for one of the events in `mask`. Once the task is released, its job has its whole budget
+    /// (OSEK/VDX OS 2.2.3, section 13.5.3.4; AUTOSAR SWS OS 4.x, SWS_Os_00473).
     pub fn wait(&mut self, runner: Runner, mask: u32)
         ensures { self.new ≡ with_row runner (waiting_for mask) self.old }
     {
@@ -140,21 +142,21 @@ impl Rows {
     }
 
     /// The runner's oldest job suspends interrupts once more (OSEK/VDX OS 2.2.3, section 13.3.2.4).
-    pub fn lock_interrupts(&mut self, runner: Runner)
+    pub fn suspend_interrupts(&mut self, runner: Runner)
         ensures { self.new ≡ with_row runner (λ row. record row { depth = deeper row.depth }) self.old }
     {
-        lock_at(&mut self.rows, runner.slot());
+        suspend_interrupts_at(&mut self.rows, runner.slot());
     }
 
     /// The runner's oldest job resumes interrupts once (OSEK/VDX OS 2.2.3, section 13.3.2.3).
-    pub fn unlock_interrupts(&mut self, runner: Runner)
+    pub fn resume_interrupts(&mut self, runner: Runner)
         ensures { self.new ≡ with_row runner (λ row. record row { depth = shallower row.depth }) self.old }
     {
-        unlock_at(&mut self.rows, runner.slot());
+        resume_interrupts_at(&mut self.rows, runner.slot());
     }
 
-    /// The runner's oldest job has used one tick more of its budget (AUTOSAR SWS OS 4.x, SWS_Os_00028), and of the lock
-    /// budget of each resource that it holds (the project's own).
+    /// The runner's oldest job has used one tick more of its budget (AUTOSAR SWS OS 4.x, SWS_Os_00028). One tick more
+    /// is counted for the lock budget of each resource, held or not (the project's own).
     pub fn charge(&mut self, runner: Runner)
         requires count { used_in runner self.old < 2 ^ 63 }
         requires locks { All (λ ticks. ticks < 2 ^ 63) (lock_used_in runner self.old) }
@@ -179,16 +181,17 @@ impl Rows {
 
     /// Whether the runner's oldest job has suspended interrupts (OSEK/VDX OS 2.2.3, section 13.3.2.4).
     #[inline(always)]
-    pub fn is_locked(&self, runner: Runner) -> bool
+    pub fn has_suspended_interrupts(&self, runner: Runner) -> bool
         ensures { result ≡ nat_lt 0 (depth_in runner self.now) }
     {
         match self.rows.as_slice().get(runner.slot()) {
-            Some(row) => row.locks.is_locked(),
+            Some(row) => row.suspensions.has_suspended_interrupts(),
             None => false,
         }
     }
 
-    /// Whether the runner's oldest job has reached this budget, of ticks (AUTOSAR SWS OS 4.x, SWS_Os_00064).
+    /// Whether the runner's oldest job has reached this budget in ticks; a budget of 0 is none (AUTOSAR SWS OS 4.x,
+    /// SWS_Os_00064).
     pub fn is_spent(&self, runner: Runner, budget: u32) -> bool
         ensures { result ≡ is_reached budget (used_in runner self.now) }
     {
@@ -198,8 +201,8 @@ impl Rows {
         }
     }
 
-    /// Whether the ticks of the runner's jobs since one last took the resource of this index have reached this lock
-    /// budget (the project's own).
+    /// Whether the ticks of the runner's jobs, since one of them last took the resource of this index, have reached the
+    /// lock budget `lock`; 0 is none (the project's own).
     pub fn is_lock_spent(&self, runner: Runner, index: u8, lock: u32) -> bool
         ensures { result ≡ is_reached lock (slice_index_or (lock_used_in runner self.now) index 0) }
     {
@@ -235,7 +238,7 @@ impl Rows {
         row.held.newest()
     }
 
-    /// Whether the runner's oldest job holds none.
+    /// Whether the runner's oldest job holds no resource.
     pub fn is_free(&self, runner: Runner) -> bool
         ensures { result ≡ (length (held_in runner self.now) == 0) }
     {
@@ -245,7 +248,8 @@ impl Rows {
         }
     }
 
-    /// The greatest ceiling of what the runner's oldest job holds, 0 of none (OSEK/VDX OS 2.2.3, section 8.5).
+    /// The greatest ceiling of the resources that the runner's oldest job holds; 0 if it holds none (OSEK/VDX OS 2.2.3,
+    /// section 8.5).
     #[inline(always)]
     pub fn ceiling(&self, runner: Runner) -> u8
         ensures { result ≡ greatest_ceiling (held_in runner self.now) }
@@ -277,7 +281,7 @@ impl Rows {
         }
     }
 
-    /// Where the runner's oldest job stands, with the runner's variables.
+    /// Where the runner's oldest job is in its script, with the runner's variables.
     pub fn frame(&self, runner: Runner) -> Frame
         ensures { result ≡ frame_in runner self.now }
     {
@@ -306,6 +310,7 @@ impl Default for Rows {
     }
 }
 
+// The job at this place takes the resource, and the ticks of the resource's lock budget count from zero.
 fn raise_at(rows: &mut ArrayVec<RunnerRow, RUNNERS>, place: usize, resource: HeldResource)
     requires place { place < length rows.old.items }
     requires room { length (row_at place rows.old.items).held < RESOURCES }
@@ -317,6 +322,7 @@ fn raise_at(rows: &mut ArrayVec<RunnerRow, RUNNERS>, place: usize, resource: Hel
     row.lock_used.restart(resource.index);
 }
 
+// If the job at this place holds a resource, it gives back the newest one, which is returned.
 fn lower_at(rows: &mut ArrayVec<RunnerRow, RUNNERS>, place: usize) -> Option<HeldResource>
     ensures newest { result ≡ slice_get (row_at place rows.old.items).held 0 }
     ensures rest { rows.new.items ≡ with_row_at place (λ row. record row { held = drop 1 row.held }) rows.old.items }
@@ -329,6 +335,8 @@ fn lower_at(rows: &mut ArrayVec<RunnerRow, RUNNERS>, place: usize) -> Option<Hel
     row.held.lower()
 }
 
+// The job at this place has ended: the next one begins at the first operation, with interrupts resumed and its whole
+// budget. The resources are not given back here.
 fn rewind_at(rows: &mut ArrayVec<RunnerRow, RUNNERS>, place: usize)
     ensures { rows.new.items ≡ with_row_at place (λ row. record row { frame = rewound row.frame; depth = 0; used = 0 }) rows.old.items }
 {
@@ -336,11 +344,12 @@ fn rewind_at(rows: &mut ArrayVec<RunnerRow, RUNNERS>, place: usize)
     if place < rows.len() {
         let row = &mut rows[place];
         row.frame.rewind();
-        row.locks.give_back();
+        row.suspensions.give_back();
         row.used.reset();
     }
 }
 
+// The task at this place waits for one of the events in `mask`, and has its whole budget afterwards.
 fn wait_at(rows: &mut ArrayVec<RunnerRow, RUNNERS>, place: usize, mask: u32)
     ensures { rows.new.items ≡ with_row_at place (waiting_for mask) rows.old.items }
 {
@@ -352,26 +361,29 @@ fn wait_at(rows: &mut ArrayVec<RunnerRow, RUNNERS>, place: usize, mask: u32)
     }
 }
 
-fn lock_at(rows: &mut ArrayVec<RunnerRow, RUNNERS>, place: usize)
+// The job at this place suspends interrupts once more.
+fn suspend_interrupts_at(rows: &mut ArrayVec<RunnerRow, RUNNERS>, place: usize)
     ensures { rows.new.items ≡ with_row_at place (λ row. record row { depth = deeper row.depth }) rows.old.items }
 {
     let rows = rows.as_mut_slice();
     if place < rows.len() {
         let row = &mut rows[place];
-        row.locks.lock_interrupts();
+        row.suspensions.suspend_interrupts();
     }
 }
 
-fn unlock_at(rows: &mut ArrayVec<RunnerRow, RUNNERS>, place: usize)
+// The job at this place resumes interrupts once.
+fn resume_interrupts_at(rows: &mut ArrayVec<RunnerRow, RUNNERS>, place: usize)
     ensures { rows.new.items ≡ with_row_at place (λ row. record row { depth = shallower row.depth }) rows.old.items }
 {
     let rows = rows.as_mut_slice();
     if place < rows.len() {
         let row = &mut rows[place];
-        row.locks.unlock_interrupts();
+        row.suspensions.resume_interrupts();
     }
 }
 
+// The job at this place has used one tick more; one more is counted for the lock budget of each resource, held or not.
 fn charge_at(rows: &mut ArrayVec<RunnerRow, RUNNERS>, place: usize)
     requires count { (row_at place rows.old.items).used < 2 ^ 63 }
     requires locks { All (λ ticks. ticks < 2 ^ 63) (row_at place rows.old.items).lock_used }
@@ -385,6 +397,7 @@ fn charge_at(rows: &mut ArrayVec<RunnerRow, RUNNERS>, place: usize)
     }
 }
 
+// The task at this place has these events now.
 fn put_events_at(rows: &mut ArrayVec<RunnerRow, RUNNERS>, place: usize, events: TaskEvents)
     ensures { rows.new.items ≡ with_row_at place (λ row. record row { events = events }) rows.old.items }
 {
@@ -395,6 +408,7 @@ fn put_events_at(rows: &mut ArrayVec<RunnerRow, RUNNERS>, place: usize, events: 
     }
 }
 
+// An operation of the job at this place is done, with this status and value; the script is that job's.
 fn complete_at(
     rows: &mut ArrayVec<RunnerRow, RUNNERS>,
     place: usize,

@@ -5,7 +5,7 @@ ghost use Rattle.std.specs.Prelude.{◌≡◌, ◌↔◌, IsTrue};
 use crate::messages::{is_same_message, is_same_status};
 use osbase::{Agreement, CORES, CoreId, CoreSet, Item, Status, Stimulus};
 
-/// Whether these lists are the same.
+/// Whether these lists have the same items in the same order.
 pub fn are_same_items(left: &[Item], right: &[Item]) -> bool
     ensures { IsTrue result ↔ left.now ≡ right.now }
 {
@@ -78,6 +78,7 @@ pub fn is_same_item(left: Item, right: Item) -> bool
     }
 }
 
+// Whether both are none, or a shutdown of all cores that the same core requested with the same status.
 fn is_same_shutdown(left: Option<(CoreId, Status)>, right: Option<(CoreId, Status)>) -> bool
     ensures { IsTrue result ↔ left ≡ right }
 {

@@ -1,4 +1,4 @@
-//! Whether two items, letters or messages are the same. `==` answers so too, but no clause says what its answer means.
+//! Whether two items, letters or messages are the same. `==` gives this answer too, but no clause says what it means.
 #![tactic(auto)]
 
 pub mod items;

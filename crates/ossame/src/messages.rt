@@ -1,4 +1,4 @@
-//! Whether two letters, and what stands in them, are the same.
+//! Whether two letters, messages or statuses are the same.
 
 ghost use Rattle.std.specs.Prelude.{◌≡◌, ◌↔◌, IsTrue};
 

@@ -1,4 +1,4 @@
--- A name that stands once.
+-- Names that occur once.
 use Rattle.std.proofs.Common.{◌≡◌, ℕ, zero, suc, ◌+◌, Bool, true, false, not, cond, count_by, List, [], ◌∷◌, Option, Some, is_some, slice_get, refl, ap, ◌∙◌, arith}
 use Rattle.std.specs.{List.find, List.list_any, Str.bytes_eq}
 use Rattle.std.proofs.lemmas.{Bool.and_parts, Bool.false≢true, Option.same_Some, List.Sums.sum_by-cons, Slice.Eq.bytes_eq-Decides}
@@ -9,7 +9,7 @@ use Rattle.osschema.proofs.Indexing.{among}
 one-more : (here later : Bool) (x : Declaration) (found : Option Declaration) → (here ≡ true → later ≡ is_some found) → not later ≡ true → cond here 1 0 + cond (is_some found) 1 0 ≡ cond (is_some (cond here (Some x) found)) 1 0
 one-more here later x found same none = grind arith
 
--- Where no name stands twice, one object at most has a name,
+-- If no name occurs twice, at most one object has a given name.
 count-one : (name : List ℕ) (objects : List Declaration) → are_distinct (names_of objects) ≡ true → count_by (has_name name) objects ≡ cond (is_some (find (has_name name) objects)) 1 0
 count-one name [] apart = refl
 count-one name (x ∷ xs) apart =
@@ -17,11 +17,11 @@ count-one name (x ∷ xs) apart =
     let same = λ (here : has_name name x ≡ true). among x.name xs ∙ ap (λ n. is_some (find (has_name n) xs)) ((bytes_eq-Decides x.name name).0 here) in
     sum_by-cons (λ d. cond (has_name name d) 1 0) x xs ∙ rw (count-one name xs parts.1) (one-more (has_name name x) _ x (find (has_name name) xs) same parts.0)
 
--- so that of an object is its alone.
+-- So if an object has a name, exactly one object has it.
 pub alone_if : (objects : List Declaration) (name : List ℕ) → are_distinct (names_of objects) ≡ true → is_some (find (has_name name) objects) ≡ true → is_alone objects name ≡ true
 alone_if objects name apart some = rw (count-one name objects apart, some) refl
 
--- And an object at any place is the first of its name.
+-- If no name occurs twice, the object at any place is the first with its name.
 not-before : (here later : Bool) (x : Declaration) (found : Option Declaration) (d : Declaration) → (here ≡ true → later ≡ is_some found) → not later ≡ true → found ≡ Some d → cond here (Some x) found ≡ Some d
 not-before true later x found d same none is = absurd (false≢true (rw (same refl, is) at none))
 not-before false later x found d same none is = is

@@ -6,7 +6,7 @@ use Rattle.osplan.proofs.Tests.{any-find, any-mapped}
 use Rattle.osjson.proofs.Each.{drop-here}
 use Rattle.osschema.specs.{declared.declarations.Declaration.Declaration, Declarations.has_name, Index.index_in, Index.Indexes}
 
--- whether a name stands among those of objects
+-- whether a name is among the names of objects
 pub among : (name : List ℕ) (objects : List Declaration) → list_any (λ later. bytes_eq later name) (map (λ (d : Declaration). d.name) objects) ≡ is_some (find (has_name name) objects)
 among name objects = any-mapped (λ later. bytes_eq later name) (λ (d : Declaration). d.name) objects ∙ any-find (has_name name) objects
 
@@ -20,7 +20,7 @@ module _ {S : Type 0} (d : Declaration) (place : ℕ) (first more : HashMap (Bor
     apart = grind (arith, among d.name objects, so_far.known d.name);
   }
 
-  -- which is the object at a place
+  -- the same, if that object comes from a place of the list
   pub one_more : (objects : List Declaration) (next : ℕ) → next ≡ place + 1 → place < length objects → d ≡ get_or objects place d → Indexes objects first are_apart (drop next objects) → Indexes objects more (are_apart && is_new) (drop place objects)
   one_more objects next behind within is so_far =
       rw (drop-here objects place d within is) (in-front objects (drop (place + 1) objects) (slice_get-get_or objects place d within ∙ ap Some (sym is)) (rw behind at so_far))

@@ -1,4 +1,4 @@
--- The names that a text declares are those of its objects; they are in form, and so is each text that names one.
+-- The names that a text declares are those of its objects. They are in form, and so is each name that has a place.
 use Rattle.std.proofs.Common.{◌≡◌, ℕ, ◌+◌, true, List, [], ◌∷◌, ◌++◌, map, Option, Some, None, refl, sym, ap, ◌∙◌}
 use Rattle.std.specs.List.{list_all, enumerate_from, find, flat_map}
 use Rattle.std.specs.Option.{IfSome}
@@ -10,11 +10,11 @@ use Rattle.osschema.specs.{declared.shapes.ConfigText.ConfigText, declared.shape
 use Rattle.osschema.specs.Shape.{common_in, has_named_common, has_named_objects, is_named, objects_in}
 use Rattle.osschema.specs.Declarations.{common_of, declaration, declarations, declared_as, declared_by, has_name, id_of, names_of}
 
--- The names of objects of each kind,
+-- The names of the objects of these kinds.
 abbrev names_by : (ObjectKind → List Named) → List ObjectKind → List (List ℕ)
 names_by objects kinds = flat_map (λ kind. map (λ (named : Named). named.name) (objects kind)) kinds
 
--- and of all that stand in a text.
+-- The names of all objects in a text.
 abbrev pub text_names : ConfigText → List (List ℕ)
 text_names t = names_by (λ kind. common_in kind t) COMMON ++ flat_map (λ (core : CoreText). names_by (λ kind. objects_in kind core) KINDS) t.cores
 
@@ -35,7 +35,7 @@ cores-name (core ∷ cores) =
 pub names-text : (t : ConfigText) → names_of (declarations t) ≡ text_names t
 names-text t = map-append (λ (d : Declaration). d.name) (flat_map (common_of t) COMMON) (flat_map declared_by t.cores) ∙ rw (kinds-name NOBODY (λ kind. common_in kind t) COMMON, cores-name t.cores) refl
 
--- What is declared has a name in form,
+-- Each declared object has a name in form.
 pub declared-named : (t : ConfigText) → is_named t ≡ true → list_all (λ (d : Declaration). is_name d.name) (declarations t) ≡ true
 declared-named t named =
     let parts = and_parts (has_named_common t) (list_all has_named_objects t.cores) named in
@@ -44,7 +44,7 @@ declared-named t named =
     let cores = all-flat is_name (λ (core : CoreText). names_by (λ kind. objects_in kind core) KINDS) t.cores (all-weaker has_named_objects _ core t.cores parts.1) in
     sym (list_all-map is_name (λ (d : Declaration). d.name) (declarations t)) ∙ ap (list_all is_name) (names-text t) ∙ all-append is_name (names_by (λ kind. common_in kind t) COMMON) (flat_map (λ (core : CoreText). names_by (λ kind. objects_in kind core) KINDS) t.cores) common cores
 
--- and so has what is found by its name.
+-- A name by which an object is found is in form.
 pub if-named : (objects : List Declaration) (name : List ℕ) (d : Declaration) (found : Option Place) → list_all (λ (d : Declaration). is_name d.name) objects ≡ true → find (has_name name) objects ≡ Some d → IfSome found (λ place. is_name name ≡ true)
 if-named objects name d None named is = tt
 if-named objects name d (Some place) named is =

@@ -11,20 +11,20 @@ use osjson::{Text, Whole};
 use osplan::{COMMON, KINDS};
 use std::alloc::{AllocError, Global};
 
-/// A declared object, by its name. Under `NOBODY` stands what all cores have in common.
+/// A declared object. An object that all cores have in common has `NOBODY` as its core.
 #[derive(Drop)]
 pub struct Declaration<'t> {
     pub name: Text<'t>,
     pub kind: ObjectKind,
     pub core: CoreId,
-    /// Which of the objects of its kind there it is, counted from 0.
+    /// Its index among the objects of its kind and core, counted from 0.
     pub index: usize,
-    /// Of a counter the greatest value and the least cycle; of another object none.
+    /// The greatest value and the least cycle of a counter. Other objects have neither.
     pub max: Whole,
     pub min: Whole,
 }
 
-/// A number as a byte: 0 where it is none, which no text within the limits has.
+/// The number as a byte; 0 if the number is below 0 (None) or above 255. A text without a fault has no such number.
 pub fn byte_of(number: Whole) -> u8
     ensures { result ≡ byte_of number }
 {
@@ -34,7 +34,8 @@ pub fn byte_of(number: Whole) -> u8
     }
 }
 
-/// A number as one of 32 bits: 0 where it is none, which no text within the limits has.
+/// The number as one of 32 bits; 0 if the number is below 0 (None) or has more bits. A text without a fault has no such
+/// number.
 pub fn word_of(number: Whole) -> u32
     ensures { result ≡ word_of number }
 {
@@ -50,7 +51,7 @@ pub fn word_of(number: Whole) -> u32
     }
 }
 
-/// A core's number as the configuration has it.
+/// The core of this number; core 0 if the number is no byte.
 pub fn number_id(number: Whole) -> CoreId
     ensures { result ≡ number_id number }
 {
@@ -59,7 +60,8 @@ pub fn number_id(number: Whole) -> CoreId
     }
 }
 
-// The objects of one kind, in their order.
+// Adds the declarations of these objects, all of this kind. The index of each is its place in `objects`. `core` is the
+// core of all of them, or `NOBODY` if all cores have them in common.
 fn declare_each<'t>(
     declared: &mut List<Declaration<'t>>,
     core: CoreId,
@@ -81,6 +83,7 @@ fn declare_each<'t>(
     Ok(())
 }
 
+// Adds the declarations of all objects of a core, kind by kind, and of each kind in the order of the text.
 fn declare<'t>(
     alloc: Global,
     declared: &mut List<Declaration<'t>>,
@@ -95,6 +98,7 @@ fn declare<'t>(
     Ok(())
 }
 
+// Adds the declarations of the objects that all cores have in common, kind by kind.
 fn declare_common<'t>(
     alloc: Global,
     declared: &mut List<Declaration<'t>>,
@@ -109,7 +113,7 @@ fn declare_common<'t>(
     Ok(())
 }
 
-/// The objects of a text: those that all cores have in common, and then those of each core.
+/// The declarations of all objects of a text: those that all cores have in common, and then those of each core.
 pub fn declarations_of<'t>(
     alloc: Global,
     text: &'t ConfigText<'t>,

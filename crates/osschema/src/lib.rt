@@ -1,8 +1,8 @@
 //! The shape of a configuration's text, and what it declares.
 //!
-//! A value that has the shape becomes a text in structs: its members are there and of their types, and the names of
-//! its objects are in form. Its objects stand in one list, and where one stands is looked up by its name. Whether
-//! a part's own numbers keep their limits is asked of the part; all else is judged by the layer above.
+//! A value that has the shape becomes a text in structs: its members exist and have their types, and the names of
+//! its objects are well-formed. Its objects are in one list, in which they are looked up by name. Each part says
+//! whether its own numbers keep their limits; all else is judged by the layer above.
 #![tactic(auto)]
 
 mod declarations;

@@ -6,7 +6,7 @@ ghost use Rattle.osplan.specs.Limits.{is_between, is_budget, most_activations};
 use osbase::GREATEST_BUDGET;
 use osjson::Whole;
 
-/// Whether the number is there and within these bounds.
+/// Whether there is a number, and it is within these bounds.
 pub fn is_between(low: u64, high: u64, number: Whole) -> bool
     ensures { result ≡ is_between low high number }
 {
@@ -16,14 +16,14 @@ pub fn is_between(low: u64, high: u64, number: Whole) -> bool
     }
 }
 
-/// The most jobs at once of a task, which is extended or not.
+/// The greatest activation limit of a task: 1 if the task is extended, otherwise 64.
 pub(crate) fn most_activations(extended: bool) -> u64
     ensures { result ≡ most_activations extended }
 {
     if extended { 1 } else { 64 }
 }
 
-/// Whether it is a budget, of execution or of a lock.
+/// Whether there is a number, and it may be a budget, of execution or of a lock: 0 (none) to the greatest budget.
 pub(crate) fn is_budget(budget: Whole) -> bool
     ensures { result ≡ is_budget budget }
 {

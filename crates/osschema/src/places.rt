@@ -1,4 +1,4 @@
-//! Where the objects of a configuration's text stand, by their names.
+//! The places of the objects of a configuration's text, found by their names.
 
 ghost use Rattle.std.specs.Prelude.{◌≡◌, IfOk, IfSome, IsTrue, Some, count_by, find, is_some, option_copied, true};
 ghost use Rattle.std.specs.List.{list_all};
@@ -14,6 +14,7 @@ use ossyntax::Places;
 use std::alloc::{AllocError, Global};
 use std::collections::HashMap;
 
+// The place of the declared object, if it is of this kind.
 fn place_in(kind: ObjectKind, declaration: &Declaration) -> Option<Place>
     ensures { result ≡ place_in kind declaration.now }
 {
@@ -27,28 +28,30 @@ fn place_in(kind: ObjectKind, declaration: &Declaration) -> Option<Place>
     }
 }
 
-/// Which object of a list has a name, and whether no two have one.
+/// Finds an object of a list by its name, and tells whether all names differ.
 #[derive(Drop)]
 struct Index<'t> {
-    // Of each name where its first object stands in the list.
+    // For each name, the place in the list of the first object with that name.
     first: HashMap<&'t str, usize>,
     are_apart: bool,
     hints: Hints,
 }
 
-// Of each hint where an object stands whose name may have it, so that most names are compared with one, and not hashed.
+// For each hint, the place of an object that may have the name looked for. So most names need no hash.
 #[derive(Drop)]
 struct Hints {
     places: Vec<u16>,
 }
 
-// So many hints there are for each object, so that two names of one configuration seldom have one.
+// How many hints there are for each object. With 16, two names of one configuration seldom share a hint.
 const HINTS: usize = 16;
 
 // The highest bits of a product depend on all bits of what is multiplied by this odd number.
 const SPREAD: u64 = 0x9e37_79b9_7f4a_7c15;
 
 impl Hints {
+    // The hints for these objects. If two objects share a hint, the hint leads to the later one. A hint of no object
+    // leads to the first object.
     fn of(alloc: Global, declared: &[Declaration]) -> Result<Self, AllocError> {
         let count = declared.len().saturating_mul(HINTS);
         let mut places = vec![in alloc; 0; count]?;
@@ -61,6 +64,7 @@ impl Hints {
         Ok(Hints { places })
     }
 
+    // The place in the list of an object that may have this name.
     #[inline(always)]
     fn place(&self, name: &str) -> Option<usize> {
         let places = self.places.as_slice();
@@ -69,8 +73,8 @@ impl Hints {
     }
 }
 
-// The hint of a name, of so many: that of its first and its last eight bytes, since a hash of all its bytes takes longer than to
-// compare them.
+// The hint of a name: a number below `count`; 0 if `count` is 0. The hint is made of the name's first and last eight
+// bytes, or of all if there are fewer, since hashing all bytes takes longer than comparing them.
 #[inline(always)]
 fn hint_of(name: &str, count: usize) -> usize {
     let bytes = name.as_bytes();
@@ -85,7 +89,7 @@ fn hint_of(name: &str, count: usize) -> usize {
     (spread.wrapping_mul(count as u64) >> 32) as usize
 }
 
-// The bytes of a name that has fewer than eight.
+// The bytes of a name that has fewer than eight, as one number.
 fn word_of_few(bytes: &[u8]) -> u64 {
     let mut word = 0;
     for byte in bytes {
@@ -94,13 +98,14 @@ fn word_of_few(bytes: &[u8]) -> u64 {
     word
 }
 
+// The index by which the declared objects are found by their names.
 fn index_of<'t>(alloc: Global, declared: &[Declaration<'t>]) -> Result<Index<'t>, AllocError>
     ensures { IfOk result (λ index. Indexes declared.now index.first index.are_apart declared.now) }
 {
     let mut first = HashMap::new(alloc);
     let mut are_apart = true;
     let mut place = declared.len();
-    // From the last one on, so that of one name the first one stays.
+    // From the last object to the first, so that the first object of each name stays.
     while place > 0 {
         place -= 1;
         let later = first.insert(declared[place].name.as_str(), place)?;
@@ -123,7 +128,7 @@ pub struct Objects<'t> {
 }
 
 impl<'t> Objects<'t> {
-    /// The objects of this text, whose names are in form, as in every shape.
+    /// The objects that this text declares. The names of all objects in the text must be well-formed.
     pub fn of(alloc: Global, text: &'t ConfigText<'t>) -> Result<Self, AllocError>
         requires named { IsTrue (is_named text.now) }
         ensures { IfOk result (λ objects. objects.declared ≡ declarations text.now) }
@@ -140,7 +145,7 @@ impl<'t> Objects<'t> {
         self.index.are_apart
     }
 
-    /// The mode of this name; the first where there is none.
+    /// The mode of this name, or the first mode if there is none.
     pub fn mode(&self, name: &str) -> ModeId
         ensures { result ≡ mode_ref self.now.declared name.now }
     {
@@ -160,7 +165,7 @@ impl<'t> Objects<'t> {
         }
     }
 
-    /// The counter of this name, if that is the name of no other object.
+    /// The declaration of the counter of this name, if no other object has the name.
     pub fn counter(&self, name: &str) -> Option<&Declaration<'t>>
         ensures { option_copied result ≡ counter_declared self.now.declared name.now }
     {
@@ -176,7 +181,7 @@ impl<'t> Objects<'t> {
         }
     }
 
-    /// Where the object of this kind and name stands, if that is the name of no other object.
+    /// The place of the object of this kind and name, if no other object has the name.
     pub fn place_alone(&self, kind: ObjectKind, name: &str) -> Option<Place>
         ensures value { result ≡ place_alone self.now.declared kind name.now }
         ensures in_form { IfSome result (λ _. is_name name.now ≡ true) }
@@ -193,7 +198,7 @@ impl<'t> Objects<'t> {
         }
     }
 
-    // Whether no other object has the name of this one. Where no name stands twice, none is counted.
+    // Whether exactly one object has the name. At least one must have it. If all names differ, no objects are counted.
     fn is_alone(&self, name: &str) -> bool
         requires declared { is_some (find (has_name name.now) self.now.declared) ≡ true }
         ensures { result ≡ is_alone self.now.declared name.now }
@@ -223,7 +228,7 @@ impl<'t> Objects<'t> {
         }
     }
 
-    // The object to which the hint of the name leads, if it has the name and no two objects have one.
+    // The object at the place of the name's hint, if this object has the name and no two objects share a name.
     #[inline(always)]
     fn hinted(&self, name: &str) -> Option<&Declaration<'t>>
         ensures { IfSome result (λ found. find (has_name name.now) self.now.declared ≡ Some found.now) }

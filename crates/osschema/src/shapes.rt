@@ -1,5 +1,5 @@
-//! The shape of a configuration: its members and their types, and the limits of its numbers, which are asked later, as
-//! names are. Texts are borrowed from the value that is read.
+//! The shape of a configuration: its members and their types, and the limits of its numbers. Limits, and what names
+//! refer to, are judged after the shape. Texts are borrowed from the value that is read.
 
 ghost use Rattle.std.specs.Prelude.{◌≡◌, [], ◌∷◌, IfOk, IsTrue, codes, map, option_copied, option_map, true};
 ghost use Rattle.std.specs.List.{list_all};
@@ -36,7 +36,7 @@ pub struct TaskText<'v> {
 }
 
 impl TaskText<'_> {
-    /// Whether its numbers keep their limits.
+    /// Whether the task's numbers keep their limits.
     pub fn is_within(&self) -> bool
         ensures { result ≡ is_task_within (task_sizes self.now) }
     {
@@ -56,7 +56,7 @@ pub struct IsrText<'v> {
 }
 
 impl IsrText<'_> {
-    /// Whether its numbers keep their limits.
+    /// Whether the ISR's numbers keep their limits.
     pub fn is_within(&self) -> bool
         ensures { result ≡ is_isr_within (isr_sizes self.now) }
     {
@@ -73,7 +73,7 @@ pub struct ResourceText<'v> {
 }
 
 impl ResourceText<'_> {
-    /// Whether its numbers keep their limits.
+    /// Whether the resource's numbers keep their limits.
     pub fn is_within(&self) -> bool
         ensures { result ≡ is_resource_within (resource_sizes self.now) }
     {
@@ -91,7 +91,7 @@ pub struct CounterText<'v> {
 }
 
 impl CounterText<'_> {
-    /// Whether its numbers keep their limits.
+    /// Whether the counter's numbers keep their limits.
     pub fn is_within(&self) -> bool
         ensures { result ≡ is_counter_within (counter_sizes self.now) }
     {
@@ -108,7 +108,8 @@ pub struct AlarmStartText<'v> {
 }
 
 impl AlarmStartText<'_> {
-    /// Whether its numbers are those of an alarm by this counter. Without a counter, any numbers pass.
+    /// Whether the start and the cycle are within the limits that this counter sets. Without a counter, any numbers
+    /// pass.
     pub fn is_within(&self, counter: Option<&Declaration>) -> bool
         ensures { result ≡ is_start_within (start_numbers (option_map declared_sizes (option_copied counter.entry)) self.now) }
     {
@@ -136,7 +137,7 @@ pub struct AlarmText<'v> {
 #[derive(Drop)]
 pub struct CoreText<'v> {
     pub id: Whole,
-    /// None where the text says nothing of it.
+    /// None if the text does not give it.
     pub mode: Option<Text<'v>>,
     pub start: List<Whole>,
     pub protection: Protection,
@@ -156,7 +157,7 @@ pub struct SpinlockText<'v> {
     pub next: Option<Text<'v>>,
 }
 
-/// What a text has of an object of any kind: its name, and of a counter the greatest value and the least cycle.
+/// An object of any kind as it is declared: its name, and for a counter its greatest value and its least cycle.
 #[derive(Drop)]
 pub struct Named<'v> {
     pub name: Text<'v>,
@@ -164,15 +165,16 @@ pub struct Named<'v> {
     pub min: Whole,
 }
 
-/// What a text has under a name.
+/// A part of a text that declares an object.
 trait Declared<'v> {
     ghost named: { Self → NamedValue };
 
+    // The object that the part declares.
     fn named(&self) -> Named<'v>
         ensures { result ≡ named self.now };
 }
 
-// An object without numbers.
+// An object of this name that is no counter, so it has no numbers.
 fn unnumbered<'v>(name: &Text<'v>) -> Named<'v>
     ensures { result ≡ unnumbered name.now }
 {
@@ -183,7 +185,7 @@ fn unnumbered<'v>(name: &Text<'v>) -> Named<'v>
     }
 }
 
-/// A mode is its name.
+/// A mode has only a name.
 impl<'v> Declared<'v> for Text<'v> {
     ghost named = { unnumbered };
 
@@ -252,6 +254,7 @@ impl<'v> Declared<'v> for TableText<'v> {
     }
 }
 
+// The objects that these parts of a text declare, one for each part, in the order of the parts.
 fn each_named<'v, T: Declared<'v>>(
     alloc: Global,
     objects: &List<T>,
@@ -266,7 +269,8 @@ fn each_named<'v, T: Declared<'v>>(
 }
 
 impl<'v> CoreText<'v> {
-    /// What the text has of each of the core's objects of a kind, in their order.
+    /// The core's objects of this kind as they are declared, in the order of the text. Modes and spinlocks are no
+    /// core's own.
     pub(crate) fn objects(
         &self,
         alloc: Global,
@@ -298,7 +302,8 @@ pub struct ConfigText<'v> {
 }
 
 impl<'v> ConfigText<'v> {
-    /// What the text has of each object of a kind that all cores have in common, in their order.
+    /// The objects of this kind that all cores have in common, as they are declared, in the order of the text. Only
+    /// modes and spinlocks are such.
     pub(crate) fn common(
         &self,
         alloc: Global,
@@ -314,7 +319,8 @@ impl<'v> ConfigText<'v> {
     }
 }
 
-// The list of a member that may be left out, then empty.
+// The list that is the member with this key, each element as the reader reads it. The list is empty if the member is
+// left out. `Unfit` if the member is no list, or an element does not have the reader's shape.
 fn list_at<'v, U: Drop, R: JsonReader<'v, U> + Copy>(
     alloc: Global,
     value: &'v Value,
@@ -523,7 +529,7 @@ impl<'v> JsonReader<'v, Option<Text<'v>>> for ModeReader {
     }
 }
 
-// The modes of a text that names none.
+// The modes of a text that gives none: one mode, `M`.
 fn default_modes<'v>(alloc: Global) -> Result<List<Text<'v>>, AllocError>
     ensures { IfOk result (λ modes. modes ≡ codes "M" ∷ []) }
 {
@@ -541,6 +547,7 @@ struct CoreSettings<'v> {
     protection: Protection,
 }
 
+// Reads a core's number, its mode, the cores that it starts, and how it answers a time fault.
 #[tactic(auto, unfolding(crate::specs::Shape::settings_shape))]
 fn read_settings<'v>(alloc: Global, value: &'v Value) -> Result<CoreSettings<'v>, Refusal>
     ensures { Gives (λ x. x) result (settings_shape (view value.now)) }

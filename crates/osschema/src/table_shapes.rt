@@ -25,7 +25,7 @@ pub struct PointText<'v> {
 }
 
 impl PointText<'_> {
-    /// Whether it has as many actions as a point may have.
+    /// Whether the expiry point has an action, and not too many.
     pub fn is_within(&self) -> bool
         ensures { result ≡ is_point_within (point_sizes self.now) }
     {
@@ -52,7 +52,7 @@ pub struct TableText<'v> {
 }
 
 impl TableText<'_> {
-    /// The offset of its first point; 0 where it has none.
+    /// The offset of the table's first point. It is 0 if there is no point, or if the offset is below 0.
     pub fn first_offset(&self) -> u64
         ensures { result ≡ first_offset (map point_sizes self.now.points) }
     {
@@ -68,6 +68,8 @@ impl TableText<'_> {
         self.points.as_slice().iter().all(|point| point.is_within())
     }
 
+    // Whether the table may start after `offset` counts: after at least 1, and early enough that the table's first
+    // point is within the counter's values. Without a counter, any offset passes.
     fn is_start_within(&self, counter: Option<&Declaration>, offset: Whole) -> bool
         ensures { result ≡ is_table_start_within (table_numbers (option_map declared_sizes (option_copied counter.entry)) self.now) offset }
     {
@@ -80,6 +82,8 @@ impl TableText<'_> {
         }
     }
 
+    // Whether the table's autostart, if it has one, is within the limits that this counter sets. Without a counter, any
+    // autostart passes.
     fn is_auto_within(&self, counter: Option<&Declaration>) -> bool
         ensures { let s = table_numbers (option_map declared_sizes (option_copied counter.entry)) self.now in result ≡ option_map_or (is_table_start_within s) s.auto true }
     {
@@ -89,7 +93,8 @@ impl TableText<'_> {
         }
     }
 
-    /// Whether its numbers are those of a table by this counter. Without a counter, any start passes.
+    /// Whether the table's duration, the number of its points, the number of each point's actions, and the table's
+    /// autostart are within their limits. The counter limits the autostart. Without a counter, any autostart passes.
     #[tactic(auto, using(crate::proofs::Lists::counted))]
     pub fn is_within(&self, counter: Option<&Declaration>) -> bool
         ensures { result ≡ is_table_within (table_numbers (option_map declared_sizes (option_copied counter.entry)) self.now) }

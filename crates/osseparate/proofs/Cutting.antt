@@ -1,4 +1,4 @@
--- The configuration of a separate core alone is within the limits, and a text can say it.
+-- The configuration of a separate core alone is within the limits, and representable in a text.
 use Rattle.std.proofs.Common.{◌≡◌, ℕ, ◌-◌, Bool, true, false, not, ◌&&◌, nat_eq, List, [], ◌∷◌, ◌++◌, length, Option, Some, IsTrue, refl, sym, ap, subst, ◌∙◌, arith}
 use Rattle.std.specs.{List.list_all, List.list_any, List.flat_map, Option.option_copied, Borrow.Bor}
 use Rattle.std.proofs.{lemmas.List.append_assoc, lemmas.List.append-nil, lemmas.List.Folds.list_all-map, lemmas.List.Folds.list_any-append}
@@ -40,7 +40,7 @@ module _ (plan : Plan) (id : CoreId) (core : Core) (found : core_of plan id ≡ 
   abbrev alone : Plan
   alone = alone_of plan id core
 
-  -- an object that stands on no other core is one of the core's own
+  -- an object that is on this core is an object of its own configuration
   own-object : (object : Object) → is_object plan object ≡ true → is_off core.id object ≡ false → is_object alone object ≡ true
   own-object object known inward =
       let own = not-false (is_on core.id object) inward in
@@ -53,21 +53,21 @@ module _ (plan : Plan) (id : CoreId) (core : Core) (found : core_of plan id ≡ 
   own-script : (script : List Op) → is_script_known plan script ≡ true → list_any (names_other core.id) script ≡ false → is_script_known alone script ≡ true
   own-script script = all-without (is_op_known plan) (names_other core.id) (is_op_known alone) own-operation script
 
-  -- an action of this core is for an object of it
+  -- an action is for an object that is not on this core
   abbrev leaves : RemoteCall → Bool
   leaves action = is_off core.id (object_of_call action)
 
   own-action : (action : RemoteCall) → is_action_known plan action ≡ true → leaves action ≡ false → is_action_known alone action ≡ true
   own-action action known inward = grind (arith, own-object (object_of_call action))
 
-  -- an alarm names its counter, of this core, and an object that its action is for
+  -- if an alarm is the core's, and its action is for an object of the core, the core's own configuration knows it
   own-alarm : (alarm : Alarm) → (is_alarm_known plan alarm && is_alarm_local core.id alarm) ≡ true → leaves alarm.action ≡ false → is_alarm_known alone alarm ≡ true
   own-alarm alarm h inward =
       let counter = own-object (counter_object alarm.counter) (grind arith) (grind arith) in
       let action = own-action alarm.action (grind arith) inward in
       and_from _ _ (and_from _ _ counter action) (grind arith)
 
-  -- and so does a table
+  -- if a table is the core's, and its actions are for objects of the core, the core's own configuration knows it
   own-table : (table : Table) → (is_table_known plan table && is_table_local core.id table) ≡ true → list_any leaves (table_actions table) ≡ false → is_table_known alone table ≡ true
   own-table table h inward =
       let actions = all-without (is_action_known plan) leaves (is_action_known alone) own-action (table_actions table) (grind arith) inward in
@@ -85,7 +85,7 @@ module _ (plan : Plan) (id : CoreId) (core : Core) (found : core_of plan id ≡ 
       (all-both (is_table_known plan) (is_table_local core.id) core.tables parts.tables near.tables) acting.1 in
       and_from _ _ (and_from _ _ (and_from _ _ (and_from _ _ mode scripts) parts.tasks) alarms) tables
 
-  -- its alarms' and its tables' counters are its own, in the whole as alone
+  -- the core's alarms and tables use its own counters, so its sizes are the same alone as in the whole
   by-itself : core_of alone core.id ≡ Some core
   by-itself = rw (same_core-refl core.id) refl
 
@@ -98,7 +98,7 @@ module _ (plan : Plan) (id : CoreId) (core : Core) (found : core_of plan id ≡ 
   timed-alone : NearParts core → is_core_timed plan core ≡ true → is_core_timed alone core ≡ true
   timed-alone near timed = own-timed alone core by-itself near.tables ∙ sym (own-timed plan core here near.tables) ∙ timed
 
-  -- the version stays, by which there may be a core of this number
+  -- the version stays, and it allows a core of this number
   version-alone : is_versioned (sizes_of plan) ≡ true → is_versioned (sizes_of alone) ≡ true
   version-alone whole =
       let is_numbered = λ (s : CoreSizes). is_between 0 (cores_by (Some plan.version) - 1) s.number in

@@ -4,7 +4,7 @@ use Rattle.std.specs.{List.list_any, Str.bytes_eq}
 use Rattle.std.proofs.{lemmas.Bool.and_parts, lemmas.Bool.and_from, lemmas.Bool.or_from, lemmas.Bool.or_parts, lemmas.Bool.not-true, lemmas.Bool.not_from_false, lemmas.List.append-nil, lemmas.List.Folds.list_any-append}
 use Rattle.osplan.specs.Representable.{are_distinct}
 
--- Names stay distinct where those at the end are replaced by distinct ones of them.
+-- Names stay distinct if those at the end are replaced by distinct names among them.
 pub distinct-kept : (front whole part : List (List ℕ)) → ((p : List ℕ → Bool) → list_any p whole ≡ false → list_any p part ≡ false) → are_distinct part ≡ true → are_distinct (front ++ whole) ≡ true → are_distinct (front ++ part) ≡ true
 distinct-kept [] whole part none distinct h = distinct
 distinct-kept (name ∷ front) whole part none distinct h =

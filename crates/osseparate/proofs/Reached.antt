@@ -22,7 +22,7 @@ module _ (plan : Plan) where
   within-more : (n : ℕ) (id : CoreId) → within n id ≡ true → within (suc n) id ≡ true
   within-more n id e = next-round n id ∙ and_from _ _ (or_left (within n id) _ e) (within-known plan n id e)
 
-  -- where a round changes nothing, the started cores name the same
+  -- if a round changes nothing, the started cores name the same cores
   named-same : (n : ℕ) (id : CoreId) (cores : List Core) → AllByRecursion (λ (i : CoreId). within (suc n) i ≡ within n i) (map (λ (c : Core). c.id) cores)
       → list_any (λ (c : Core). within (suc n) c.id && is_among c.start id) cores ≡ list_any (λ (c : Core). within n c.id && is_among c.start id) cores
   named-same n id [] stays = refl
@@ -49,7 +49,7 @@ module _ (plan : Plan) where
       within-later (length plan.cores) plan.master
       (kept (λ i. same_core i plan.master) ids plan.master ∙ and_from _ _ (same_core-refl plan.master) (among-configured plan plan.master ∙ there))
 
-  -- so is a configured core that a started one names in its start list
+  -- a configured core that a started core names in its start list is started
   pub started-next : (id k : CoreId) (core : Core) → is_started plan id ≡ true → core_of plan id ≡ Some core → is_among core.start k ≡ true → is_some (core_of plan k) ≡ true → is_started plan k ≡ true
   started-next id k core started found named there =
       let same : core.id ≡ id = same_core-true core.id id (find-holds (λ (c : Core). same_core c.id id) plan.cores core found) in

@@ -6,8 +6,8 @@ use Rattle.osplan.specs.Naming.{acts_on, has_operation, is_off, names_other}
 use Rattle.osplan.proofs.Tests.{none-from}
 use Rattle.osseparate.specs.Separate.{halts_somewhere, is_agreed_mode, is_named_elsewhere, is_separate_core, names_mode}
 
--- The core names a mode, which no started core contradicts; it starts no core; its scripts, its alarms and its tables name no
--- other core's objects, and no other core names its own; its scripts ask for nothing that all cores share, and none shuts all down.
+-- The core names a mode that no started core contradicts. It starts no core. Its scripts, alarms and tables name no
+-- other core's object, and no other core names its own. Its scripts ask for nothing shared. No script halts all cores.
 pub record SeparateParts (plan : Plan) (core : Core) : Type 0 where
   pub names : names_mode core.mode ≡ true
   pub agreed : is_agreed_mode plan core.mode ≡ true

@@ -67,7 +67,7 @@ within-suc plan n before after limits within flags id lt =
 pub among-configured : (plan : Plan) (id : CoreId) → is_among (configured_ids plan) id ≡ is_some (core_of plan id)
 among-configured plan id = any-mapped (λ c. same_core c id) (λ (c : Core). c.id) plan.cores ∙ any-find (λ (c : Core). same_core c.id id) plan.cores
 
--- after as many rounds as there are cores
+-- after as many rounds as there are cores, the flags are those of the started cores
 pub started-within : (plan : Plan) (n : ℕ) (cores : CoreSet) → IsTrue (is_within_limits plan) → n ≡ length plan.cores → AreWithin plan n cores → AreStarted plan cores
 started-within plan n cores limits e within id found =
     rw (← e, within id (configured-low plan id limits found), among-configured plan id, found) (and-true (has_core cores id))

@@ -9,10 +9,10 @@ use Rattle.osseparate.specs.Separate.{is_among, is_started}
 abbrev pub is_named_by_one_of : List Core → CoreSet → CoreId → Bool
 is_named_by_one_of cores started id = list_any (λ (c : Core). has_core started c.id && is_among c.start id) cores
 
--- The core is in the set after one more round of start lists.
+-- The core is in the set, or in the start list of a core of the set.
 abbrev pub is_next : List Core → CoreSet → CoreId → Bool
 is_next cores started id = has_core started id || is_named_by_one_of cores started id
 
--- Of the configured cores those are in the set that are started.
+-- A configured core is in the set exactly if it is started.
 abbrev pub AreStarted : Plan → CoreSet → Type 0
 AreStarted plan cores = (id : CoreId) → is_some (core_of plan id) ≡ true → is_started plan id ≡ has_core cores id

@@ -25,7 +25,7 @@ is_named_by plan started id = list_any (λ (c : Core). is_among started c.id && 
 abbrev pub after_round : Plan → List CoreId → List CoreId
 after_round plan started = filter (λ id. is_among started id || is_named_by plan started id) (configured_ids plan)
 
--- The configured cores that are started within n rounds of start lists. The master alone needs none.
+-- The configured cores that are started within n rounds of start lists. Within no round only the master is.
 abbrev pub started_within : Plan → ℕ → List CoreId
 started_within plan zero = filter (λ id. same_core id plan.master) (configured_ids plan)
 started_within plan (suc n) = after_round plan (started_within plan n)
@@ -39,24 +39,24 @@ is_started plan id = is_among (started_within plan (length plan.cores)) id
 
 -- ---- modes
 
--- The core names an application mode other than DONOTCARE.
+-- This is a mode other than DONOTCARE.
 abbrev pub names_mode : CoreMode → Bool
 names_mode (Named m) = true
 names_mode DontCare = false
 
--- The two do not name different modes.
+-- One of the two is DONOTCARE, or both are the same mode.
 abbrev pub agree : CoreMode → CoreMode → Bool
 agree (Named m) (Named n) = m.index == n.index
 agree (Named m) DontCare = true
 agree DontCare other = true
 
--- Each started core names this mode, or none.
+-- The mode of each started core agrees with this one: one of the two is DONOTCARE, or both are the same mode.
 abbrev pub is_agreed_mode : Plan → CoreMode → Bool
 is_agreed_mode plan mode = list_all (λ (c : Core). not (is_started plan c.id) || agree mode c.mode) plan.cores
 
 -- ---- what ties a core to others
 
--- Another core than the one of this number, started or not, names an object of that one.
+-- A core of another number, started or not, names an object of the core of this number.
 abbrev pub is_named_elsewhere : Plan → CoreId → Bool
 is_named_elsewhere plan id = list_any (λ (other : Core). not (same_core other.id id) && names_object (is_on id) other) plan.cores
 
@@ -66,10 +66,9 @@ halts_somewhere plan = list_any (has_operation halts_all) plan.cores
 
 -- ---- separate cores, and the configuration of one alone
 
--- The core is started; it names a mode; no started core names another mode; it starts no core; no script,
--- alarm or table of it names an object of another core; none of another core, also of one that is never started,
--- names an object of it; no script of it asks for what all cores share; and no script of any core shuts all cores down. A spinlock stands on no
--- core, so that no such core names one. [own]
+-- The core is started. It names a mode, and no started core names another mode. Its start list is empty. Its scripts,
+-- alarms and tables name no object of another core and no spinlock. No other core, started or not, names an object of
+-- it. Its scripts neither start nor count cores. No script of any core shuts all cores down. [own]
 abbrev pub is_separate_core : Plan → Core → Bool
 is_separate_core plan core =
     is_started plan core.id
@@ -85,14 +84,16 @@ is_separate_core plan core =
 abbrev pub is_separate : Plan → CoreId → Bool
 is_separate plan id = option_map_or (is_separate_core plan) (core_of plan id) false
 
--- Separate, or else bound to others, or never started. [own]
+-- What the core is to the others: `Separate`; `Bound` if it is started, but not separate; `Off` if it is never started.
+-- [own]
 abbrev pub coupling_of : Plan → CoreId → Coupling
 coupling_of plan id = if is_separate plan id then Coupling.Separate else (if is_started plan id then Coupling.Bound else Coupling.Off)
 
--- The core alone, under this number, as the master, without spinlocks; the version, the modes and the mailboxes' size stay. [own]
+-- The configuration of the core alone, under this number, as the master, without spinlocks. The version, the modes and
+-- the mailboxes' size stay. [own]
 abbrev pub alone_of : Plan → CoreId → Core → Plan
 alone_of plan id core = record plan { master = id; spinlocks = []; cores = core ∷ [] }
 
--- The configuration of the core of this number alone; of one that is not configured, without any core. [own]
+-- The configuration of the core of this number alone. If that core is not configured, the result has no core. [own]
 abbrev pub cut_of : Plan → CoreId → Plan
 cut_of plan id = option_map_or (alone_of plan id) (core_of plan id) (record plan { master = id; spinlocks = []; cores = [] })

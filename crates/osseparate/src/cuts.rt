@@ -8,6 +8,8 @@ use osbase::{CoreId, List};
 use osplan::{ConfFault, Config, Core, Plan, copied_core, copied_modes};
 use std::alloc::{AllocError, Global};
 
+// The configuration of the core alone, under this number, as the master, without spinlocks. The version, the modes and
+// the mailboxes' size stay.
 fn alone(alloc: Global, plan: &Plan, id: CoreId, core: &Core) -> Result<Plan, AllocError>
     ensures { IfOk result (λ alone. alone ≡ alone_of plan.now id core.now) }
 {
@@ -24,9 +26,9 @@ fn alone(alloc: Global, plan: &Plan, id: CoreId, core: &Core) -> Result<Plan, Al
 }
 
 /// The configuration of a separate core alone: the core under its number, as the master, with the version, the modes
-/// and the mailboxes' size of the whole, and without the spinlocks. `NotSeparate` exactly where the core is not separate
-/// (`is_separate`), and `NoMemory` where memory runs out; the configuration stays as it is. The core is
-/// separate in what it is cut to, so a cut can be cut again.
+/// and the mailboxes' size of the whole, and without the spinlocks. The fault is `NotSeparate` exactly if the core is
+/// not separate (`is_separate`), and `NoMemory` if memory runs out. The given configuration stays as it is. In the
+/// result the core is separate, so a cut can be cut again.
 pub fn cut(alloc: Global, config: &Config, core: CoreId) -> Result<Config, ConfFault>
     ensures ok { IfOk result (λ cut. cut ≡ cut_of config.now core) }
     ensures again { IfOk result (λ cut. IsTrue (is_separate cut core)) }

@@ -15,12 +15,14 @@ fn is_among(ids: &[CoreId], id: CoreId) -> bool
     ids.iter().any(|other| other.number == id.number)
 }
 
+// Whether a core of the set `started` names this one in its start list.
 fn is_named_by(cores: &[Core], started: &CoreSet, id: CoreId) -> bool
     ensures { result ≡ is_named_by_one_of cores.now started.now id }
 {
     cores.iter().any(|core| started.contains(core.id) && is_among(core.start.as_slice(), id))
 }
 
+// Whether the core is in the set `started`, or in the start list of a core of the set.
 fn is_next(cores: &[Core], started: &CoreSet, id: CoreId) -> bool
     ensures { result ≡ is_next cores.now started.now id }
 {
@@ -48,6 +50,7 @@ pub fn set_of(core: CoreId) -> CoreSet
     CoreSet { members }
 }
 
+// The master, and all cores that start lists reach from the master.
 fn started_cores(plan: &Plan) -> CoreSet
     requires { IsTrue (is_within_limits plan.now) }
     ensures { AreStarted plan.now result }
@@ -60,6 +63,7 @@ fn started_cores(plan: &Plan) -> CoreSet
     started
 }
 
+// Whether the core is configured and in the set `started`.
 fn is_started(plan: &Plan, started: &CoreSet, id: CoreId) -> bool
     requires { AreStarted plan.now started.now }
     ensures { result ≡ is_started plan.now id }
@@ -67,6 +71,7 @@ fn is_started(plan: &Plan, started: &CoreSet, id: CoreId) -> bool
     plan.core(id).is_some() && started.contains(id)
 }
 
+// Whether this is a mode other than DONOTCARE.
 fn names_mode(mode: CoreMode) -> bool
     ensures { result ≡ names_mode mode }
 {
@@ -76,6 +81,7 @@ fn names_mode(mode: CoreMode) -> bool
     }
 }
 
+// Whether one of the two is DONOTCARE, or both are the same mode.
 fn agree(mode: CoreMode, other: CoreMode) -> bool
     ensures { result ≡ agree mode other }
 {
@@ -86,6 +92,7 @@ fn agree(mode: CoreMode, other: CoreMode) -> bool
     }
 }
 
+// Whether the mode of each started core agrees with this one.
 fn is_agreed_mode(plan: &Plan, started: &CoreSet, mode: CoreMode) -> bool
     requires { AreStarted plan.now started.now }
     ensures { result ≡ is_agreed_mode plan.now mode }
@@ -94,6 +101,7 @@ fn is_agreed_mode(plan: &Plan, started: &CoreSet, mode: CoreMode) -> bool
         || agree(mode, core.mode))
 }
 
+// Whether a core of another number, started or not, names an object of this core.
 fn is_named_elsewhere(plan: &Plan, id: CoreId) -> bool
     ensures { result ≡ is_named_elsewhere plan.now id }
 {
@@ -101,6 +109,7 @@ fn is_named_elsewhere(plan: &Plan, id: CoreId) -> bool
         && Side::On(id).is_named_by(other))
 }
 
+// Whether a script of some core, started or not, shuts all cores down.
 fn halts_somewhere(plan: &Plan) -> bool
     ensures { result ≡ halts_somewhere plan.now }
 {
@@ -110,7 +119,7 @@ fn halts_somewhere(plan: &Plan) -> bool
         .any(|core| has_operation(core, OpTest::HaltsAll))
 }
 
-// Tasks, ISRs, alarms and tables name objects.
+// Whether the core is separate, by the conditions that `is_separate` lists.
 pub(crate) fn is_separate_core(plan: &Plan, core: &Core) -> bool
     requires { IsTrue (is_within_limits plan.now) }
     ensures { result ≡ is_separate_core plan.now core.now }
@@ -126,11 +135,11 @@ pub(crate) fn is_separate_core(plan: &Plan, core: &Core) -> bool
         && !halts_somewhere(plan)
 }
 
-/// Whether the core of this number is separate: it is started, by start lists that reach it from the
-/// master; it names a mode other than DONOTCARE, and no started core names another; it starts no core, also by no
-/// script, and counts none; no script, alarm or table of it names an object of another core or a spinlock, nor any of another
-/// core, started or not, an object of it; and no script of any core, started or not, holds ShutdownAllCores. A core that is
-/// not configured is not separate. Takes no memory.
+/// Whether the core of this number is separate, that is, whether all of this holds. Start lists reach it from the
+/// master. It names a mode other than DONOTCARE, and no started core names another. Its start list is empty, and its
+/// scripts neither start nor count cores. Its scripts, alarms and tables name no spinlock and no object of another
+/// core. No other core, started or not, names an object of it. No script of any core, started or not, holds
+/// ShutdownAllCores. A core that is not configured is not separate. The call takes no memory.
 pub fn is_separate(config: &Config, core: CoreId) -> bool
     ensures { result ≡ is_separate config.now core }
 {
@@ -152,7 +161,7 @@ pub enum Coupling {
     Off,
 }
 
-/// Whether a core is separate, else whether it is started; one that is not configured is off.
+/// Whether a core is separate and, if it is not, whether it is started. A core that is not configured is off.
 pub fn coupling_of(config: &Config, core: CoreId) -> Coupling
     ensures { result ≡ coupling_of config.now core }
 {

@@ -10,7 +10,7 @@ use Rattle.osacts.proofs.Each.{as_steps, runs-append, says-append, then, unmoved
 
 -- ---- how far a loop over a list has come
 
--- Those before the next one, those up to it, and all.
+-- The elements before the next one, those up to it, and all.
 pub record IsNext {X : Type 0} (before after all : List X) (x : X) : Type 0 where
   pub more : after ≡ before ++ x ∷ []
   pub rest : List X
@@ -36,7 +36,8 @@ module _ {X : Type 0} (p : X → Bool) (xs : List X) (i : ℕ) (d : X) (within :
 
 -- ---- a loop that acts for each element
 
--- Each of these acted, by at most so many entries and marks, and at most so many letters joined the outbox.
+-- Each of these acted, with at most `entries` entries and `marks` marks, and no more letters joined the outbox than
+-- they post in all.
 pub record InTurn {X : Type 0} (f : X → Acts) (posted : Core → X → ℕ) (entries marks : ℕ) (done : List X) (old now : KernelState) (old_vec vec : Vec Mark Global) : Type 0 where
   pub steps : Steps (entries * length done) (marks * length done) (for_each f done) old now old_vec vec
   pub outbox : length now.border.outbox ≤ length old.border.outbox + sum_by (posted old.view.own) done
@@ -64,7 +65,7 @@ module _ {X : Type 0} {f : X → Acts} {posted : Core → X → ℕ} {entries ma
   places-left places =
       rw (done.steps.view) (omega (arith, summed, ap (sum_by (posted old.view.own)) next.is, sum_by-append (posted old.view.own) after next.rest, done.outbox, places))
 
-  -- What all pass, it passes.
+  -- If all elements pass a test, the next one passes it.
   pub still-passes : (p : Core → X → Bool) → list_all (p old.view.own) all ≡ true → p now.view.own x ≡ true
   still-passes p each =
       let q = p old.view.own in
@@ -72,7 +73,7 @@ module _ {X : Type 0} {f : X → Acts} {posted : Core → X → ℕ} {entries ma
       let last = and_parts (list_all q before) (list_all q (x ∷ [])) (sym (list_all-append q before (x ∷ [])) ∙ ap (list_all q) (sym next.more) ∙ first.0) in
       rw (done.steps.view) ((and_parts (q x) true last.1).0)
 
-  -- Then it acts too.
+  -- Then the next element acts, too.
   pub one-acted : {then_now : KernelState} {then_vec : Vec Mark Global} → Steps entries marks (f x) now then_now vec then_vec → length then_now.border.outbox ≤ length now.border.outbox + posted now.view.own x → InTurn f posted entries marks after old then_now old_vec then_vec
   one-acted one joined =
       let within : length before < length after = omega (arith, longer) in

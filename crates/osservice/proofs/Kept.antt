@@ -16,14 +16,14 @@ use Rattle.osacts.specs.Seen.{AllCores, Seen, all_cores, is_this_core, seen_of}
 use Rattle.osservice.specs.Service.{Service, answer_of, effect_of, serves, serves_if, serves_own}
 use Rattle.osservice.proofs.Partners.{Partner, partner_of}
 
--- Whom one asks, or answers: everybody, and nobody.
+-- Whom a core asks or answers: everybody, or nobody.
 abbrev pub anybody : {A : Type 0} → A → Bool
 anybody x = true
 
 abbrev pub nobody : {A : Type 0} → A → Bool
 nobody x = false
 
--- What a core sees that differs only in what is around it.
+-- The core's view, in which only what is around the core is replaced.
 abbrev pub seen_as : View → Around → View
 seen_as v around = record v { around = around }
 
@@ -35,8 +35,8 @@ is_within v may core = same_core core v.core || may (Partner.Core core)
 abbrev pub may_open : (Partner → Bool) → OpenCall → Bool
 may_open may call = may (partner_of call.awaits)
 
--- What a core may do: whom it may ask and which cores it answers, and the cores of whose objects its marks are; among these are its own
--- and those that it may ask.
+-- What a core may do: whom it may ask, which cores it may answer, and which cores' objects its marks may name. Among
+-- these last are its own core and those that it may ask.
 pub record Leave : Type 0 where
   pub view : View
   pub may : Partner → Bool
@@ -45,9 +45,9 @@ pub record Leave : Type 0 where
   pub named : (core : CoreId) → is_within view may core ≡ true → names core ≡ true
   pub own_named : names view.own.id ≡ true
 
--- An act names only objects of such cores, the runner of a call too, asks only those that may be asked, whose numbers a configuration may
--- have, and answers only those that may be answered; and where the core's clocks are within their limits it sets an alarm as a service
--- grants it.
+-- An act names only objects of cores that marks may name; so does the runner of a call. It asks only those that may be
+-- asked and whose numbers a configuration may have, and answers only those that may be answered. If the core's clocks
+-- are within their limits, it sets an alarm as a service grants it.
 abbrev pub is_allowed : Leave → Act → Bool
 is_allowed l (Prints m) = names_only l.names m
 is_allowed l (Notes (Opened call)) = may_open l.may call && l.names (core_of_runner call.runner)
@@ -67,8 +67,8 @@ is_local names (Noted (Opened call)) = false
 is_local names (Noted (Queued core letter)) = false
 is_local names entry = true
 
--- What the core reads is its own, and marks may name the runner that it goes on with and the one whose call is open. The counter of an
--- own alarm has each value within a turn.
+-- What the core reads is its own, and marks may name the runner that it continues and the one whose call is open. The
+-- counter of an own alarm has each value within a turn.
 pub record IsSeen (l : Leave) (s : Seen) : Type 0 where
   pub id : s.id ≡ l.view.core
   pub core : s.core ≡ l.view.own
@@ -77,7 +77,7 @@ pub record IsSeen (l : Leave) (s : Seen) : Type 0 where
   pub awaits : option_map_or (λ (call : OpenCall). l.names (core_of_runner call.runner)) s.awaits true ≡ true
   pub turns : (a : AlarmRef) (start : ℕ) → is_some (own_alarm l.view.own a) ≡ true → (0 < s.counts_to a start) × (s.counts_to a start ≤ suc (max_for l.view.own a))
 
--- So every history shows the turns.
+-- In every history, the counter of an own alarm has each value within a turn.
 pub turns-shown : (core : Core) (a : AlarmRef) (start : ℕ) (h : History) → is_some (own_alarm core a) ≡ true → (0 < counts_to_by core a start h) × (counts_to_by core a start h ≤ suc (max_for core a))
 turns-shown core a start h own = by (own_alarm core a) own
   where
@@ -86,16 +86,17 @@ turns-shown core a start h own = by (own_alarm core a) own
     by None none = absurd (false≢true none)
     by (Some x) some = (omega arith, turn-within (max_of core x.counter) (value_by core x.counter h) start)
 
--- Each kind of entry that acts may add keeps it: one of the core itself, a letter to a core that may be asked, a reply to
--- one that may be answered, and a call whose answer may be asked for, of a runner that marks may name.
+-- Each kind of entry that acts may add keeps the relation: one of the core itself, a letter to a core that may be
+-- asked, a reply to one that may be answered, and a call whose answer may be asked for, of a runner that marks may
+-- name.
 pub record KeepsEntries (l : Leave) (R : History → History → Type 0) : Type 0 where
   pub local : (e : Entry) (h k : History) → is_local l.names e ≡ true → R h k → R (e ∷ h) (e ∷ k)
   pub asked : (core : CoreId) (message : Message) (h k : History) → l.may (Partner.Core core) ≡ true → R h k → R (act (Sends core message) h) (act (Sends core message) k)
   pub replied : (core : CoreId) (s : Status) (value : Option ℤ) (h k : History) → l.answered core ≡ true → R h k → R (act (Sends core (reply s value)) h) (act (Sends core (reply s value)) k)
   pub opened : (call : OpenCall) (h k : History) → may_open l.may call ≡ true → l.names (core_of_runner call.runner) ≡ true → R h k → R (Noted (Opened call) ∷ h) (Noted (Opened call) ∷ k)
 
--- A relation of histories that they keep, and where it holds the core reads the same, of all cores too if it may. The second history
--- is that of a core with this around it.
+-- A relation of histories that these entries keep. Where it holds, the core reads the same, of all cores too if it may.
+-- The second history is that of a core with this around it.
 pub record IsKept (l : Leave) (around : Around) (R : History → History → Type 0) : Type 0 where
   pub holds : KeepsEntries l R
   pub started : (core : CoreId) (h k : History) → is_within l.view l.may core ≡ true → R h k → knows_started h core ≡ knows_started k core
@@ -107,7 +108,8 @@ pub started-known : (cores : CoreSet) (core : CoreId) → has_core cores core �
 started-known cores core is = (and_parts (nat_lt core.number CORES) _ is).0
 
 module _ (l : Leave) where
-  -- So is each of these acts, whatever is read. A core that was started has a number that a configuration may have.
+  -- Each of these acts is allowed, whatever is read. A core that was started has a number that a configuration may
+  -- have.
   abbrev pub AreAllowed : Acts → Type 0
   AreAllowed nothing = Unit {0}
   AreAllowed (one_then a x) = (is_allowed l a ≡ true) × AreAllowed x
@@ -173,21 +175,21 @@ module _ (l : Leave) where
   pub asks-ok : (r : Runner) (service : ServiceId) (core : CoreId) (call : RemoteCall) → IsNamed r → names_only l.names (Mark.CallQueued core call) ≡ true → nat_lt core.number CORES ≡ true → l.may (Partner.Core core) ≡ true → AreAllowed (asks r service core call)
   asks-ok r service core call n named known m = (named, (and_from _ _ known m, (and_from _ _ m n, tt)))
 
-  -- What is not the core's own may be asked.
+  -- Another core that is within may be asked.
   pub elsewhere : (s : Seen) → IsSeen l s → (core : CoreId) → is_this_core s core ≡ false → is_within l.view l.may core ≡ true → l.may (Partner.Core core) ≡ true
   elsewhere s seen core other within = rw (← seen.id, other) at within
 
-  -- On an object of the own core this is done, and another core is asked.
+  -- For an object of the own core this is done; for one of another core, that core is asked.
   pub crosses-ok : (r : Runner) (service : ServiceId) (core : CoreId) (call : RemoteCall) (here : Seen → Acts) → IsNamed r → names_only l.names (Mark.CallQueued core call) ≡ true → is_within l.view l.may core ≡ true → ((s : Seen) → IsSeen l s → AreAllowed (here s)) → nat_lt core.number CORES ≡ true
       → AreAllowed (look (λ s. when (is_this_core s core) (here s) (asks r service core call)))
   crosses-ok r service core call here n named within ok known s seen = (λ own. ok s seen, λ other. asks-ok r service core call n named known (elsewhere s seen core other within))
 
-  -- What follows from what is found, if anything is.
+  -- If something is found, what follows from it is allowed.
   pub found-ok : {A : Type 0} (f : A → Acts) (o : Option A) → ((x : A) → o ≡ Some x → AreAllowed (f x)) → AreAllowed (option_map_or f o nothing)
   found-ok f None each = tt
   found-ok f (Some x) each = each x refl
 
-  -- What follows from each of a list, and from each of one of which all pass a test.
+  -- If each element of a list leads to allowed acts, so does the list; a test that all elements pass may be assumed.
   pub each-ok : {A : Type 0} (f : A → Acts) → ((x : A) → AreAllowed (f x)) → (xs : List A) → AreAllowed (for_each f xs)
   each-ok f each [] = tt
   each-ok f each (x ∷ xs) = (each x, each-ok f each xs)
@@ -198,7 +200,7 @@ module _ (l : Leave) where
       let parts = and_parts (test x) (list_all test xs) all in
       (each x parts.0, for_each-ok f test each xs parts.1)
 
-  -- And from each of a core's objects, in index order.
+  -- What follows from each of a core's objects, in index order, is allowed.
   pub in_turn-ok : {A : Type 0} (f : ℕ → A → Acts) (xs : List A) → ((n : ℕ) (x : A) → slice_get xs n ≡ Some x → AreAllowed (f n x)) → AreAllowed (in_turn f xs)
   in_turn-ok {A} f xs each = from 0 xs (λ n m x same at. let here : n ≡ m = omega (arith, same) in each m x (subst (λ k. slice_get xs k ≡ Some x) here at))
     where
@@ -206,7 +208,7 @@ module _ (l : Leave) where
       from k [] each = tt
       from k (y ∷ ys) each = (each 0 k y (omega arith) refl, from (k + 1) ys (λ n m x same at. each (suc n) m x (omega (arith, same)) at))
 
-  -- Of a chain of tables the first that has an entry.
+  -- What follows from the first of a chain of tables that has an entry is allowed.
   pub first-ok : (o : Option Acts) (others : Acts) → IfSome o AreAllowed → AreAllowed others → AreAllowed (unwrap_or o others)
   first-ok None others ok rest = rest
   first-ok (Some x) others ok rest = ok

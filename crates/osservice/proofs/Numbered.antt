@@ -15,7 +15,7 @@ module _ {A : Type 0} (acts : Core → ℕ → A → Acts) (objects : Core → L
   abbrev pub act_all : Core → Acts
   act_all core = in_turn (acts core) (objects core)
 
-  -- The next one stands at its place.
+  -- The next object is at its place.
   pub object-at : (old now : KernelState) (xs : List A) (index place : ℕ) (x : A) → xs ≡ objects old.view.own → now.view ≡ old.view → index ≡ place → place < length xs → x ≡ get_or xs place x → slice_get (objects now.view.own) index ≡ Some x
   object-at old now xs index place x same view at within is =
       (λ i. slice_get (objects (view i).own) (at i)) ∙ ap (λ (ys : List A). slice_get ys place) (sym same) ∙ slice_get-get_or xs place x within ∙ ap (λ (y : A). Some y) (sym is)
@@ -31,7 +31,7 @@ module _ {A : Type 0} (acts : Core → ℕ → A → Acts) (objects : Core → L
         ap (λ (ps : List (ℕ × A)). for_each (λ (p : ℕ × A). acts core p.0 p.1) ps)
         (sym (take_all place (enumerate_from 0 (objects core)) (omega (arith, past, objects-length))))
 
-    -- The next one acts as well.
+    -- The next object acts, too.
     module _ (x : A) (within : place < length xs) (is : x ≡ get_or xs place x) where
       one-longer : take (place + 1) (enumerate_from 0 (objects core)) ≡ take place (enumerate_from 0 (objects core)) ++ (place, x) ∷ []
       one-longer =

@@ -1,5 +1,5 @@
--- Whom a core asks beside itself: another core, by a letter; a spinlock; what all cores share, which is who of them is configured, who is
--- started, and how the spinlocks are nested; and all of them, that they shut down.
+-- Whom a core asks beside itself: another core, by a letter; a spinlock; what all cores share, that is, which of them
+-- are configured, which are started, and how the spinlocks are nested; and all cores, to shut down.
 use Rattle.osbase.specs.{declared.references.CoreId.CoreId, declared.references.SpinlockId.SpinlockId, declared.histories.Awaited.Awaited}
 
 pub data Partner : Type 0 where
@@ -8,7 +8,7 @@ pub data Partner : Type 0 where
   Shared : Partner
   Halt : Partner
 
--- Of whom a call awaits its answer.
+-- The partner from whom a call awaits its answer.
 abbrev pub partner_of : Awaited → Partner
 partner_of (Awaited.Reply service core) = Partner.Core core
 partner_of (Awaited.Halt status) = Partner.Halt

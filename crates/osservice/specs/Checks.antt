@@ -1,4 +1,4 @@
--- Checks: what a service asks before its effect, in the order of its row.
+-- Checks: what a service tests before its effect, one after the other.
 use Rattle.std.specs.Prelude.{Bool, true, false, if◌then◌else◌, List, [], ◌∷◌}
 use Rattle.osbase.specs.{declared.statuses.Status.Status, declared.statuses.Status.TheVariants.EOk}
 

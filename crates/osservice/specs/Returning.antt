@@ -8,32 +8,33 @@ use Rattle.osbase.specs.declared.histories.Awaited.TheVariants as Awaited
 use Rattle.osacts.specs.Acts.{Acts, nothing, one_then, both, when, Prints, Sends, notes, prints}
 use Rattle.osservice.specs.Checks.{Check, first_failing, is_ok_status}
 
--- A status other than E_OK calls ErrorHook. [OSEK/VDX OS 2.2.3, section 11.2]
+-- Calls ErrorHook with the status, unless it is E_OK. [OSEK/VDX OS 2.2.3, section 11.2]
 abbrev pub reports : Status → Acts
 reports status = when (is_ok_status status) nothing (prints (Mark.ErrorHook status))
 
--- No error of StartCore calls ErrorHook. [AUTOSAR SWS OS 4.x, SWS_Os_00681]
+-- The errors of this service do not call ErrorHook: the service is StartCore. [AUTOSAR SWS OS 4.x, SWS_Os_00681]
 abbrev pub calls_no_hook : ServiceId → Bool
 calls_no_hook Service.StartCore = true
 calls_no_hook service = false
 
--- A status of a service calls ErrorHook, unless its errors call none.
+-- Calls ErrorHook with the service's status, unless the status is E_OK or the service's errors call no hook.
 abbrev pub reports_of : ServiceId → Status → Acts
 reports_of service status = when (calls_no_hook service) nothing (reports status)
 
--- A service returns to the runner's job: its status is printed, then ErrorHook is called, and the job stands
--- at its next operation. [OSEK/VDX OS 2.2.3, section 11.2]
+-- A service returns to the runner's job. Its status or value is printed, an error calls ErrorHook unless the service is
+-- StartCore, and the job goes on to its next operation. [OSEK/VDX OS 2.2.3, section 11.2]
 abbrev pub returns : Runner → ServiceId → Status → Option ℤ → Acts
 returns r service status value =
     both (prints (returned r service status value)) (both (reports_of service status) (notes (Done r status value)))
 
--- A service whose checks are these: it has its effect, or returns the status of the first check that fails and has no
--- other effect. [OSEK/VDX OS 2.2.3, section 11.2]
+-- If none of these checks fails, the service has its effect. Else it returns the status of the first check that fails,
+-- and has no other effect. [OSEK/VDX OS 2.2.3, section 11.2]
 abbrev pub answers : Runner → ServiceId → List Check → Acts → Acts
 answers r service checks effect =
     when (is_ok_status (first_failing checks)) effect (returns r service (first_failing checks) None)
 
--- A service on another core's object: a request goes to the outbox, and the call stays open until its reply.
+-- A service on another core's object: its line is printed, its request joins the outbox, and the call stays open until
+-- the reply comes.
 -- [AUTOSAR SWS OS 4.x, SWS_Os_00596 and SWS_Os_00602; that it is a request and a reply is this project's own]
 abbrev pub asks : Runner → ServiceId → CoreId → RemoteCall → Acts
 asks r service core call =

@@ -1,4 +1,5 @@
-//! What all services share: what they may read and do, what a script names, how they return, and how they ask another core.
+//! What all services share: what they may read and do, what a script names, how they return, and how they ask another
+//! core.
 //!
 //! No function here takes memory. Each asks for room for the entries and marks that it adds.
 #![tactic(auto)]

@@ -11,14 +11,14 @@ ghost use Rattle.osacts.specs.Steps.{Steps};
 use osbase::{Awaited, CoreId, Mark, Message, OpenCall, RemoteCall, Runner, ServiceId, Status};
 use osstate::CoreState;
 
-/// What a service answers: its status, and with E_OK the value of one that has a value.
+/// What a service answers: its status, and with E_OK its value, if it has one.
 #[derive(Clone, Copy, PartialEq, Eq)]
 pub struct ServiceResult {
     pub status: Status,
     pub value: Option<i64>,
 }
 
-/// What a service answers that has no value.
+/// The answer of a service that has no value.
 pub fn without_value(status: Status) -> ServiceResult
     ensures { result ≡ record { status = status; value = None } }
 {
@@ -35,7 +35,7 @@ pub fn is_ok(status: Status) -> bool
     matches!(status, Status::EOk)
 }
 
-/// A status other than E_OK calls ErrorHook (OSEK/VDX OS 2.2.3, section 11.2).
+/// Calls ErrorHook with the status, unless it is E_OK (OSEK/VDX OS 2.2.3, section 11.2).
 pub fn report<const P: usize, const J: usize, const OUT: usize>(
     state: &mut CoreState<'_, P, J, OUT>,
     status: Status,
@@ -49,14 +49,15 @@ pub fn report<const P: usize, const J: usize, const OUT: usize>(
     }
 }
 
-// No error of StartCore calls ErrorHook (AUTOSAR SWS OS 4.x, SWS_Os_00681).
+// Whether the errors of this service do not call ErrorHook: so it is for StartCore alone (AUTOSAR SWS OS 4.x,
+// SWS_Os_00681).
 fn calls_no_hook(service: ServiceId) -> bool
     ensures { result ≡ calls_no_hook service }
 {
     matches!(service, ServiceId::StartCore)
 }
 
-// A status of a service calls ErrorHook, unless its errors call none.
+// Calls ErrorHook with the service's status, unless the status is E_OK or the service's errors call no hook.
 fn report_of<const P: usize, const J: usize, const OUT: usize>(
     state: &mut CoreState<'_, P, J, OUT>,
     service: ServiceId,
@@ -71,7 +72,7 @@ fn report_of<const P: usize, const J: usize, const OUT: usize>(
     }
 }
 
-// The line of a service that returned.
+// The line of a service that returned: with its value, if it has one, else with its status.
 fn mark_of(runner: Runner, service: ServiceId, answer: ServiceResult) -> Mark
     ensures mark { result ≡ returned runner service answer.status answer.value }
     ensures plain { IsTrue (is_plain result) }
@@ -90,8 +91,8 @@ fn mark_of(runner: Runner, service: ServiceId, answer: ServiceResult) -> Mark
     }
 }
 
-/// A service returns to the job of one of the core's tasks: its status is printed, then ErrorHook is
-/// called, and the job stands at its next operation.
+/// A service returns to a job of one of the core's tasks or ISRs. Its status or value is printed, an error calls
+/// ErrorHook unless the service is StartCore, and the job goes on to its next operation.
 pub fn finish<const P: usize, const J: usize, const OUT: usize>(
     state: &mut CoreState<'_, P, J, OUT>,
     runner: Runner,
@@ -134,8 +135,8 @@ pub fn accept<const P: usize, const J: usize, const OUT: usize>(
     finish(state, runner, service, without_value(Status::EOk), marks);
 }
 
-/// A service on another core's object: its request joins the outbox, and the call stays open until the
-/// reply comes (AUTOSAR SWS OS 4.x, SWS_Os_00596 and SWS_Os_00602).
+/// A service on another core's object: its line is printed, its request joins the outbox, and the call stays open until
+/// the reply comes (AUTOSAR SWS OS 4.x, SWS_Os_00596 and SWS_Os_00602).
 pub fn ask<const P: usize, const J: usize, const OUT: usize>(
     state: &mut CoreState<'_, P, J, OUT>,
     runner: Runner,

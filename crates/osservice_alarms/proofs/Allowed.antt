@@ -1,4 +1,5 @@
--- The acts of each service are allowed: they name the caller alone, ask no core, and set an alarm as a service grants it.
+-- The acts of each service are allowed: they name the caller alone, ask no core, and set an alarm as a service grants
+-- it.
 use Rattle.std.proofs.Common.{◌≡◌, ◌<◌, ◌≤◌, ℕ, suc, Bool, true, is_some, IfSome, arith}
 use Rattle.std.proofs.lemmas.Bool.{or_right}
 use Rattle.osbase.specs.{declared.statuses.ServiceId.TheVariants.GetCounterValue, declared.references.AlarmRef.AlarmRef, declared.references.Runner.Runner, History.AlarmSet, History.Noted, Objects.counter_object}

@@ -1,4 +1,4 @@
-//! The services of alarms, where the alarm stands.
+//! The services of alarms, on the alarm's own core.
 
 ghost use Rattle.std.specs.Prelude.{◌≡◌, ◌<◌, ◌≤◌, ◌^◌, Some, IsTrue, false, option_copied};
 ghost use Rattle.osbase.specs.Objects.{alarm_object};
@@ -13,7 +13,7 @@ use osplan::Counter;
 use osservice::{ServiceResult, is_ok, without_value};
 use osstate::CoreState;
 
-// The counter of one of the core's alarms.
+// The counter of one of the core's alarms; none for an alarm that is not the core's own.
 fn counter_for<'a, const P: usize, const J: usize, const OUT: usize>(
     state: &CoreState<'a, P, J, OUT>,
     alarm: AlarmRef,
@@ -24,14 +24,14 @@ fn counter_for<'a, const P: usize, const J: usize, const OUT: usize>(
     state.counter(Some(own.counter))
 }
 
-// Whether the counter admits the cycle: none, or one from its least to its greatest value.
+// Whether the counter admits the cycle: 0, or one from its least cycle to its greatest value.
 fn is_cycle(counter: &Counter, cycle: u32) -> bool
     ensures { result ≡ is_cycle (counter_sizes counter.now) (Some cycle) }
 {
     cycle == 0 || (counter.min <= cycle && cycle <= counter.max)
 }
 
-// Whether the alarm's counter admits a first time after so many counts, and the cycle.
+// Whether the alarm's counter admits this increment, which is from 1 to the counter's greatest value, and this cycle.
 fn admits_increment<const P: usize, const J: usize, const OUT: usize>(
     state: &CoreState<'_, P, J, OUT>,
     alarm: AlarmRef,
@@ -47,7 +47,7 @@ fn admits_increment<const P: usize, const J: usize, const OUT: usize>(
     }
 }
 
-// Whether it admits a first time at this value, and the cycle.
+// Whether the alarm's counter admits this start, which is one of the counter's values, and this cycle.
 fn admits_start<const P: usize, const J: usize, const OUT: usize>(
     state: &CoreState<'_, P, J, OUT>,
     alarm: AlarmRef,
@@ -63,7 +63,8 @@ fn admits_start<const P: usize, const J: usize, const OUT: usize>(
     }
 }
 
-// The first check that fails of those of a setting that the alarm's counter admits or not.
+// The status of the first check that fails, else E_OK. The checks are that the alarm is not in use, and then that its
+// counter admits the setting, as `is_admitted` says.
 fn status_of_setting<const P: usize, const J: usize, const OUT: usize>(
     state: &CoreState<'_, P, J, OUT>,
     alarm: AlarmRef,
@@ -82,9 +83,10 @@ fn status_of_setting<const P: usize, const J: usize, const OUT: usize>(
     }
 }
 
-/// One of the core's alarms is due after so many counts of its counter, and again after each cycle (OSEK/VDX OS 2.2.3,
-/// section 13.6.3.3). An alarm in use answers E_OS_STATE; an increment of 0 or above the counter's greatest value, and a
-/// cycle other than 0 below its least or above its greatest, E_OS_VALUE. Then it stays as it was.
+/// Sets one of the core's alarms to expire after `increment` counts, and again after each cycle, unless the cycle is 0
+/// (OSEK/VDX OS 2.2.3, section 13.6.3.3). Returns E_OS_STATE if the alarm is in use. Returns E_OS_VALUE if
+/// `increment` is 0 or greater than the counter's greatest value, or if the counter does not admit the cycle. A refused
+/// alarm stays as it was.
 pub fn set_relative<const P: usize, const J: usize, const OUT: usize>(
     state: &mut CoreState<'_, P, J, OUT>,
     alarm: AlarmRef,
@@ -104,9 +106,10 @@ pub fn set_relative<const P: usize, const J: usize, const OUT: usize>(
     without_value(status)
 }
 
-/// One of the core's alarms is due when its counter has this value, the present one after a full turn, and again after
-/// each cycle (OSEK/VDX OS 2.2.3, section 13.6.3.4). An alarm in use answers E_OS_STATE; a value above the counter's
-/// greatest, and a cycle as of `set_relative`, E_OS_VALUE. Then it stays as it was.
+/// Sets one of the core's alarms to expire when its counter has the value `start`, and again after each cycle, unless
+/// the cycle is 0 (OSEK/VDX OS 2.2.3, section 13.6.3.4). If the counter has it now, a full turn passes first. Returns
+/// E_OS_STATE if the alarm is in use, and E_OS_VALUE for a start or a cycle that the counter does not admit. A refused
+/// alarm stays as it was.
 pub fn set_absolute<const P: usize, const J: usize, const OUT: usize>(
     state: &mut CoreState<'_, P, J, OUT>,
     alarm: AlarmRef,
@@ -127,7 +130,7 @@ pub fn set_absolute<const P: usize, const J: usize, const OUT: usize>(
     without_value(status)
 }
 
-// The first check that fails of those that concern an alarm in use.
+// The status of the check that the alarm is in use: E_OK or E_OS_NOFUNC.
 fn status_of_use<const P: usize, const J: usize, const OUT: usize>(
     state: &CoreState<'_, P, J, OUT>,
     alarm: AlarmRef,
@@ -142,8 +145,8 @@ fn status_of_use<const P: usize, const J: usize, const OUT: usize>(
     }
 }
 
-/// One of the core's alarms is not in use any longer (OSEK/VDX OS 2.2.3, section 13.6.3.5). One that was not in use
-/// answers E_OS_NOFUNC.
+/// Cancels one of the core's alarms: it is then no longer in use (OSEK/VDX OS 2.2.3, section 13.6.3.5). Returns
+/// E_OS_NOFUNC if the alarm is not in use.
 pub fn cancel<const P: usize, const J: usize, const OUT: usize>(
     state: &mut CoreState<'_, P, J, OUT>,
     alarm: AlarmRef,
@@ -160,8 +163,8 @@ pub fn cancel<const P: usize, const J: usize, const OUT: usize>(
     without_value(status)
 }
 
-/// How many counts are left until one of the core's alarms is due (OSEK/VDX OS 2.2.3, section 13.6.3.2). One that is not
-/// in use answers E_OS_NOFUNC.
+/// How many counts are left until one of the core's alarms expires (OSEK/VDX OS 2.2.3, section 13.6.3.2). Returns
+/// E_OS_NOFUNC if the alarm is not in use.
 pub fn ask_left<const P: usize, const J: usize, const OUT: usize>(
     state: &CoreState<'_, P, J, OUT>,
     alarm: AlarmRef,

@@ -28,8 +28,8 @@ fn read_value<const P: usize, const J: usize, const OUT: usize>(
     }
 }
 
-// A running job of one of the core's tasks asks for the value of a counter (AUTOSAR SWS OS 4.x, SWS_Os_00377). The
-// invalid identifier, and a counter of another core, answer E_OS_ID.
+// A running job asks for the value of a counter (AUTOSAR SWS OS 4.x, SWS_Os_00377). The service returns E_OS_ID for the
+// invalid identifier and for a counter of another core.
 fn get_counter_value<const P: usize, const J: usize, const OUT: usize>(
     state: &mut CoreState<'_, P, J, OUT>,
     runner: Runner,
@@ -46,7 +46,7 @@ fn get_counter_value<const P: usize, const J: usize, const OUT: usize>(
     finish(state, runner, ServiceId::GetCounterValue, answer, marks);
 }
 
-/// An operation of a running job of one of the core's tasks, if it is GetCounterValue: it is done, and the answer
+/// If an operation of a running job of one of the core's tasks or ISRs is GetCounterValue, it is done, and the answer
 /// is yes. Else nothing changes.
 pub fn operate<const P: usize, const J: usize, const OUT: usize>(
     state: &mut CoreState<'_, P, J, OUT>,

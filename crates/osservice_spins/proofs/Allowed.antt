@@ -1,4 +1,4 @@
--- The acts of each service are allowed: whoever names a spinlock asks for it, and for what all cores share.
+-- The acts of each service are allowed: an operation that names a spinlock asks for it, and for what all cores share.
 use Rattle.std.proofs.Common.{◌≡◌, true, Some, None, IfSome, List, refl}
 use Rattle.std.proofs.lemmas.Bool.{and_from, and_parts}
 use Rattle.osbase.specs.{declared.statuses.Status.TheVariants.EOsId, declared.statuses.ServiceId.ServiceId, declared.references.Runner.Runner, declared.references.SpinlockId.SpinlockId, declared.histories.Awaited.Awaited}

@@ -1,5 +1,5 @@
--- The services of spinlocks. Each checks what this core knows, and then its call is open until the spinlock answers: only there it is
--- known which core holds it.
+-- The services of spinlocks. Each checks what this core knows. Then its call is open until the spinlock answers: only
+-- the spinlock shows which core holds it.
 use Rattle.std.specs.Prelude.{nat_lt, Bool, false, not, Option, Some, None, List, [], ◌∷◌, length}
 use Rattle.std.specs.Option.{option_map_or}
 use Rattle.osbase.specs.declared.statuses.Status.TheVariants.{EOsId, EOsInterferenceDeadlock, EOsNestingDeadlock, EOsNofunc, EOsState}
@@ -15,23 +15,24 @@ use Rattle.osacts.specs.Seen.{AllCores, Seen}
 
 -- ---- what is checked
 
--- There is no such spinlock. No script of an accepted configuration names one that there is not.
+-- No spinlock of this index is configured. No script of an accepted configuration names such a spinlock.
 abbrev pub is_missing : AllCores → SpinlockId → Bool
 is_missing all l = not (nat_lt l.index (length all.links))
 
--- The caller holds a spinlock, and this one does not come after its newest: cores that take spinlocks in another order than the
--- configured one may wait for each other. [AUTOSAR SWS OS 4.x, SWS_Os_00660 and SWS_Os_00661]
+-- The caller holds a spinlock, and spinlock `l` does not come after the newest that it holds. Cores that take spinlocks
+-- in another order than the configured one may wait for each other. [AUTOSAR SWS OS 4.x, SWS_Os_00660 and SWS_Os_00661]
 abbrev pub breaks_order : AllCores → Seen → Runner → SpinlockId → Bool
 breaks_order all s r l = option_map_or (λ (newest : SpinlockId). not (comes_after all.links (length all.links) newest l)) (newest_of r s.spins) false
 
--- What GetSpinlock and TryToGetSpinlock check: that there is such a spinlock; that no job of this core has it, since a job that waits
--- for one of its own core would wait for ever; and the order.
+-- What GetSpinlock and TryToGetSpinlock check: that there is such a spinlock; that no job of this core has it, since a
+-- job that waits for a job of its own core would wait for ever; and that it comes after the newest spinlock that the
+-- caller holds.
 -- [AUTOSAR SWS OS 4.x, SWS_Os_00689 to SWS_Os_00691 and SWS_Os_00707 to SWS_Os_00709]
 abbrev pub getting_checks : Runner → AllCores → Seen → SpinlockId → List Check
 getting_checks r all s l =
     (is_missing all l, EOsId) ∷ (has_spinlock l s.spins, EOsInterferenceDeadlock) ∷ (breaks_order all s r l, EOsNestingDeadlock) ∷ []
 
--- The spinlock is not the newest that the caller holds.
+-- The spinlock is not the newest that the caller holds, or the caller holds none.
 abbrev pub is_not_newest : Seen → Runner → SpinlockId → Bool
 is_not_newest s r l = not (option_map_or (same_spinlock l) (newest_of r s.spins) false)
 
@@ -43,28 +44,32 @@ releasing_checks r all s l =
 
 -- ---- the services
 
--- The call is open until this answers.
+-- The call of the task or ISR stays open until this answer comes.
 abbrev pub awaits : Runner → Awaited → Acts
 awaits r awaited = notes (Opened (record { runner = r; awaits = awaited }))
 
--- A service on the spinlock that a script names: the invalid identifier answers E_OS_ID without a look at what all cores share.
+-- A service on the spinlock that a script names. If its checks pass, the call is open until the spinlock answers; else
+-- the service returns the status of the first check that fails. For the invalid identifier it returns E_OS_ID, without
+-- a look at what all cores share.
 abbrev pub asks_spinlock : Runner → ServiceId → (AllCores → Seen → SpinlockId → List Check) → (SpinlockId → Awaited) → Option SpinlockId → Acts
 asks_spinlock r service checks awaited None = returns r service EOsId None
 asks_spinlock r service checks awaited (Some l) = look_around (λ all. look (λ s. answers r service (checks all s l) (awaits r (awaited l))))
 
--- GetSpinlock waits until the spinlock is taken. [AUTOSAR SWS OS 4.x, SWS_Os_00687]
+-- GetSpinlock: if its checks pass, the call is open until the core has taken the spinlock. [AUTOSAR SWS OS 4.x,
+-- SWS_Os_00687]
 abbrev pub gets_spinlock : Runner → Option SpinlockId → Acts
 gets_spinlock r target = asks_spinlock r Service.GetSpinlock (getting_checks r) Awaits.Get target
 
--- TryToGetSpinlock waits for what one try answers. [AUTOSAR SWS OS 4.x, SWS_Os_00704]
+-- TryToGetSpinlock: if its checks pass, the call is open until one try is answered. [AUTOSAR SWS OS 4.x, SWS_Os_00704]
 abbrev pub tries_spinlock : Runner → Option SpinlockId → Acts
 tries_spinlock r target = asks_spinlock r Service.TryToGetSpinlock (getting_checks r) Awaits.Try target
 
--- ReleaseSpinlock waits until the spinlock is given back. [AUTOSAR SWS OS 4.x, SWS_Os_00696]
+-- ReleaseSpinlock: if its checks pass, the call is open until the spinlock is given back. [AUTOSAR SWS OS 4.x,
+-- SWS_Os_00696]
 abbrev pub releases_spinlock : Runner → Option SpinlockId → Acts
 releases_spinlock r target = asks_spinlock r Service.ReleaseSpinlock (releasing_checks r) Awaits.Release target
 
--- The table of the family: what an operation does for a runner, if it is one of these services.
+-- What an operation does for a runner, if it is a service of spinlocks.
 abbrev pub spin_acts : Runner → Op → Option Acts
 spin_acts r (Op.GetSpinlock target) = Some (gets_spinlock r target)
 spin_acts r (Op.TryToGetSpinlock target x) = Some (tries_spinlock r target)

@@ -12,7 +12,7 @@ use oscript::Op;
 use osservice::{Step, is_ok, refuse};
 use osstate::CoreState;
 
-// The caller holds a spinlock, and this one does not come after its newest.
+// Whether the caller holds a spinlock, and spinlock `lock` does not come after the newest that it holds.
 fn breaks_order<const P: usize, const J: usize, const OUT: usize>(
     state: &CoreState<'_, P, J, OUT>,
     runner: Runner,
@@ -26,7 +26,7 @@ fn breaks_order<const P: usize, const J: usize, const OUT: usize>(
     }
 }
 
-// The first check that fails of those that a job makes which takes a spinlock.
+// The status of the first check that fails when a job asks for a spinlock, else E_OK.
 fn status_of_getting<const P: usize, const J: usize, const OUT: usize>(
     state: &CoreState<'_, P, J, OUT>,
     runner: Runner,
@@ -46,7 +46,7 @@ fn status_of_getting<const P: usize, const J: usize, const OUT: usize>(
     }
 }
 
-// The spinlock is not the newest that the caller holds.
+// Whether the spinlock is not the newest that the caller holds, or the caller holds none.
 fn is_not_newest<const P: usize, const J: usize, const OUT: usize>(
     state: &CoreState<'_, P, J, OUT>,
     runner: Runner,
@@ -60,7 +60,7 @@ fn is_not_newest<const P: usize, const J: usize, const OUT: usize>(
     }
 }
 
-// The first check that fails of those that a job makes which gives a spinlock back.
+// The status of the first check that fails when a job gives a spinlock back, else E_OK.
 fn status_of_releasing<const P: usize, const J: usize, const OUT: usize>(
     state: &CoreState<'_, P, J, OUT>,
     runner: Runner,
@@ -80,7 +80,8 @@ fn status_of_releasing<const P: usize, const J: usize, const OUT: usize>(
     }
 }
 
-// With E_OK the call is open until the spinlock answers; else it is refused.
+// If the status of the checks is E_OK, the call is open until the spinlock answers. Else the service returns the
+// status.
 fn ask<const P: usize, const J: usize, const OUT: usize>(
     state: &mut CoreState<'_, P, J, OUT>,
     call: OpenCall,
@@ -99,9 +100,10 @@ fn ask<const P: usize, const J: usize, const OUT: usize>(
     }
 }
 
-// A running job of one of the core's tasks or ISRs waits until it has a spinlock (AUTOSAR SWS OS 4.x, SWS_Os_00687). The
-// invalid identifier answers E_OS_ID, a spinlock that a job of this core has E_OS_INTERFERENCE_DEADLOCK, and one that does
-// not come after the newest that the caller holds E_OS_NESTING_DEADLOCK. None of these has another effect.
+// A running job waits until it has a spinlock (AUTOSAR SWS OS 4.x, SWS_Os_00687). The service returns E_OS_ID for the
+// invalid identifier and for a spinlock that is not configured, and E_OS_INTERFERENCE_DEADLOCK for one that a job of
+// this core has. It returns E_OS_NESTING_DEADLOCK for one that does not come after the newest that the caller holds. It
+// has no other effect then.
 fn get_spinlock<const P: usize, const J: usize, const OUT: usize>(
     state: &mut CoreState<'_, P, J, OUT>,
     runner: Runner,
@@ -120,8 +122,8 @@ fn get_spinlock<const P: usize, const J: usize, const OUT: usize>(
     ask(state, OpenCall { runner, awaits }, service, status, marks);
 }
 
-// A running job of one of the core's tasks or ISRs tries once to take a spinlock, with the same checks (AUTOSAR SWS OS 4.x,
-// SWS_Os_00704).
+// A running job of one of the core's tasks or ISRs tries once to take a spinlock, with the checks of GetSpinlock
+// (AUTOSAR SWS OS 4.x, SWS_Os_00704).
 fn try_spinlock<const P: usize, const J: usize, const OUT: usize>(
     state: &mut CoreState<'_, P, J, OUT>,
     runner: Runner,
@@ -140,9 +142,9 @@ fn try_spinlock<const P: usize, const J: usize, const OUT: usize>(
     ask(state, OpenCall { runner, awaits }, service, status, marks);
 }
 
-// A running job of one of the core's tasks or ISRs gives back the newest of the spinlocks that it holds (AUTOSAR SWS OS 4.x,
-// SWS_Os_00696). The invalid identifier answers E_OS_ID, a spinlock that the caller does not hold E_OS_STATE, and one that
-// it holds below a newer one E_OS_NOFUNC. None of these has another effect.
+// A running job gives back the newest of the spinlocks that it holds (AUTOSAR SWS OS 4.x, SWS_Os_00696). The service
+// returns E_OS_ID for the invalid identifier and for a spinlock that is not configured, E_OS_STATE for one that the
+// caller does not hold, and E_OS_NOFUNC for one that is not its newest. It has no other effect then.
 fn release_spinlock<const P: usize, const J: usize, const OUT: usize>(
     state: &mut CoreState<'_, P, J, OUT>,
     runner: Runner,
@@ -161,8 +163,8 @@ fn release_spinlock<const P: usize, const J: usize, const OUT: usize>(
     ask(state, OpenCall { runner, awaits }, service, status, marks);
 }
 
-/// An operation of a running job of one of the core's tasks or ISRs, if it is a service of spinlocks: it is done, and the answer is
-/// yes. Else nothing changes.
+/// If an operation of a running job of one of the core's tasks or ISRs is a service of spinlocks, it is done, and the
+/// answer is yes. Else nothing changes.
 pub fn operate<const P: usize, const J: usize, const OUT: usize>(
     state: &mut CoreState<'_, P, J, OUT>,
     step: Step,

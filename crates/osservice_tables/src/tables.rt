@@ -15,7 +15,8 @@ use osplan::{Counter, Table};
 use osservice::{ServiceResult, Step, finish, is_ok, own_of, without_value};
 use osstate::CoreState;
 
-// Whether a table can be started: that it is stopped, and then that its counter admits it.
+// The status of the first check that fails, else E_OK. The checks are that the table is stopped, and then that its
+// counter admits the start, as `is_admitted` says.
 fn status_of_start<const P: usize, const J: usize, const OUT: usize>(
     state: &CoreState<'_, P, J, OUT>,
     table: TableRef,
@@ -34,7 +35,7 @@ fn status_of_start<const P: usize, const J: usize, const OUT: usize>(
     }
 }
 
-// The offset of a table's first point; 0 where it has none.
+// The offset of a table's first expiry point; 0 if it has none.
 fn first_offset(table: &Table) -> u32
     ensures { result ≡ first_offset (map point_sizes table.now.points) }
 {
@@ -44,7 +45,8 @@ fn first_offset(table: &Table) -> u32
     }
 }
 
-// Whether the table's counter admits a start after so many counts.
+// Whether the table may start after `offset` counts: at least 1, and at most the counter's greatest value less the
+// offset of the first expiry point.
 fn admits_offset<const P: usize, const J: usize, const OUT: usize>(
     state: &CoreState<'_, P, J, OUT>,
     table: TableRef,
@@ -62,7 +64,7 @@ fn admits_offset<const P: usize, const J: usize, const OUT: usize>(
     }
 }
 
-// Whether it admits a start at this value.
+// Whether `start` is one of the values of the table's counter.
 fn admits_value<const P: usize, const J: usize, const OUT: usize>(
     state: &CoreState<'_, P, J, OUT>,
     table: TableRef,
@@ -79,7 +81,7 @@ fn admits_value<const P: usize, const J: usize, const OUT: usize>(
     }
 }
 
-// After how many counts the table's counter has this value.
+// After how many counts the table's counter has the value `start`. If the counter has it now, a full turn.
 fn counts_to_start<const P: usize, const J: usize, const OUT: usize>(
     state: &CoreState<'_, P, J, OUT>,
     table: TableRef,
@@ -96,6 +98,7 @@ fn counts_to_start<const P: usize, const J: usize, const OUT: usize>(
     }
 }
 
+// What StartScheduleTableRel does and answers for one of the core's tables.
 fn start_relative<const P: usize, const J: usize, const OUT: usize>(
     state: &mut CoreState<'_, P, J, OUT>,
     table: TableRef,
@@ -115,6 +118,7 @@ fn start_relative<const P: usize, const J: usize, const OUT: usize>(
     without_value(status)
 }
 
+// What StartScheduleTableAbs does and answers for one of the core's tables.
 fn start_absolute<const P: usize, const J: usize, const OUT: usize>(
     state: &mut CoreState<'_, P, J, OUT>,
     table: TableRef,
@@ -135,7 +139,7 @@ fn start_absolute<const P: usize, const J: usize, const OUT: usize>(
     without_value(status)
 }
 
-// The table that waits for this one waits no longer.
+// The table that waits for the end of a period of this one, if there is one, waits no longer.
 fn quit_next<const P: usize, const J: usize, const OUT: usize>(
     state: &mut CoreState<'_, P, J, OUT>,
     table: TableRef,
@@ -148,6 +152,7 @@ fn quit_next<const P: usize, const J: usize, const OUT: usize>(
     }
 }
 
+// What NextScheduleTable does and answers for two of the core's tables with the same counter.
 fn switch<const P: usize, const J: usize, const OUT: usize>(
     state: &mut CoreState<'_, P, J, OUT>,
     from: TableRef,
@@ -171,6 +176,7 @@ fn switch<const P: usize, const J: usize, const OUT: usize>(
     without_value(Status::EOk)
 }
 
+// What StopScheduleTable does and answers for one of the core's tables.
 fn stop<const P: usize, const J: usize, const OUT: usize>(
     state: &mut CoreState<'_, P, J, OUT>,
     table: TableRef,
@@ -188,9 +194,10 @@ fn stop<const P: usize, const J: usize, const OUT: usize>(
     without_value(Status::EOk)
 }
 
-// A running job of one of the core's tasks starts a schedule table, whose first period begins after so many counts (AUTOSAR
-// SWS OS 4.x, SWS_Os_00278). The invalid identifier answers E_OS_ID, a table that is not stopped E_OS_STATE; an offset of 0, and one
-// above the counter's greatest value less the offset of the first point, E_OS_VALUE. Then the table stays as it was.
+// A running job starts a schedule table; its first period begins after `offset` counts (AUTOSAR SWS OS 4.x,
+// SWS_Os_00278). The service returns E_OS_ID for the invalid identifier and for a table of another core, and E_OS_STATE
+// for a table that is not stopped. It returns E_OS_VALUE if `offset` is 0, or if it is greater than the counter's
+// greatest value less the offset of the first expiry point.
 fn start_schedule_table_rel<const P: usize, const J: usize, const OUT: usize>(
     state: &mut CoreState<'_, P, J, OUT>,
     runner: Runner,
@@ -214,9 +221,9 @@ fn start_schedule_table_rel<const P: usize, const J: usize, const OUT: usize>(
     );
 }
 
-// Its first period begins when its counter has this value, the present one after a full turn (AUTOSAR SWS OS 4.x,
-// SWS_Os_00351). The refusals are those of `start_schedule_table_rel`, but E_OS_VALUE answers a value above the counter's
-// greatest.
+// A running job starts a schedule table; its first period begins when its counter has the value `start` (AUTOSAR SWS OS
+// 4.x, SWS_Os_00351). If the counter has it now, a full turn passes first. The refusals are those of
+// `start_schedule_table_rel`, but E_OS_VALUE is returned for a value above the counter's greatest.
 fn start_schedule_table_abs<const P: usize, const J: usize, const OUT: usize>(
     state: &mut CoreState<'_, P, J, OUT>,
     runner: Runner,
@@ -240,9 +247,10 @@ fn start_schedule_table_abs<const P: usize, const J: usize, const OUT: usize>(
     );
 }
 
-// A table waits for the end of a period of another one, to begin in its place; one that waited for it stops (AUTOSAR SWS OS
-// 4.x, SWS_Os_00284 and SWS_Os_00324). The invalid identifier and two tables of different counters answer E_OS_ID, a second table
-// that is not stopped E_OS_STATE, a first one that does not run E_OS_NOFUNC. Then both stay as they were.
+// Table `to` waits to begin when a period of `from` ends; a table that already waited for `from` stops (AUTOSAR SWS OS
+// 4.x, SWS_Os_00284 and SWS_Os_00324). Returns E_OS_ID for the invalid identifier, for a table of another core and for
+// tables of two counters, E_OS_STATE if `to` is not stopped, and E_OS_NOFUNC if `from` does not run. Refused tables
+// stay as they were.
 fn next_schedule_table<const P: usize, const J: usize, const OUT: usize>(
     state: &mut CoreState<'_, P, J, OUT>,
     runner: Runner,
@@ -260,8 +268,9 @@ fn next_schedule_table<const P: usize, const J: usize, const OUT: usize>(
     finish(state, runner, ServiceId::NextScheduleTable, answer, marks);
 }
 
-// A table stops, or waits no longer; one that waits for it stops too (AUTOSAR SWS OS 4.x, SWS_Os_00281). The invalid
-// identifier answers E_OS_ID, a table that is stopped E_OS_NOFUNC.
+// A table stops, or waits no longer; a table that waits for it stops too (AUTOSAR SWS OS 4.x, SWS_Os_00281). Returns
+// E_OS_ID for the invalid identifier and for a table of another core, and E_OS_NOFUNC for a table that is stopped
+// already.
 fn stop_schedule_table<const P: usize, const J: usize, const OUT: usize>(
     state: &mut CoreState<'_, P, J, OUT>,
     runner: Runner,
@@ -278,8 +287,9 @@ fn stop_schedule_table<const P: usize, const J: usize, const OUT: usize>(
     finish(state, runner, ServiceId::StopScheduleTable, answer, marks);
 }
 
-// Whether a table is stopped, 0, waits for another one, 1, or runs, 2 (AUTOSAR SWS OS 4.x, SWS_Os_00289 to SWS_Os_00291; the
-// numbers: own). The invalid identifier answers E_OS_ID.
+// The status of a table: 0 if it is stopped, 1 if it waits for another one, 2 if it runs (AUTOSAR SWS OS 4.x,
+// SWS_Os_00289 to SWS_Os_00291; the numbers: own). Returns E_OS_ID for the invalid identifier and for a table of
+// another core.
 fn get_schedule_table_status<const P: usize, const J: usize, const OUT: usize>(
     state: &mut CoreState<'_, P, J, OUT>,
     runner: Runner,
@@ -302,6 +312,7 @@ fn get_schedule_table_status<const P: usize, const J: usize, const OUT: usize>(
     );
 }
 
+// What GetScheduleTableStatus answers for one of the core's tables.
 fn tell_status<const P: usize, const J: usize, const OUT: usize>(
     state: &CoreState<'_, P, J, OUT>,
     table: TableRef,
@@ -316,7 +327,7 @@ fn tell_status<const P: usize, const J: usize, const OUT: usize>(
     }
 }
 
-// Two tables that a script names, if both are the core's own and go by one counter.
+// The two tables that a script names, if both are the core's own and have the same counter.
 fn own_pair<const P: usize, const J: usize, const OUT: usize>(
     state: &CoreState<'_, P, J, OUT>,
     from: Option<TableRef>,
@@ -335,6 +346,7 @@ fn own_pair<const P: usize, const J: usize, const OUT: usize>(
     None
 }
 
+// Whether both are the core's own tables, and have the same counter.
 fn are_of_one_counter<const P: usize, const J: usize, const OUT: usize>(
     state: &CoreState<'_, P, J, OUT>,
     table: TableRef,
@@ -354,8 +366,8 @@ fn is_same_counter(counter: CounterRef, other: CounterRef) -> bool
     counter == other
 }
 
-/// An operation of a running job of one of the core's tasks, if it is a service of schedule tables: it is done, and the answer
-/// is yes. Else nothing changes.
+/// If an operation of a running job of one of the core's tasks or ISRs is a service of schedule tables, it is done, and
+/// the answer is yes. Else nothing changes.
 pub fn operate<const P: usize, const J: usize, const OUT: usize>(
     state: &mut CoreState<'_, P, J, OUT>,
     step: Step,

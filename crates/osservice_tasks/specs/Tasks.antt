@@ -13,38 +13,43 @@ use Rattle.osservice_tasks.specs.{Events.clears_event, Events.gets_event, Events
 abbrev pub activates : TaskRef → Acts
 activates t = prints (Mark.Activated t)
 
--- A task is activated where it stands: no more jobs than allowed. [OSEK/VDX OS 2.2.3, section 13.2.3.1]
+-- A task is activated on its own core, unless it has as many jobs as it may have. [OSEK/VDX OS 2.2.3, section 13.2.3.1]
 abbrev pub activation : TaskRef → Seen → Service
 activation t s = without_value ((is_at_limit s t, EOsLimit) ∷ []) (activates t)
 
--- The runner's oldest job ends by its own act: PostTaskHook comes first. [OSEK/VDX OS 2.2.3, section 11.5]
+-- The runner's oldest job ends. For a task, PostTaskHook comes first. [OSEK/VDX OS 2.2.3, section 11.5]
 abbrev pub ends : Runner → Acts
 ends (Runner.Task t) = both (prints (Mark.PostTaskHook t)) (prints (Mark.Terminated t))
 ends (Runner.Isr i) = prints (Mark.IsrLeft i)
 
--- A job that reaches the end of its script: a task is ended by the OS with E_OS_MISSINGEND, and with no other status; an ISR ends.
+-- A job reaches the end of its script, and ends. For a task, ErrorHook is first called with E_OS_MISSINGEND, and with
+-- no other status. For an ISR that has interrupts suspended, it is first called with E_OS_DISABLEDINT.
 -- [AUTOSAR SWS OS 4.x, SWS_Os_00069, SWS_Os_00052]
 abbrev pub ends_without_terminate : Runner → Acts
 ends_without_terminate (Runner.Task t) = both (prints (Mark.ErrorHook EOsMissingend)) (ends (Runner.Task t))
 ends_without_terminate (Runner.Isr i) = both (reports_suspended (Runner.Isr i)) (ends (Runner.Isr i))
 
--- What TerminateTask and Schedule check: that a task calls, then that its job holds no resource and no spinlock.
+-- What TerminateTask and Schedule check: that the caller is a task, then that its job holds no resource and no
+-- spinlock.
 -- [OSEK/VDX OS 2.2.3, section 8.2, 13.2.3.2 and 13.2.3.4; AUTOSAR SWS OS 4.x, SWS_Os_00612 and SWS_Os_00624]
 abbrev pub task_checks : Seen → Runner → List Check
 task_checks s r = by_task r ∷ holding_checks s r
 
--- A job ends itself. [OSEK/VDX OS 2.2.3, section 13.2.3.2]
+-- TerminateTask: a task's job ends itself. If the caller is an ISR, or holds a resource or a spinlock, an error is
+-- returned.
+-- [OSEK/VDX OS 2.2.3, section 13.2.3.2]
 abbrev pub terminates : Runner → Acts
 terminates r = look (λ s. answers r ServiceId.TerminateTask (task_checks s r) (ends r))
 
--- Schedule returns E_OK, and by that line its caller gives way within this item. This matters only if the caller's task cannot
--- be preempted. [OSEK/VDX OS 2.2.3, section 13.2.3.4]
+-- If its checks pass, Schedule returns E_OK, and with that line its caller gives way within this item; else it returns
+-- an error. Giving way matters only if the caller's task cannot be preempted. [OSEK/VDX OS 2.2.3, section 13.2.3.4]
 abbrev pub schedules : Runner → Acts
 schedules r = look (λ s. answers r ServiceId.Schedule (task_checks s r) (returns r ServiceId.Schedule EOk None))
 
 -- ---- the operations that are services of tasks, resources, events and interrupts
 
--- The table of the family: what an operation does for a runner, if it is one of these services.
+-- What an operation does for a runner, if it is a service of tasks, resources, events or interrupts that never crosses
+-- to another core.
 abbrev pub task_acts : Runner → Op → Option Acts
 task_acts r Op.TerminateTask = Some (terminates r)
 task_acts r Op.Schedule = Some (schedules r)

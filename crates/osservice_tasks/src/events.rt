@@ -12,7 +12,7 @@ use osbase::{Mark, Runner, ServiceId, Status, TaskRef};
 use osservice::{ServiceResult, accept, finish, is_ok, own_of, refuse, without_value};
 use osstate::CoreState;
 
-// The first check that fails of those that concern the task whose events are set or read.
+// The status of the first check that fails for the task whose events are set or read, else E_OK.
 fn status_of_events<const P: usize, const J: usize, const OUT: usize>(
     state: &CoreState<'_, P, J, OUT>,
     task: TaskRef,
@@ -30,9 +30,9 @@ fn status_of_events<const P: usize, const J: usize, const OUT: usize>(
     }
 }
 
-/// Events of a task are set on its own core, where its state is known; if it waits for one of them, it
-/// waits no longer (OSEK/VDX OS 2.2.3, section 13.5.3.1). A task that is not extended answers E_OS_ACCESS, one that
-/// is suspended E_OS_STATE; then no event is set.
+/// Sets events of a task on its own core, where its state is known. If the task waits for one of them, it is released
+/// (OSEK/VDX OS 2.2.3, section 13.5.3.1). Returns E_OS_ACCESS for a task that is not extended, and E_OS_STATE for one
+/// that is suspended; then no event is set.
 pub fn set_events<const P: usize, const J: usize, const OUT: usize>(
     state: &mut CoreState<'_, P, J, OUT>,
     task: TaskRef,
@@ -50,6 +50,7 @@ pub fn set_events<const P: usize, const J: usize, const OUT: usize>(
     without_value(status)
 }
 
+// Sets events of a task, and releases the task if it waits for one of them.
 fn set_and_release<const P: usize, const J: usize, const OUT: usize>(
     state: &mut CoreState<'_, P, J, OUT>,
     task: TaskRef,
@@ -64,7 +65,7 @@ fn set_and_release<const P: usize, const J: usize, const OUT: usize>(
     release_from(state, task, mask, marks);
 }
 
-// A task that waits for one of these events waits no longer.
+// Releases the task if it waits for one of these events.
 fn release_from<const P: usize, const J: usize, const OUT: usize>(
     state: &mut CoreState<'_, P, J, OUT>,
     task: TaskRef,
@@ -99,9 +100,9 @@ fn read_events<const P: usize, const J: usize, const OUT: usize>(
     }
 }
 
-/// A running job of one of the core's tasks asks which events of a task are set (OSEK/VDX OS 2.2.3, section
-/// 13.5.3.3). The invalid identifier, and a task of another core, answer E_OS_ID; a task that is not extended
-/// E_OS_ACCESS, one that is suspended E_OS_STATE. None of these has another effect.
+/// A running job asks which events of a task are set (OSEK/VDX OS 2.2.3, section 13.5.3.3). The service returns E_OS_ID
+/// for the invalid identifier and for a task of another core, E_OS_ACCESS for a task that is not extended, and
+/// E_OS_STATE for one that is suspended. It has no other effect then.
 pub fn get_event<const P: usize, const J: usize, const OUT: usize>(
     state: &mut CoreState<'_, P, J, OUT>,
     runner: Runner,
@@ -118,7 +119,7 @@ pub fn get_event<const P: usize, const J: usize, const OUT: usize>(
     finish(state, runner, ServiceId::GetEvent, answer, marks);
 }
 
-// The first check that fails of those that a job makes which clears events of its own.
+// The status of ClearEvent's first check that fails, else E_OK: the caller is a task, and this task is extended.
 fn status_of_caller<const P: usize, const J: usize, const OUT: usize>(
     state: &CoreState<'_, P, J, OUT>,
     runner: Runner,
@@ -138,8 +139,8 @@ fn status_of_caller<const P: usize, const J: usize, const OUT: usize>(
     }
 }
 
-/// A running job of one of the core's tasks clears events of its own (OSEK/VDX OS 2.2.3, section 13.5.3.2). A task
-/// that is not extended answers E_OS_ACCESS, and no event is cleared.
+/// A running job clears events of its own task (OSEK/VDX OS 2.2.3, section 13.5.3.2). An ISR gets E_OS_CALLEVEL, a task
+/// that is not extended E_OS_ACCESS; then no event is cleared.
 pub fn clear_event<const P: usize, const J: usize, const OUT: usize>(
     state: &mut CoreState<'_, P, J, OUT>,
     runner: Runner,
@@ -157,7 +158,8 @@ pub fn clear_event<const P: usize, const J: usize, const OUT: usize>(
     }
 }
 
-// The events are cleared, and the service returns.
+// Clears these events of the caller's task, and ClearEvent returns E_OK. For an ISR, which was refused before, it only
+// returns.
 fn clear<const P: usize, const J: usize, const OUT: usize>(
     state: &mut CoreState<'_, P, J, OUT>,
     runner: Runner,
@@ -176,7 +178,8 @@ fn clear<const P: usize, const J: usize, const OUT: usize>(
     }
 }
 
-// The same of a job that waits, which may hold no resource and no spinlock either.
+// The status of WaitEvent's first check that fails, else E_OK: the caller is an extended task, and its job holds no
+// resource and no spinlock.
 fn status_of_waiting<const P: usize, const J: usize, const OUT: usize>(
     state: &CoreState<'_, P, J, OUT>,
     runner: Runner,
@@ -192,9 +195,9 @@ fn status_of_waiting<const P: usize, const J: usize, const OUT: usize>(
     status_of_holding(state, runner)
 }
 
-/// A running job of one of the core's tasks waits until one of these events of its own is set (OSEK/VDX OS 2.2.3,
-/// section 13.5.3.4); if one is set, the job runs on at once. A task that is not extended answers E_OS_ACCESS, a job that
-/// holds a resource E_OS_RESOURCE, one that holds a spinlock E_OS_SPINLOCK; all of these go on.
+/// A running job waits until one of these events of its task is set (OSEK/VDX OS 2.2.3, section 13.5.3.4); if one is
+/// set, the job runs on at once. An ISR gets E_OS_CALLEVEL, a task that is not extended E_OS_ACCESS, a job that holds a
+/// resource E_OS_RESOURCE, one that holds a spinlock E_OS_SPINLOCK; each of them runs on.
 pub fn wait_event<const P: usize, const J: usize, const OUT: usize>(
     state: &mut CoreState<'_, P, J, OUT>,
     runner: Runner,
@@ -212,7 +215,8 @@ pub fn wait_event<const P: usize, const J: usize, const OUT: usize>(
     }
 }
 
-// A job that waits for an event that is set runs on at once. The event stays set until the job clears it.
+// If one of these events is set, WaitEvent returns E_OK at once, and the job runs on; else it waits. An event stays set
+// until the job clears it.
 fn go_on_or_wait<const P: usize, const J: usize, const OUT: usize>(
     state: &mut CoreState<'_, P, J, OUT>,
     runner: Runner,
@@ -231,8 +235,8 @@ fn go_on_or_wait<const P: usize, const J: usize, const OUT: usize>(
     }
 }
 
-// The job of one of the core's tasks leaves the running state and waits: PostTaskHook comes first (OSEK/VDX OS 2.2.3,
-// section 4.2.1 and 11.5).
+// One of the core's tasks leaves the running state and waits: PostTaskHook comes first (OSEK/VDX OS 2.2.3, section
+// 4.2.1 and 11.5). WaitEvent has E_OK as its status at once, without a line.
 fn begin_to_wait<const P: usize, const J: usize, const OUT: usize>(
     state: &mut CoreState<'_, P, J, OUT>,
     runner: Runner,

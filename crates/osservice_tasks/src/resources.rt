@@ -11,7 +11,8 @@ use osbase::{HeldResource, Mark, ResourceRef, Runner, ServiceId, Status};
 use osservice::{accept, refuse};
 use osstate::CoreState;
 
-// Whether the static priority of one of the core's tasks is above the resource's ceiling.
+// Whether the resource's ceiling is below the static priority of one of the core's tasks. An ISR has no static
+// priority, so no ceiling is below it.
 fn is_below<const P: usize, const J: usize, const OUT: usize>(
     state: &CoreState<'_, P, J, OUT>,
     runner: Runner,
@@ -23,9 +24,9 @@ fn is_below<const P: usize, const J: usize, const OUT: usize>(
     resource.ceiling < state.static_priority(runner)
 }
 
-/// A running job of one of the core's tasks takes a resource (OSEK/VDX OS 2.2.3, section 13.4.3.1). The invalid
-/// identifier answers E_OS_ID; a resource that a job holds, or whose ceiling is below the static priority of the
-/// caller, E_OS_ACCESS. Neither has another effect.
+/// A running job takes a resource (OSEK/VDX OS 2.2.3, section 13.4.3.1). The service returns E_OS_ID for the invalid
+/// identifier and for a resource of another core, and E_OS_ACCESS for a resource that a job holds or whose ceiling is
+/// below the caller's static priority. It has no other effect then.
 pub fn get_resource<const P: usize, const J: usize, const OUT: usize>(
     state: &mut CoreState<'_, P, J, OUT>,
     runner: Runner,
@@ -46,10 +47,10 @@ pub fn get_resource<const P: usize, const J: usize, const OUT: usize>(
     accept(state, runner, service, marks);
 }
 
-/// A running job of one of the core's tasks gives back the newest of the resources that it holds (OSEK/VDX OS
-/// 2.2.3, section 13.4.3.2). The invalid identifier answers E_OS_ID; a resource whose ceiling is below the
-/// static priority of the caller E_OS_ACCESS; one that the caller does not hold, or holds below a newer one,
-/// E_OS_NOFUNC. None of these has another effect.
+/// A running job gives back the newest of the resources that it holds (OSEK/VDX OS 2.2.3, section 13.4.3.2).
+/// The service returns E_OS_ID for the invalid identifier and for a resource of another core, E_OS_ACCESS for one whose
+/// ceiling is below the caller's static priority, and E_OS_NOFUNC for one that is not the newest that the caller holds.
+/// It has no other effect then.
 pub fn release_resource<const P: usize, const J: usize, const OUT: usize>(
     state: &mut CoreState<'_, P, J, OUT>,
     runner: Runner,

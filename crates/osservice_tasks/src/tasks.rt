@@ -16,9 +16,9 @@ use oscript::Op;
 use osservice::{ServiceResult, Step, finish, is_ok, refuse, without_value};
 use osstate::CoreState;
 
-/// A task is activated on its own core, where the number of its live jobs is known
-/// (OSEK/VDX OS 2.2.3, section 13.2.3.1). A task with as many jobs as it may have answers E_OS_LIMIT, and
-/// nothing is activated.
+/// Activates a task on its own core, where the number of its live jobs is known
+/// (OSEK/VDX OS 2.2.3, section 13.2.3.1). If the task has as many live jobs as it may have, the service returns
+/// E_OS_LIMIT, and nothing is activated.
 pub fn activate<const P: usize, const J: usize, const OUT: usize>(
     state: &mut CoreState<'_, P, J, OUT>,
     task: TaskRef,
@@ -35,8 +35,8 @@ pub fn activate<const P: usize, const J: usize, const OUT: usize>(
     without_value(Status::EOk)
 }
 
-/// The oldest job of one of the core's tasks ends by its own act: PostTaskHook comes first
-/// (OSEK/VDX OS 2.2.3, section 11.5). So the task has fewer jobs than it may have.
+/// Ends the oldest job of one of the core's tasks; PostTaskHook comes first (OSEK/VDX OS 2.2.3, section 11.5). The task
+/// then has fewer jobs than it may have.
 pub fn end_task<const P: usize, const J: usize, const OUT: usize>(
     state: &mut CoreState<'_, P, J, OUT>,
     task: TaskRef,
@@ -51,7 +51,7 @@ pub fn end_task<const P: usize, const J: usize, const OUT: usize>(
     state.terminate(task, marks);
 }
 
-/// The oldest job of one of the core's tasks or ISRs ends by its own act.
+/// Ends the oldest job of one of the core's tasks or ISRs; for a task, PostTaskHook comes first.
 pub fn end<const P: usize, const J: usize, const OUT: usize>(
     state: &mut CoreState<'_, P, J, OUT>,
     runner: Runner,
@@ -66,9 +66,9 @@ pub fn end<const P: usize, const J: usize, const OUT: usize>(
     }
 }
 
-/// A job of one of the core's tasks or ISRs reaches the end of its script. A task's is ended by the OS with
-/// E_OS_MISSINGEND (AUTOSAR SWS OS 4.x, SWS_Os_00052 and SWS_Os_00069); of an ISR that has interrupts suspended ErrorHook
-/// is called first, with E_OS_DISABLEDINT (SWS_Os_00368).
+/// A job of one of the core's tasks or ISRs reaches the end of its script, and ends. For a task, ErrorHook is first
+/// called with E_OS_MISSINGEND (AUTOSAR SWS OS 4.x, SWS_Os_00052 and SWS_Os_00069). For an ISR that has interrupts
+/// suspended, it is first called with E_OS_DISABLEDINT (SWS_Os_00368).
 pub fn end_without_terminate<const P: usize, const J: usize, const OUT: usize>(
     state: &mut CoreState<'_, P, J, OUT>,
     runner: Runner,
@@ -89,8 +89,8 @@ pub fn end_without_terminate<const P: usize, const J: usize, const OUT: usize>(
     }
 }
 
-/// The first check that fails of what a job may not hold that ends itself, waits or gives way: a resource (OSEK/VDX OS
-/// 2.2.3, section 8.2), and then a spinlock (AUTOSAR SWS OS 4.x, E_OS_SPINLOCK).
+/// Checks a job that ends itself, waits or gives way: E_OS_RESOURCE if it holds a resource (OSEK/VDX OS 2.2.3, section
+/// 8.2), else E_OS_SPINLOCK if it holds a spinlock (AUTOSAR SWS OS 4.x, E_OS_SPINLOCK), else E_OK.
 pub fn status_of_holding<const P: usize, const J: usize, const OUT: usize>(
     state: &CoreState<'_, P, J, OUT>,
     runner: Runner,
@@ -107,7 +107,8 @@ pub fn status_of_holding<const P: usize, const J: usize, const OUT: usize>(
     }
 }
 
-// The first check that fails of those that a job makes which ends itself or gives way.
+// The status of the first check that fails for a job that ends itself or gives way, else E_OK: the caller is a task,
+// and holds no resource and no spinlock.
 fn status_of_task<const P: usize, const J: usize, const OUT: usize>(
     state: &CoreState<'_, P, J, OUT>,
     runner: Runner,
@@ -121,8 +122,8 @@ fn status_of_task<const P: usize, const J: usize, const OUT: usize>(
     }
 }
 
-// A running job of one of the core's tasks ends itself (OSEK/VDX OS 2.2.3, section 13.2.3.2). One that holds a
-// resource answers E_OS_RESOURCE, one that holds a spinlock E_OS_SPINLOCK; both go on.
+// A running job ends itself (OSEK/VDX OS 2.2.3, section 13.2.3.2). An ISR gets E_OS_CALLEVEL, a job that holds a
+// resource E_OS_RESOURCE, one that holds a spinlock E_OS_SPINLOCK; each of them runs on.
 fn terminate<const P: usize, const J: usize, const OUT: usize>(
     state: &mut CoreState<'_, P, J, OUT>,
     runner: Runner,
@@ -139,9 +140,9 @@ fn terminate<const P: usize, const J: usize, const OUT: usize>(
     }
 }
 
-// A running job of one of the core's tasks lets a job of greater priority run, also where its task cannot
-// be preempted (OSEK/VDX OS 2.2.3, section 13.2.3.4). One that holds a resource answers E_OS_RESOURCE, one that holds a
-// spinlock E_OS_SPINLOCK; neither gives way.
+// A running job lets a job of greater priority run, even if its own task cannot be preempted (OSEK/VDX OS 2.2.3,
+// section 13.2.3.4). An ISR gets E_OS_CALLEVEL, a job that holds a resource E_OS_RESOURCE, one that holds a spinlock
+// E_OS_SPINLOCK; none of them gives way.
 fn schedule<const P: usize, const J: usize, const OUT: usize>(
     state: &mut CoreState<'_, P, J, OUT>,
     runner: Runner,
@@ -157,8 +158,8 @@ fn schedule<const P: usize, const J: usize, const OUT: usize>(
     finish(state, runner, ServiceId::Schedule, answer, marks);
 }
 
-/// An operation of a running job of one of the core's tasks or ISRs, if it is a service of tasks, resources, events or interrupts: it
-/// is done, and the answer is yes. Else nothing changes.
+/// If an operation of a running job of one of the core's tasks or ISRs is a service of tasks, resources, events or
+/// interrupts that never crosses to another core, it is done, and the answer is yes. Else nothing changes.
 pub fn operate<const P: usize, const J: usize, const OUT: usize>(
     state: &mut CoreState<'_, P, J, OUT>,
     step: Step,

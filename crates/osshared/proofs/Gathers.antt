@@ -1,4 +1,4 @@
--- What a call tells of a core's seat, and all seats once they are joined into one.
+-- What a call says of a core's seat, and of all seats once they are joined into one.
 use Rattle.std.proofs.Common.{◌≡◌, ℕ, ◌<◌, Option, true, false, List, [], ◌∷◌, ◌++◌, map, sym, refl, ap, ◌∙◌, ◌≢◌, arith}
 use Rattle.std.specs.List.{flat_map}
 use Rattle.std.proofs.lemmas.List.{append-nil}
@@ -23,7 +23,7 @@ module _ {C R : Type 0} where
   none_left c d [] ne = refl
   none_left c d (x ∷ xs) ne = grind (arith, none_left c d xs ne, eq-eqb, eqb-true)
 
-  -- one core's calls have none of another's
+  -- the calls of one core contain no call of another one
   pure_other : (c d : CoreId) (xs : List (Entry C R)) → calls_by c xs ≡ xs → d.number ≢ c.number → calls_by d xs ≡ []
   pure_other c d xs own ne = ap (calls_by d) (sym own) ∙ none_left c d xs ne
 
@@ -42,7 +42,7 @@ module _ {A S C R : Type 0} {o : Object A S C R} {stands : S → List ℕ → Ty
     step_told : Told o me (entry core call (answer core call found)) m
     step_told = rw (ap first_of_cores seated.cores) at (step call may.asked)
 
-    -- the core still sits there
+    -- the core still has its seat
     pub still_seated : IsSeated core m
     still_seated = let t = step_told in record {
       live = t.1.live ∙ seated.live;
@@ -75,7 +75,7 @@ module _ {A C R : Type 0} where
   AllPure [] = Unit {0}
   AllPure (s ∷ ss) = (calls_by s.core s.mine ≡ s.mine) × AllPure ss
 
-  -- the seats that one seat has taken in, itself among them
+  -- the seats that were joined into one seat, with this one among them
   pub record Gathered (v : View A C R) (done : List (Held A C R)) : Type 0 where
     pub live : v.live ≡ true
     pub cores : v.cores ≡ cores_of done
@@ -116,7 +116,7 @@ module _ {A C R : Type 0} where
         p.1 a.1 b.1,
   )
 
-  -- after the last look
+  -- after the last look, all seats show one history
   pub finishes : {S : Type 0} (o : Object A S C R) (plan : Plan A) (v w : View A C R) (done : List (Held A C R))
       → Gathered v done → Whole o v w → v.plan ≡ plan → cores_of done ≡ plan.cores → AllApart plan.cores → IsOneHistory o plan done
   finishes o plan v w done g look about is apart = record {

@@ -10,7 +10,7 @@ use Rattle.osbase.specs.declared.references.CoreId.{CoreId}
 use Rattle.osshared.specs.{declared.histories.Entry.Entry, declared.histories.Plan.Plan, declared.histories.View.View}
 use Rattle.osshared.specs.Histories.{Object}
 use Rattle.osshared.specs.Seats.{has, AllApart, Held, Place, fresh}
-use Rattle.osshared.specs.Views.{dealer, held_at, Fits, Kept, Whole, dealt, dealt_rest, joined, spent}
+use Rattle.osshared.specs.Views.{dealer, held_at, Fits, Kept, Whole, first_seat, seat_without_first, joined, spent}
 use Rattle.osshared.proofs.Steps.{Sits, apart, at_each, at_each_more, prefix_self, begin_append, has_append, has_one, calls_by-append}
 
 apart_drop : (i : ℕ) (cs : List CoreId) → AllApart cs → AllApart (drop i cs)
@@ -119,7 +119,7 @@ module _ {A S C R : Type 0} (o : Object A S C R) (stands : S → List ℕ → Ty
         },
       )
 
-  -- the table at the start
+  -- the table at the start keeps the rule
   pub opens : (words : List ℕ) → stands (o.first plan.about) words → Kept o stands plan (opening words [] (dealer plan plan.cores))
   opens words h =
       let all = at_each_more (Sits plan [] (λ c. 0)) [] (dealer plan plan.cores)
@@ -136,16 +136,16 @@ module _ {A S C R : Type 0} (o : Object A S C R) (stands : S → List ℕ → Ty
       }
 
   -- the core at the place i is dealt a seat
-  pub deals : (id : ℕ) (v : View A C R) (i : ℕ) (d : CoreId) → i < length plan.cores → AllApart plan.cores → v ≡ dealer plan (drop i plan.cores) → Splits (Kept o stands plan) id v (dealt_rest v) (dealt v)
+  pub deals : (id : ℕ) (v : View A C R) (i : ℕ) (d : CoreId) → i < length plan.cores → AllApart plan.cores → v ≡ dealer plan (drop i plan.cores) → Splits (Kept o stands plan) id v (seat_without_first v) (first_seat v)
   deals id v i d lt apart is =
       let at : drop i plan.cores ≡ get_or plan.cores i d ∷ drop (suc i) plan.cores = drop-cons plan.cores i d lt in
       rw (is, at) (splits id (get_or plan.cores i d) (drop (suc i) plan.cores) (subst AllApart at (apart_drop i plan.cores apart)).0)
 
 -- what is left to deal, and one seat more
 module _ {A C R : Type 0} (p : Place A) (cores : List CoreId) (v : View A C R) (i : ℕ) (d : CoreId) (is : v ≡ dealer p.plan (drop i cores)) (lt : i < length cores) where
-  pub dealt_next : dealt_rest v ≡ dealer p.plan (drop (i + 1) cores)
+  pub dealt_next : seat_without_first v ≡ dealer p.plan (drop (i + 1) cores)
   dealt_next = rw (is, drop-cons cores i d lt, add-one) refl
 
-  pub one_more : (me : Me (Unit {0}) (View A C R)) (items : List (Held A C R)) → me ≡ (dealt v, []) → items ≡ map (λ c. fresh p c) (take i cores)
+  pub one_more : (me : Me (Unit {0}) (View A C R)) (items : List (Held A C R)) → me ≡ (first_seat v, []) → items ≡ map (λ c. fresh p c) (take i cores)
       → items ++ held_at p.table (get_or cores i d) me ∷ [] ≡ map (λ c. fresh p c) (take (i + 1) cores)
   one_more me items e before = rw (before, e, is, add-one, take-suc cores i d lt, map-append) refl

@@ -71,7 +71,7 @@ module _ {A C R : Type 0} (idle : Entry C R → Type 0) where
   no_log (s ∷ ss) [] c out = refl
   no_log (s ∷ ss) (l ∷ ls) c out = let t = or_parts (c.number == s.core.number) _ out in rw (t.0) (no_log ss ls c t.1)
 
-  -- the one history of all seats, less the calls that stand in no log
+  -- the one history of all seats, without the calls that are in no log
   pub one_run : {S : Type 0} (o : Object A S C R) (plan : Plan A) (ss : List (Held A C R)) (ls : List (List (Entry C R))) → AllApart plan.cores → cores_of ss ≡ plan.cores
       → AreIdle o idle → AreLogged idle ss ls → IsOneHistory o plan ss → IsOneRun o plan ls
   one_run o plan ss ls apart is idles lg one =

@@ -22,7 +22,7 @@ module _ {A : Type 0} where
   pub prefix_more : (xs ys zs : List A) → IsPrefix xs ys → IsPrefix xs (ys ++ zs)
   prefix_more xs ys zs p = (p.0 ++ zs, sym (append_assoc xs p.0 zs) ∙ ap (λ w. w ++ zs) p.1)
 
--- what holds of each item holds after one of them is replaced, and after one more
+-- what holds of each item still holds after one of them is replaced, and after one is added
 module _ {V : Type 0} where
   pub at_each : (P : ℕ → V → Type 0) (l : List V) (i : ℕ) (a : V) → P i a → ((j : ℕ) (b : V) → j ≢ i → get_elem? l j ≡ some b → P j b) → (j : ℕ) (b : V) → get_elem? (set l i a) j ≡ some b → P j b
   at_each P l i a here there j b e = ⊎_elim (λ t. rw (t.0, ← t.1) here) (λ t. there j b t.0 t.1) (at_set l i j a b e)
@@ -46,7 +46,7 @@ pub has_append : (xs ys : List CoreId) (c : CoreId) → has (xs ++ ys) c ≡ has
 has_append [] ys c = refl
 has_append (d ∷ ds) ys c = rw (has_append ds ys c) (sym (or_assoc (c.number == d.number) _ _))
 
--- the core of a list of one
+-- the only core in a list of one
 pub has_one : (c d : CoreId) → has (d ∷ []) c ≡ true → c ≡ d
 has_one c d h = ⊎_elim (λ e. same_core c d (eqb-true _ _ e)) (λ e. absurd (both_ways false refl e)) (or_cases _ _ h)
 
@@ -57,7 +57,7 @@ pub apart : (cores : List CoreId) (c d : CoreId) → has cores c ≡ true → ha
 apart cores c d h k e = both_ways _ k (has_same cores c d h e)
 
 module _ {C R : Type 0} where
-  -- the calls of a history and more
+  -- the calls of a core in two histories, one after the other
   pub calls_by-append : (c : CoreId) (xs ys : List (Entry C R)) → calls_by c (xs ++ ys) ≡ calls_by c xs ++ calls_by c ys
   calls_by-append c [] ys = refl
   calls_by-append c (e ∷ es) ys = grind (arith, calls_by-append c es ys)
@@ -98,7 +98,7 @@ module _ {A C R : Type 0} (plan : Plan A) where
   abbrev pub Sits : List (Entry C R) → (CoreId → ℕ) → ℕ → View A C R → Type 0
   Sits log owner id v = Fits plan log v × ((c : CoreId) → has v.cores c ≡ true → owner c ≡ id)
 
-  -- another seat's call
+  -- a view still fits after a call of another seat
   fits_other : (log : List (Entry C R)) (e : Entry C R) (v : View A C R) → has v.cores e.core ≡ false → Fits plan log v → Fits plan (log ++ e ∷ []) v
   fits_other log e v out f = record {
     seen = prefix_more v.seen log (e ∷ []) f.seen;

@@ -1,4 +1,4 @@
--- Where each core's calls are thinned, one history has what is left of them.
+-- If each core's calls are thinned, one history has what is left of them.
 use Rattle.std.proofs.Common.{◌≡◌, ◌==◌, if◌then◌else◌, List, [], ◌∷◌, ◌++◌, sym, refl, ap, inl, inr, ⊎_elim, ◌≢◌}
 use Rattle.std.proofs.lemmas.List.{append-nil}
 use Rattle.std.proofs.lemmas.Bool.{eq-eqb, ne_eqb, cases_eq}
@@ -53,7 +53,7 @@ module _ {C R : Type 0} (idle : Entry C R → Type 0) where
   pub logged : (xs ys more log : List (Entry C R)) (e f : Entry C R) → Thinned idle xs ys → more ≡ xs ++ e ∷ [] → log ≡ ys ++ f ∷ [] → f ≡ e → Thinned idle more log
   logged xs ys more log e f t m l is = rw (m, l, is) (thinned_append xs ys (e ∷ []) (e ∷ []) t (inl ([], refl, refl)))
 
-  -- one call more, which is not
+  -- one call more, which is not logged
   pub unlogged : (xs ys more log : List (Entry C R)) (e : Entry C R) → Thinned idle xs ys → idle e → more ≡ xs ++ e ∷ [] → log ≡ ys → Thinned idle more log
   unlogged xs ys more log e t i m l = rw (m, l) (rw (append-nil ys) at (thinned_append xs ys (e ∷ []) [] t (inr (i, refl))))
 

@@ -33,22 +33,22 @@ pub trait SharedObject {
 
     type Reply;
 
-    /// What it is at first, what a call makes of it, and what it answers.
+    /// What the object is at first, what a call makes of it, and what it answers.
     ghost object: { Object Self.About Self.State Self.Call Self.Reply };
 
     /// The words that stand for a state.
     ghost stands: { Self.State → List ℕ → Type 0 };
 
-    /// What a call is answered where its step finds this number.
+    /// What a call is answered if its step finds this number.
     ghost answer: { CoreId → Self.Call → ℕ → Self.Reply };
 
     /// Some argument, for the view that a joined seat leaves.
     ghost blank: { Self.About };
 }
 
-/// What a seat knows. No value of it is made.
+/// What a seat knows. No value of this type is ever made.
 pub struct View<A, C, R> {
-    /// Whether it is a seat that was not joined into another.
+    /// Whether the seat was not joined into another.
     pub live: bool,
     /// What the object was made with.
     pub plan: Plan<A>,
@@ -58,6 +58,6 @@ pub struct View<A, C, R> {
     pub seen: LinkedList<Entry<C, R>>,
     /// The histories up to the last calls of the seats that were joined into this one.
     pub told: LinkedList<LinkedList<Entry<C, R>>>,
-    /// The calls made from it.
+    /// The calls made from this seat.
     pub mine: LinkedList<Entry<C, R>>,
 }

@@ -1,4 +1,4 @@
-//! Words that several cores share, and the one history of the calls that the cores make of them.
+//! Words that several cores share, and the one history of all calls by which the cores use them.
 //!
 //! An object is what one caller after another sees: what it is at first, what a call makes of it and what it
 //! answers. Here its state lies in words that change in single atomic steps, each core makes its calls from a

@@ -18,7 +18,8 @@ type Sight<O> = View<
     <O as SharedObject>::Reply,
 >;
 
-/// One legal history replays to the words, each seat's `seen` begins it, and its calls are the seats' `mine`.
+/// The words stand for what one legal history makes of the object. That history begins with what each seat has seen,
+/// and its calls are those made from the seats.
 pub struct OneHistory<O> {
     object: PhantomData<O>,
 }
@@ -56,17 +57,17 @@ impl<O: SharedObject, W: Asked<O::Call>> Play<(), Sight<O>> for Making<O, W> {
     ghost then = { λ s me found m. made O.object O.answer W.call me found m };
 }
 
-/// The seat of the first core that has none yet, and the seats that are taken in at the end.
+/// How the first core that has no seat yet gets one, and how one seat takes in the others at the end.
 struct Seating<O> {
     object: PhantomData<O>,
 }
 
 impl<O: SharedObject> Split<Sight<O>> for Seating<O> {
-    ghost use Rattle.osshared.specs.Views.{dealt, dealt_rest};
+    ghost use Rattle.osshared.specs.Views.{first_seat, seat_without_first};
 
-    ghost left = { dealt_rest };
+    ghost left = { seat_without_first };
 
-    ghost right = { dealt };
+    ghost right = { first_seat };
 }
 
 impl<O: SharedObject> Join<Sight<O>> for Seating<O> {
@@ -128,7 +129,7 @@ impl<O: SharedObject> Model for SharedWords<O> {
 }
 
 impl<O: SharedObject> SharedWords<O> {
-    /// An object on which nothing was called, in these words, and a seat for each core of the plan.
+    /// A new object, whose words are these at first, and a seat for each core of the plan. No call was made yet.
     pub fn new(
         alloc: Global,
         words: &[u64],
@@ -147,7 +148,7 @@ impl<O: SharedObject> SharedWords<O> {
         Ok((SharedWords { table }, seats))
     }
 
-    /// A call whose step reads a word. The result is the word.
+    /// Makes the call by one atomic step, which reads a word. Returns the word.
     pub fn load<W: Asked<O::Call>>(&self, seat: &mut CoreSeat<O>, word: usize, call: O::Call) -> u64
         requires { MayCall O.object O.stands O.answer W.call self.now seat.old word call (λ n. n) }
         ensures { Extends O.object seat.old (entry seat.old.core call (O.answer seat.old.core call result)) seat.new }
@@ -155,7 +156,8 @@ impl<O: SharedObject> SharedWords<O> {
         self.table.shared.load::<Making<O, W>>(&mut seat.seat, word)
     }
 
-    /// A call whose step puts a word in place of another that it expects. The result is the word that was there.
+    /// Makes the call by one atomic step, which replaces a word by `new` if the word is `expected`. Returns the word
+    /// before the step.
     pub fn compare_exchange<W: Asked<O::Call>>(
         &self,
         seat: &mut CoreSeat<O>,
@@ -172,7 +174,7 @@ impl<O: SharedObject> SharedWords<O> {
             .compare_exchange::<Making<O, W>>(&mut seat.seat, word, expected, new)
     }
 
-    /// A call whose step sets bits of a word. The result is the word before.
+    /// Makes the call by one atomic step, which sets bits of a word. Returns the word before the step.
     pub fn fetch_or<W: Asked<O::Call>>(
         &self,
         seat: &mut CoreSeat<O>,
@@ -188,7 +190,7 @@ impl<O: SharedObject> SharedWords<O> {
             .fetch_or::<Making<O, W>>(&mut seat.seat, word, bits)
     }
 
-    /// All seats together show one legal history, with their calls and no others.
+    /// Takes all seats back. Together they show one legal history, with their calls and no others.
     pub fn gather(&self, mut seats: Vec<CoreSeat<O>>)
         requires { AreAllSeats self.now seats.items }
         ensures { IsOneHistory O.object self.now.plan seats.items }

@@ -1,4 +1,4 @@
--- A history of all spinlocks has in it a history of each of them.
+-- A history of all spinlocks contains a history of each of them.
 use Rattle.std.proofs.Common.{◌≡◌, ◌<◌, ◌≢◌, Option, None, List, [], ◌∷◌, length, sym, ⊎_elim}
 use Rattle.std.proofs.lemmas.List.{get_or-replicate, get_or-set_other, get_or-set_same, length-replicate, length-set}
 use Rattle.std.proofs.lemmas.Bool.{cases_eq, eq-eqb, ne_eqb}
@@ -7,7 +7,7 @@ use Rattle.osshared.specs.Histories.{IsLegal, IsLegalFrom}
 use Rattle.osspin.specs.Spins.{SpinEntry, calls_on, holder_of, holders_after, lock_after, no_holders, one_lock, spinlocks}
 
 module _ (lock : SpinlockId) where
-  -- the lock after a call: of it, or of another lock
+  -- the lock after a call of it, or of another lock
   pub after-on : (holders : List (Option CoreId)) → lock.index < length holders → (e : SpinEntry) → e.call.lock.index ≡ lock.index
       → holder_of (holders_after e.core e.call holders) lock ≡ lock_after e.core e.call.action (holder_of holders lock)
   after-on holders known e same = rw same (get_or-set_same holders lock.index _ None known)

@@ -1,4 +1,4 @@
--- Who holds a spinlock is known by its own calls.
+-- Whether a core holds a spinlock is known by the core's own calls.
 use Rattle.std.proofs.Common.{◌≡◌, ◌==◌, ◌<◌, ◌≢◌, Bool, false, if◌then◌else◌, Option, Some, None, List, [], ◌∷◌, length, refl, sym, ap, ◌∙◌, ⊎_elim, arith}
 use Rattle.std.proofs.lemmas.List.{get_or-replicate, length-set}
 use Rattle.std.proofs.lemmas.Bool.{cases_eq, eq-eqb, eqb-true, ne_eqb}
@@ -9,7 +9,7 @@ use Rattle.osspin.specs.Spins.{SpinEntry, holder_of, holders_after, is_held_by, 
 use Rattle.osspin.proofs.Each.{after-beside, after-on, known-first}
 
 module _ (core : CoreId) where
-  -- a call of its own
+  -- a call of the core itself
   own-call : (action : SpinAction) (h : Option CoreId) → is_held_by core (lock_after core action h) ≡ holds_after action (lock_reply core action h) (is_held_by core h)
   own-call Take None = eq-eqb core.number core.number refl
   own-call Take (Some d) = refl

@@ -51,7 +51,7 @@ take_steps core lock lt small = steps core lock Take (λ n. either (n == 0) (wor
 pub free_steps : (core : CoreId) (lock : SpinlockId) → lock.index < SPINLOCKS → core.number < 256 → IsStep spinlocks Stands answer core (spin_call lock Free) lock.index (λ n. either (n == word_of (Some core)) 0 n)
 free_steps core lock lt small = steps core lock Free (λ n. either (n == word_of (Some core)) 0 n) lt small (frees core)
 
--- a call of one caller, and each of the three
+-- a call where one caller plays all cores, and each of the three kinds of call
 pub goes_on : (holders new : List (Option CoreId)) (core : CoreId) (call : SpinCall) (reply : SpinReply) → reply ≡ spin_reply core call holders
     → new ≡ holders_after core call holders → Continues spinlocks holders (entry core call reply) new
 goes_on holders new core call reply answer after = continues spinlocks holders new (entry core call reply) answer (sym after)
@@ -73,7 +73,7 @@ refused core (Some d) Take e = refl
 refused core h Free e = cc
 refused core h Look e = refl
 
--- a refused call leaves the holders
+-- a refused call does not change the holders
 pub refused_idle : AreIdle spinlocks IsRefusedCall
 refused_idle holders e is reply = let lock = e.call.lock in
     rw (refused e.core (holder_of holders lock) e.call.action (sym is ∙ reply)) (set-get_or holders lock.index None)

@@ -4,19 +4,19 @@ use Rattle.osbase.specs.{declared.references.CoreId.CoreId, declared.references.
 use Rattle.osshared.specs.{declared.histories.Entry.Entry, Histories.Object, Histories.entry}
 use Rattle.osspin.specs.{declared.calls.SpinAction.SpinAction, declared.calls.SpinAction.TheVariants.Take, declared.calls.SpinAction.TheVariants.Free, declared.calls.SpinAction.TheVariants.Look, declared.calls.SpinCall.SpinCall, declared.calls.SpinReply.SpinReply, declared.calls.SpinReply.TheVariants.Answered, declared.calls.SpinReply.TheVariants.Seen}
 
--- Whether a core may take a lock that this holder has: only where none has it. Its holder may not either.
+-- No core holds the lock. Only then a core may take it: its holder may not take it either.
 -- [AUTOSAR SWS OS 4.x, TryToGetSpinlock]
 abbrev pub is_free : Option CoreId → Bool
 is_free None = true
 is_free (Some holder) = false
 
--- Whether the core holds the lock.
+-- The core is the holder of the lock.
 abbrev pub is_held_by : CoreId → Option CoreId → Bool
 is_held_by core None = false
 is_held_by core (Some holder) = same_core holder core
 
--- One lock: who holds it after a call. It goes to a core that takes it while it is free, and from a core that
--- frees it while it holds it; every other call leaves it. [AUTOSAR SWS OS 4.x, TryToGetSpinlock and
+-- One lock: who holds it after a call. A core that takes a free lock holds it. If its holder frees it, no core
+-- holds it. Every other call leaves the holder. [AUTOSAR SWS OS 4.x, TryToGetSpinlock and
 -- ReleaseSpinlock; the code has a word]
 abbrev pub lock_after : CoreId → SpinAction → Option CoreId → Option CoreId
 lock_after core Take holder = if is_free holder then Some core else holder
@@ -33,16 +33,19 @@ lock_reply core Look holder = Seen holder
 abbrev pub one_lock : Object Unit (Option CoreId) SpinAction SpinReply
 one_lock = record { first = λ about. None; after = lock_after; reply = lock_reply }
 
--- Who holds a lock, by the holders of all.
+-- Who holds a lock, by the holders of all; none if there is no such lock.
 abbrev pub holder_of : List (Option CoreId) → SpinlockId → Option CoreId
 holder_of holders lock = slice_index_or holders lock.index None
 
+-- No core holds any spinlock.
 abbrev pub no_holders : List (Option CoreId)
 no_holders = replicate SPINLOCKS None
 
+-- Who holds each spinlock after a call of the core, by who held each before.
 abbrev pub holders_after : CoreId → SpinCall → List (Option CoreId) → List (Option CoreId)
 holders_after core call holders = slice_set holders call.lock.index (lock_after core call.action (holder_of holders call.lock))
 
+-- What a call of the core is answered, by who holds each spinlock before the call.
 abbrev pub spin_reply : CoreId → SpinCall → List (Option CoreId) → SpinReply
 spin_reply core call holders = lock_reply core call.action (holder_of holders call.lock)
 
@@ -62,16 +65,19 @@ abbrev pub calls_on : SpinlockId → List SpinEntry → List (Entry SpinAction S
 calls_on lock [] = []
 calls_on lock (e ∷ es) = if e.call.lock.index == lock.index then entry e.core e.call.action e.reply ∷ calls_on lock es else calls_on lock es
 
--- The three calls of a core, each with its answer.
+-- A core's try to take a spinlock, with its answer: whether the core took it.
 abbrev pub try_take_call : CoreId → SpinlockId → Bool → SpinEntry
 try_take_call core lock taken = entry core (spin_call lock Take) (Answered taken)
 
+-- A core's release of a spinlock, with its answer: whether the core freed it.
 abbrev pub free_call : CoreId → SpinlockId → Bool → SpinEntry
 free_call core lock freed = entry core (spin_call lock Free) (Answered freed)
 
+-- A core's look at a spinlock, with its answer: who holds it.
 abbrev pub look_call : CoreId → SpinlockId → Option CoreId → SpinEntry
 look_call core lock holder = entry core (spin_call lock Look) (Seen holder)
 
--- A call that was refused: a try for a spinlock that is taken, or a release of one that the core does not hold. It changes nothing.
+-- A call that was refused: a try for a spinlock that is taken, or a release of one that the core does not hold. It
+-- changes nothing.
 abbrev pub IsRefusedCall : SpinEntry → Type 0
 IsRefusedCall e = e.reply ≡ Answered false

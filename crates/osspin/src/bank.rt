@@ -15,8 +15,8 @@ use std::marker::{Brand, Model};
 pub type SpinSeat = CoreSeat<Spinlocks>;
 
 /// The spinlocks of cores that run at once. A call takes the caller's seat, waits for nothing and takes no
-/// memory; its reply is what one lock answers at that point of one history of all calls. That a core is ever
-/// granted a spinlock is not promised.
+/// memory; its reply is what one lock answers at that point of one history of all calls. It is not promised
+/// that a core is ever granted a spinlock.
 #[derive(Drop)]
 pub struct SpinBank {
     words: SharedWords<Spinlocks>,
@@ -86,7 +86,7 @@ impl SpinBank {
         found == mine
     }
 
-    /// The core that holds the spinlock.
+    /// The core that holds the spinlock, if any.
     pub fn look(&self, seat: &mut SpinSeat, lock: SpinlockId) -> Option<CoreId>
         requires place { seat.old.place ≡ self.now }
         requires lock { lock.index < SPINLOCKS }
@@ -100,7 +100,7 @@ impl SpinBank {
         holder_in(self.words.load::<Brand>(seat, index, call))
     }
 
-    /// Any of the three calls, of any spinlock, with its reply.
+    /// Makes any of the three calls, of any spinlock, and gives its reply.
     pub fn call(&self, seat: &mut SpinSeat, call: SpinCall) -> SpinReply
         requires place { seat.old.place ≡ self.now }
         requires lock { call.lock.index < SPINLOCKS }
@@ -113,7 +113,7 @@ impl SpinBank {
         }
     }
 
-    /// All seats together show one legal history, with their calls and no others.
+    /// Takes all seats back. Together they show one legal history, with their calls and no others.
     pub fn gather(&self, seats: Vec<SpinSeat>)
         requires places { AllAt self.now seats.items }
         requires cores { cores_of seats.items ≡ self.now.plan.cores }

@@ -7,8 +7,8 @@ use osbase::{CoreId, SpinlockId};
 use osshared::SharedObject;
 use std::collections::LinkedList;
 
-/// What a core does to a spinlock (AUTOSAR SWS OS 4.x, TryToGetSpinlock and ReleaseSpinlock; that one
-/// looks is this project's own).
+/// What a core does to a spinlock (AUTOSAR SWS OS 4.x, TryToGetSpinlock and ReleaseSpinlock; the look
+/// is this project's own).
 #[derive(Clone, Copy, PartialEq, Eq)]
 pub enum SpinAction {
     Take,
@@ -23,12 +23,12 @@ pub struct SpinCall {
     pub action: SpinAction,
 }
 
-/// What it is answered.
+/// What a call is answered.
 #[derive(Clone, Copy, PartialEq, Eq)]
 pub enum SpinReply {
     /// Whether the spinlock was taken or freed.
     Answered(bool),
-    /// Who holds it.
+    /// Who holds the spinlock.
     Seen(Option<CoreId>),
 }
 
@@ -65,7 +65,7 @@ pub(crate) fn word_of(holder: Option<CoreId>) -> u64
     }
 }
 
-// The core that a spinlock's word names.
+// The core that a spinlock's word names, if any.
 pub(crate) fn holder_in(word: u64) -> Option<CoreId>
     ensures { result ≡ holder_in word }
 {

@@ -1,4 +1,5 @@
-//! Logical clocks: a number for each spinlock and one for the board, from which one order for all cores' items can be read.
+//! Logical clocks: a number for each spinlock and one for the board, from which one order for all cores' items can be
+//! read.
 
 ghost use Rattle.std.specs.Prelude.{◌≡◌, ◌<◌, ◌+◌};
 ghost use Rattle.osbase.specs.declared.limits.TheConstants.{SPINLOCKS};
@@ -48,14 +49,14 @@ impl Clocks {
         Ok(Clocks { table })
     }
 
-    /// A hand for one core's calls.
+    /// A seat for one core's calls.
     pub fn seat(&self) -> ClockSeat<'_> {
         let (_, seat) = self.table.shared.load_new_seat::<Untold>(0);
         ClockSeat { clocks: self, seat }
     }
 }
 
-/// From where one core sets and reads the clocks.
+/// The seat from which one core sets and reads the clocks.
 #[derive(Drop)]
 pub struct ClockSeat<'a> {
     clocks: &'a Clocks,
@@ -64,22 +65,22 @@ pub struct ClockSeat<'a> {
 }
 
 impl<'a> ClockSeat<'a> {
-    /// Sets a clock that is behind this number to it.
+    /// If a clock is behind this number, sets it to the number.
     pub fn raise(&mut self, clocked: Clocked, number: u64)
         requires { IsKnown clocked }
     {
-        let word = word_of(clocked);
+        let word = word_index(clocked);
         self.clocks
             .table
             .shared
             .fetch_max::<Untold>(&mut self.seat, word, number);
     }
 
-    /// What a clock stands at.
+    /// The number of a clock.
     pub fn read(&mut self, clocked: Clocked) -> u64
         requires { IsKnown clocked }
     {
-        let word = word_of(clocked);
+        let word = word_index(clocked);
         self.clocks
             .table
             .shared
@@ -87,8 +88,8 @@ impl<'a> ClockSeat<'a> {
     }
 }
 
-// The word of a clock.
-fn word_of(clocked: Clocked) -> usize
+// The index of the clock's word: a spinlock's own index; the board's clock comes after all of them.
+fn word_index(clocked: Clocked) -> usize
     requires { IsKnown clocked }
     ensures { result < SPINLOCKS + 1 }
 {

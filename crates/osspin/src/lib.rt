@@ -1,6 +1,6 @@
 //! Spinlocks: which core holds each, for cores on threads of their own and for listed runs.
 //!
-//! Both forms answer what one lock answers to one caller after another. Beside them the logical clocks of cores on threads.
+//! Both forms answer what one lock answers to one caller after another. Cores on threads also have logical clocks here.
 #![tactic(auto)]
 
 pub mod bank;

@@ -8,7 +8,7 @@ use crate::calls::{SpinAction, SpinCall, SpinReply};
 use osbase::{CoreId, SPINLOCKS, SpinlockId};
 use std::marker::Model;
 
-/// The spinlocks by who holds each. It answers as `SpinBank` does, by the same definition.
+/// The spinlocks, by who holds each. A list answers as `SpinBank` does, by the same definition.
 #[derive(Clone, Copy)]
 pub struct SpinList {
     holders: [Option<CoreId>; SPINLOCKS],
@@ -71,7 +71,7 @@ impl SpinList {
         false
     }
 
-    /// The core that holds the spinlock, whichever core looks.
+    /// The core that holds the spinlock, if any. The answer is the same whichever core looks.
     #[tactic(auto, using(crate::proofs::Locks::looks_on))]
     pub fn look(&self, lock: SpinlockId) -> Option<CoreId>
         requires { lock.index < SPINLOCKS }
@@ -81,14 +81,15 @@ impl SpinList {
         self.holders[usize::from(lock.index)]
     }
 
-    /// What a call is answered now. Nothing changes. A spinlock past the last is free.
+    /// What a call would be answered now. Nothing changes. No core holds a spinlock past the last.
     pub fn reply(&self, core: CoreId, call: SpinCall) -> SpinReply
         ensures { result ≡ spin_reply core call self.now }
     {
         lock_reply(core, call.action, self.holder(call.lock))
     }
 
-    /// Any of the three calls, of any spinlock. One of a spinlock past the last changes nothing.
+    /// Makes any of the three calls, of any spinlock, and gives its reply. A call of a spinlock past the last changes
+    /// nothing, and is answered as if no core held the spinlock.
     #[tactic(auto, using(crate::proofs::Locks::goes_on))]
     pub fn call(&mut self, core: CoreId, call: SpinCall) -> SpinReply
         ensures answer { result ≡ spin_reply core call self.old }
@@ -100,7 +101,7 @@ impl SpinList {
         reply
     }
 
-    // What a call changes: nothing where there is no such spinlock.
+    // Makes the change of a call. If there is no such spinlock, nothing changes.
     fn change(&mut self, core: CoreId, call: SpinCall)
         ensures { self.new ≡ holders_after core call self.old }
     {
@@ -111,7 +112,7 @@ impl SpinList {
         }
     }
 
-    // The core that holds the spinlock, if there is such a spinlock.
+    // The core that holds the spinlock, if any. None if there is no such spinlock.
     fn holder(&self, lock: SpinlockId) -> Option<CoreId>
         ensures { result ≡ holder_of self.now lock }
     {
@@ -122,7 +123,7 @@ impl SpinList {
     }
 }
 
-// Who holds one lock after a call.
+// Who holds a spinlock after a call of the core, if `holder` holds it before.
 fn lock_after(core: CoreId, action: SpinAction, holder: Option<CoreId>) -> Option<CoreId>
     ensures { result ≡ lock_after core action holder }
 {
@@ -142,7 +143,7 @@ fn lock_after(core: CoreId, action: SpinAction, holder: Option<CoreId>) -> Optio
     }
 }
 
-// What a call of one lock is answered.
+// What a call of the core on a spinlock is answered, if `holder` holds it.
 fn lock_reply(core: CoreId, action: SpinAction, holder: Option<CoreId>) -> SpinReply
     ensures { result ≡ lock_reply core action holder }
 {
@@ -153,7 +154,7 @@ fn lock_reply(core: CoreId, action: SpinAction, holder: Option<CoreId>) -> SpinR
     }
 }
 
-// Whether the core holds a spinlock that this holder has.
+// Whether the core is the holder of the spinlock.
 fn is_held_by(core: CoreId, holder: Option<CoreId>) -> bool
     ensures { result ≡ is_held_by core holder }
 {

@@ -18,7 +18,7 @@ use Rattle.osstate.specs.Sound.{IsSound, UsesAtMost, is_agreed, has_objects_of}
 use Rattle.osbase.proofs.{Same.same_core-comm, Same.same_core-true, Places.passes-at}
 use Rattle.osplan.proofs.{Tests.all-weaker, Tests.find-holds, Tests.find-passes, Alarming.known-actions, Alarming.known-named, Alarming.known-parts, Clocked.clocks_within, Within.FitsKernel, Within.limit-parts, Within.core-fits, Scripts.all_scripts}
 
--- An operation of a configuration names objects that are there, so on this core some of its own.
+-- An operation of a configuration names objects that exist; those of them on this core are the core's own.
 known_scripts : (plan : Plan) (core : Core) → is_core_known plan core ≡ true → core_of plan core.id ≡ Some core → list_all (list_all (has_objects_of core)) (core_scripts core) ≡ true
 known_scripts plan core known found =
     all-weaker (is_script_known plan) (list_all (has_objects_of core)) (all-weaker (is_op_known plan) (has_objects_of core) known_op) (core_scripts core) (known-parts plan core found known).scripts
@@ -45,7 +45,7 @@ state-begun plan id core found =
     ap (λ (rows : List Row). state_from plan core (first_progress (same_core core.id plan.master)) (record (first_jobs core) { rows = rows }) (clocks_of core []) (tables_of core []) first_border) (sym (all-begun first_row 0 RUNNERS))
     ∙ ap (λ (v : View). state_of v []) (view-own plan id core found)
 
--- Whatever a runner's script names on this core is there.
+-- Whatever a runner's script names on this core exists.
 scripts-known : (core : Core) → list_all (list_all (has_objects_of core)) (core_scripts core) ≡ true → (r : Runner) → list_all (has_objects_of core) (script_of core r) ≡ true
 scripts-known core all r = by r
   where
@@ -84,7 +84,7 @@ single-jobs plan core h =
     let tasks : list_all (λ (t : Task). is_task_within (task_sizes t)) core.tasks ≡ true = grind arith in
     all-weaker _ _ single-task core.tasks tasks
 
--- And it is sound.
+-- The state before any item is sound.
 pub sound-begun : (priorities room : ℕ) (plan : Plan) (id : CoreId) (core : Core) (master : Bool) → IsTrue (is_within_limits plan) → IsTrue (is_representable plan) → core_of plan id ≡ Some core
     → list_all (λ (t : Task). nat_lt t.priority priorities) (view_of plan id).own.tasks ≡ true
     → list_all (λ (r : Resource). nat_lt r.ceiling priorities) (view_of plan id).own.resources ≡ true
@@ -131,7 +131,7 @@ sound-begun priorities room plan id core master limits text found below ceilings
     within : is_core_within (core_sizes plan core) ≡ true
     within = find-passes (λ (c : Core). same_core c.id id) (λ (c : Core). is_core_within (core_sizes plan c)) plan.cores core (limit-parts plan limits).cores found
 
--- The parts of a state before any item, each with what it is.
+-- The parts of a state before any item, each with its value.
 pub parts-begun : (plan : Plan) (core : Core) (b : Bool) (p : Progress) (jobs : JobState) (clocks : ClockState) (tables : TableStates) (outbox : List Sent) (got : List GotSpinlock) → p ≡ first_progress b → jobs ≡ first_jobs core → clocks ≡ clocks_of core [] → tables ≡ tables_of core [] → outbox ≡ [] → got ≡ []
     → state_from plan core p jobs clocks tables (record first_border { outbox = outbox; spins = got }) ≡ first_state plan core b
 parts-begun plan core b p jobs clocks tables outbox got progress no_jobs no_counts none_started no_outbox none_got =

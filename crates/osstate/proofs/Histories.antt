@@ -46,7 +46,7 @@ table-below F G first (suc count) same =
     ap (λ x. x ∷ map F (numbers_from (first + 1) count)) (same first (omega arith))
     ∙ ap (λ xs. G first ∷ xs) (table-below F G (first + 1) count (λ n h. same n (omega (arith, h))))
 
--- One more for a core whose number no core has is counted nowhere.
+-- One more for a number that no core has is counted nowhere.
 counts_none : (count : CoreId → ℕ) (c : CoreId) → CORES ≤ c.number → one_more c (map count core_ids) ≡ map (λ (d : CoreId). cond (same_core c d) (suc (count d)) (count d)) core_ids
 counts_none count c beyond =
     set_past (map count core_ids) c.number (slice_index (map count core_ids) c.number + 1) beyond
@@ -91,7 +91,7 @@ own-place core (Runner.Isr i) few few_isrs own = by (same_core i.core core.id) o
     by true e = lt-ltb i.index ISRS (omega (arith, place-some core.isrs i.index e, few_isrs))
     by false e = absurd (false≢true e)
 
--- a runner that has a place stands at it
+-- a runner that has a place is at it
 record HasSlot (core : Core) (r : Runner) : Type 0 where
   pub is : r ≡ runner_at core (slot_of r)
   pub within : slot_of r < RUNNERS
@@ -117,7 +117,7 @@ place-slot core (Runner.Isr i) e =
       within = omega (arith, ltb-true i.index ISRS parts.1);
     }
 
--- and at no other
+-- and it is at no other place
 apart : (core : Core) (r : Runner) (m : ℕ) → (m ≡ slot_of r → ⊥) → same_runner r (runner_at core m) ≡ false
 apart core r m other =
     false_from_ne_true (same_runner r (runner_at core m)) (λ q. other (slot-at m ∙ ap slot_of (sym (same_runner-true r (runner_at core m) q))))
@@ -129,7 +129,7 @@ apart core r m other =
         cases true e = refl
         cases false e = omega (arith, ltb-false n TASKS e)
 
--- and at each place stands a runner that has one
+-- and the runner at each place has a place
 runner-place : (core : Core) (n : ℕ) → n < RUNNERS → has_place core (runner_at core n) ≡ true
 runner-place core n inside = by (nat_lt n TASKS) refl
   where
@@ -172,7 +172,7 @@ module _ (core : Core) (e : Entry) (h : History) where
       by true on = one-changed r (place-slot core r on)
       by false off = none-changed r off
 
--- What an entry does to the rows it does to each runner's row of the history: once for all entries and all readings of a runner.
+-- An entry does to the rows what it does to each runner's row of the history.
 rows-stand : (core : Core) (e : Entry) (h : History) → rows_after core e (runner_of (runner_of_job (running_job h)) e) (rows_of core h) ≡ rows_of core (e ∷ h)
 rows-stand core e h = rows-law core e h (runner_of (runner_of_job (running_job h)) e)
 
@@ -186,7 +186,7 @@ received-stand : (e : Entry) (h : History) → received_after e (map (λ (s : Co
 received-stand (Took (Item.Received from number m)) h = counts_any (λ (s : CoreId). received_count s h) from
 received-stand e h = refl
 
--- the state after an entry is that of the history with it, whatever the entry
+-- the state after any entry is that of the history with that entry
 pub state-stands : (v : View) (e : Entry) (h : History) → are_clocks_within v.own ≡ true → state_after e (state_of v h) ≡ state_of v (e ∷ h)
 state-stands v e h within = λ i. record {
   view = v;
@@ -203,7 +203,7 @@ state-stands v e h within = λ i. record {
 abbrev pub state_by : Entry → KernelState → KernelState
 state_by e s = record (state_after e s) { tasks = jobs_by (script_for s.view.own (runner_by e s.tasks)) e s.progress.entries s.tasks }
 
--- So they do where the runner is the core's own.
+-- If the runner is the core's own, all rows change as the entry says.
 pub own-step : {priorities room : ℕ} {old new : KernelState} (e : Entry) → IsSound priorities room old → option_map_or (is_own_runner old.view.own) (runner_by e old.tasks) true ≡ true → new ≡ state_by e old → new ≡ state_after e old
 own-step {old = old} e sound own is = is ∙ ap (λ (b : Bool). rows-if b) (sym (placed (runner_by e old.tasks) own))
   where

@@ -61,7 +61,7 @@ job_count-stamped_anew r q stamp js = cases (oldest q js) refl
 pub job_count-rest : (r : Runner) (j : Job) (js : List Job) → job_count r js ≤ job_count r (j ∷ js)
 job_count-rest r j js = elim (same_runner j.runner r) as (λ v. job_count r js ≤ cond v (suc (job_count r js)) (job_count r js)) [ true ↦ omega arith | false ↦ omega arith ]
 
--- within the limits with one job more of a runner that was below its limit
+-- jobs within the limits stay within them with one more of a runner that was below its limit
 pub within_append : (limit : Runner → ℕ) (js : List Job) (j : Job) → ((r : Runner) → job_count r js ≤ limit r) → job_count j.runner js < limit j.runner → (r : Runner) → job_count r (js ++ j ∷ []) ≤ limit r
 within_append limit js j within below r =
     subst (λ (n : ℕ). n ≤ limit r) (sym (job_count-append r js j)) (cases (same_runner j.runner r) refl)

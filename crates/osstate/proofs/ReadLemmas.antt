@@ -21,7 +21,7 @@ known_action core script frame a all is = subst (λ (b : Action). is_action_know
     next None e = refl
     next (Some op) e = passes-at (has_objects_of core) script frame.pc op all e
 
--- Nor does one of its alarms act on another object of this core.
+-- On this core, the action of one of the core's alarms names only the core's own objects.
 pub known_timed : (core : Core) (a : AlarmRef) (alarm : Alarm) → list_all (may_act core) (core_actions core) ≡ true → own_alarm core a ≡ Some alarm → may_act core alarm.action ≡ true
 known_timed core a alarm all own = by (same_core a.core core.id) own
   where
@@ -34,7 +34,7 @@ known_timed core a alarm all own = by (same_core a.core core.id) own
     by true e = passes-at (λ (x : Alarm). may_act core x.action) core.alarms a.index alarm each e
     by false e = cc
 
--- Nor do the points of one of its tables.
+-- On this core, the expiry points of one of the core's tables name only the core's own objects.
 known_table : (core : Core) (s : TableRef) (table : Table) → list_all (may_act core) (core_actions core) ≡ true → own_table core s ≡ Some table → list_all (may_act core) (table_actions table) ≡ true
 known_table core s table all own = by (same_core s.core core.id) own
   where

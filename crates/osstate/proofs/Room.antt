@@ -1,4 +1,4 @@
--- The live jobs of a core that keeps its tasks' limits are at most as many as the limits sum to; and how many there are of its ISRs.
+-- If each task keeps its limit, a core has at most as many live jobs as the limits sum to; the same for its ISRs.
 use Rattle.std.proofs.Common.{◌≡◌, ℕ, zero, suc, ◌+◌, ◌≤◌, ◌<◌, nat_le, nat_lt, Bool, true, false, cond, Option, Some, None, List, [], ◌∷◌, ◌++◌, length, length-append, refl, ap, sym, subst, ◌∙◌, arith, sum_by, is_some, IfSome}
 use Rattle.std.specs.{List.list_all, List.slice_get, List.All, Option.option_map_or, Option.option_or}
 use Rattle.std.proofs.lemmas.Bool.{false≢true, leb-true, ltb-false, ltb-true}
@@ -17,7 +17,7 @@ use Rattle.osstate.proofs.{Histories.own_isr_place, JobLists.job_count-rest, Job
 abbrev at : CoreId → ℕ → Runner
 at core index = Runner.Task (record { core = core; index = index })
 
--- the jobs of the tasks from this index on, summed
+-- how many jobs there are of the tasks from this index on
 abbrev live_total : CoreId → ℕ → List Task → List Job → ℕ
 live_total core i [] js = 0
 live_total core i (t ∷ ts) js = job_count (at core i) js + live_total core (suc i) ts js
@@ -66,7 +66,7 @@ length-live_total core (j ∷ js) within =
     let rest = length-live_total core js (λ r. omega (arith, within r, job_count-rest r j js)) in
     omega (arith, rest, live_total-more core.id 0 own.0 own.0 core.tasks j js (omega arith) own.1 own.2)
 
--- and each task's are at most its limit
+-- if each task has at most as many jobs as its limit, all have at most as many as the limits sum to
 live_total-le : (core : CoreId) (i : ℕ) (ts : List Task) (js : List Job) → ((n k : ℕ) (t : Task) → n ≡ i + k → slice_get ts k ≡ Some t → job_count (at core n) js ≤ t.activations) → live_total core i ts js ≤ sum_by (λ (t : Task). t.activations) ts
 live_total-le core i [] js within = omega arith
 live_total-le core i (t ∷ ts) js within =
@@ -77,7 +77,7 @@ live_total-le core i (t ∷ ts) js within =
       live_total-le core (suc i) ts js (λ n k u e g. within n (suc k) u (omega (arith, e)) g),
     )
 
--- at most as many jobs as the limits sum to
+-- jobs within the limits are at most as many as the limits sum to
 pub length_within : (core : Core) (js : List Job) → ((r : Runner) → job_count r js ≤ activation_limit core r) → length js ≤ sum_by (λ (t : Task). t.activations) core.tasks
 length_within core js within =
     omega (arith, length-live_total core js within, live_total-le core.id 0 core.tasks js (λ n k t e g. each n k t e g))
@@ -135,7 +135,7 @@ oldest_counted r (x ∷ js) j e = cases (same_runner x.runner r) e (λ later. ol
         omega (arith, job_count-same j.runner x js first)
     cases false e rest = omega (arith, rest e, job_count-rest j.runner x js)
 
--- so it is one of the core's own
+-- the oldest job of the current task is one of the core's own
 own_oldest : (core : Core) (current : Option TaskRef) (js : List Job) (j : Job) → ((r : Runner) → job_count r js ≤ activation_limit core r) → oldest_of current js ≡ Some j → is_own_runner core j.runner ≡ true
 own_oldest core None js j within e = cc
 own_oldest core (Some t) js j within e = own_from_place core j.runner (omega (arith, within j.runner, oldest_counted (Runner.Task t) js j e))
@@ -149,7 +149,7 @@ own_current core current js (Some j) within e = own_oldest core current js j wit
 abbrev isr_at : Core → ℕ → Runner
 isr_at core n = Runner.Isr (isr_ref core n)
 
--- the jobs of the first so many ISRs, summed
+-- how many jobs there are of the first n ISRs
 abbrev isr_total : Core → ℕ → List Job → ℕ
 isr_total core zero js = 0
 isr_total core (suc n) js = job_count (isr_at core n) js + isr_total core n js
@@ -158,7 +158,7 @@ isr_total-rest : (core : Core) (n : ℕ) (j : Job) (js : List Job) → isr_total
 isr_total-rest core zero j js = omega arith
 isr_total-rest core (suc n) j js = omega (arith, isr_total-rest core n j js, job_count-rest (isr_at core n) j js)
 
--- a job of one of them makes the sum greater
+-- a job of one of these ISRs makes the sum greater
 isr_total-more : (core : Core) (n k : ℕ) (j : Job) (js : List Job) → k < n → j.runner ≡ isr_at core k → suc (isr_total core n js) ≤ isr_total core n (j ∷ js)
 isr_total-more core zero k j js h r = absurd (omega (arith, h))
 isr_total-more core (suc n) k j js h r = by (nat_lt k n) refl (λ low. isr_total-more core n k j js low r)
@@ -171,7 +171,7 @@ isr_total-more core (suc n) k j js h r = by (nat_lt k n) refl (λ low. isr_total
         let same : same_runner j.runner (isr_at core n) ≡ true = subst (λ (q : Runner). same_runner q (isr_at core n) ≡ true) (sym (r ∙ ap (isr_at core) last)) (same_runner-refl (isr_at core n)) in
         omega (arith, job_count-same (isr_at core n) j js same, isr_total-rest core n j js)
 
--- what has a limit above none is an own ISR
+-- a runner with a limit above 0 is an own ISR
 own_from_isr_limit : (most : ℕ) (core : Core) (r : Runner) → 0 < isr_limit most core r → (i : IsrRef) × (r ≡ Runner.Isr i) × (is_some (own_isr core i) ≡ true)
 own_from_isr_limit most core (Runner.Task t) h = absurd (omega (arith, h))
 own_from_isr_limit most core (Runner.Isr i) h = (i, refl, cases (is_some (own_isr core i)) h)
@@ -194,7 +194,7 @@ length-isr_total most core (j ∷ js) few within =
     let rest = length-isr_total most core js few (λ r. omega (arith, within r, job_count-rest r j js)) in
     omega (arith, rest, isr_total-more core ISRS own.0.index j js (omega (arith, place.1, few)) (own.1 ∙ ap Runner.Isr place.0))
 
--- so many for each of so many ISRs
+-- n times `most`
 abbrev each_most : ℕ → ℕ → ℕ
 each_most most zero = 0
 each_most most (suc n) = most + each_most most n
@@ -214,7 +214,7 @@ isr_total-le most core (suc n) js within = omega (arith, within (isr_at core n),
 length-isrs : (most : ℕ) (core : Core) (js : List Job) → length core.isrs ≤ ISRS → ((r : Runner) → job_count r js ≤ isr_limit most core r) → length js ≤ each_most most ISRS
 length-isrs most core js few within = omega (arith, length-isr_total most core js few within, isr_total-le most core ISRS js within)
 
--- at most two live jobs of each ISR, so there is a place for one more of an ISR that has fewer
+-- each ISR has at most two live jobs, so there is a place for one more of an ISR that has fewer
 pub interrupt_place : (core : Core) (i : IsrRef) (js : List Job) → length core.isrs ≤ ISRS → ((r : Runner) → job_count r js ≤ interrupt_limit core r) → job_count (Runner.Isr i) js < interrupt_limit core (Runner.Isr i) → length js < INTERRUPTS
 interrupt_place core i js few within below =
     let job : Job = record { runner = Runner.Isr i; stamp = 0 } in
@@ -239,7 +239,7 @@ isr_count-without k i (x ∷ xs) =
     both : (b : Bool) (m n : ℕ) → m ≤ n → cond b (suc m) m ≤ cond b (suc n) n
     both b m n h = elim b as (λ v. cond v (suc m) m ≤ cond v (suc n) n) [ true ↦ omega arith | false ↦ h ]
 
--- one that is there once at most is not there without itself
+-- an ISR that is in the list at most once is not in the list without it
 isr_count-none : (i : IsrRef) (xs : List IsrRef) → isr_count i xs ≤ 1 → isr_count i (without_isr i xs) ≤ 0
 isr_count-none i [] h = omega arith
 isr_count-none i (x ∷ xs) h = by (same_isr x i) refl h (λ few. isr_count-none i xs few)
@@ -250,7 +250,7 @@ isr_count-none i (x ∷ xs) h = by (same_isr x i) refl h (λ few. isr_count-none
         let here : isr_count i (x ∷ without_isr i xs) ≡ isr_count i (without_isr i xs) = rw e refl in
         omega (arith, here, rest h)
 
--- so with one that is started now, each is there once at most
+-- if an ISR is entered now, each ISR is in the list at most once
 pub entered_on : (core : Core) (i : IsrRef) (xs : List IsrRef) → is_own_runner core (Runner.Isr i) ≡ true → ((k : IsrRef) → isr_count k xs ≤ entered_limit core k) → (k : IsrRef) → isr_count k (i ∷ without_isr i xs) ≤ entered_limit core k
 entered_on core i xs own within k = by (same_isr i k) refl
   where
@@ -264,7 +264,7 @@ entered_on core i xs own within k = by (same_isr i k) refl
         omega (arith, one, none))
     by false e = omega (arith, within k, isr_count-without k i xs)
 
--- their jobs, if each had one
+-- one job for each of these ISRs
 abbrev jobs_of : List IsrRef → List Job
 jobs_of [] = []
 jobs_of (i ∷ xs) = record { runner = Runner.Isr i; stamp = 0 } ∷ jobs_of xs
@@ -285,14 +285,14 @@ count-jobs_of core xs within (Runner.Isr k) = omega (arith, within k, same xs)
     same [] = refl
     same (y ∷ ys) = ap (λ (n : ℕ). cond (same_isr y k) (suc n) n) (same ys)
 
--- there are no more of them than places
+-- there are no more entered ISRs than places
 entered_few : (core : Core) (xs : List IsrRef) → length core.isrs ≤ ISRS → ((k : IsrRef) → isr_count k xs ≤ entered_limit core k) → length xs ≤ ISRS
 entered_few core xs few within = omega (arith, length-jobs_of xs, length-isrs 1 core (jobs_of xs) few (count-jobs_of core xs within))
 
 pub entered_place : (core : Core) (i : IsrRef) (xs : List IsrRef) → length core.isrs ≤ ISRS → is_own_runner core (Runner.Isr i) ≡ true → ((k : IsrRef) → isr_count k xs ≤ entered_limit core k) → length (without_isr i xs) < ISRS
 entered_place core i xs few own within = omega (arith, entered_few core (i ∷ without_isr i xs) few (entered_on core i xs own within))
 
--- if none is pending, there is room for one
+-- if no job of an ISR is pending, there is room for one
 pub not_pending : (core : Core) (i : IsrRef) (s : IsrState) → ((k : IsrRef) → isr_count k s.entered ≤ entered_limit core k) → is_own_runner core (Runner.Isr i) ≡ true → is_pending_among i s.entered s.live ≡ false
     → job_count (Runner.Isr i) s.live < interrupt_limit core (Runner.Isr i)
 not_pending core i s within own none =
@@ -314,7 +314,7 @@ own_running core s o within within_isrs e = by (oldest_entered s.isrs.entered s.
     by None f e = own_current core s.current s.jobs o within e
     by (Some k) f e = subst (λ (p : Option Job). IfSome p (λ j. is_own_runner core j.runner ≡ true)) (sym e) (own_entered core s.isrs.entered s.isrs.live k within_isrs f)
 
--- so a tick charges an own runner, if any
+-- if a tick charges a runner, it is one of the core's own
 pub own_charged : (core : Core) (s : JobState) → ((r : Runner) → job_count r s.jobs ≤ activation_limit core r) → ((r : Runner) → job_count r s.isrs.live ≤ interrupt_limit core r) → option_map_or (is_own_runner core) (runner_of_job (running_among s)) true ≡ true
 own_charged core s within within_isrs = by (running_among s) (own_running core s (running_among s) within within_isrs refl)
   where

@@ -27,7 +27,7 @@ older-still entries jobs older = each-weaker (λ (j : Job). j.stamp < entries) (
 pub under-way : {p : Progress} → IsUnderWay p → IsUnderWay (record p { entries = p.entries + 1 })
 under-way sound = record { agreed = sound.agreed; began = omega (arith, sound.began); items = omega (arith, sound.items) }
 
--- what is at most so many is at most one more
+-- what is at most a number is at most that number plus one
 uses-later : {most : ℕ} {row : Row} → UsesAtMost most row → UsesAtMost (most + 1) row
 uses-later {most = most} {row = row} few = record {
   ticks = omega (arith, few.ticks);
@@ -71,7 +71,7 @@ uses-by script e (Some r) rows most few place = at (row_step script e (row_at (s
     at row h (x ∷ all) (suc i) zero each = uses-later (each zero)
     at row h (x ∷ all) (suc i) (suc k) each = at row h all i k (λ j. each (suc j))
 
--- what an entry leaves of the jobs: how those of tasks and of ISRs are within their limits is given anew
+-- the jobs are sound after an entry if those of tasks and of ISRs are then within their limits
 pub jobs-on : {core : Core} {phase : Phase} {entries : ℕ} {s : JobState} (script : List Op) (e : Entry) (stamp : ℕ) → HasJobs core phase entries s
     → ((r : Runner) → job_count r (jobs_after e stamp s.jobs) ≤ activation_limit core r) → Each (λ (j : Job). j.stamp < entries + 1) (jobs_after e stamp s.jobs) → (IsTrue (is_before_live phase) → jobs_after e stamp s.jobs ≡ [])
     → ((r : Runner) → job_count r (isr_jobs_after e stamp s.isrs.live) ≤ interrupt_limit core r) → ((i : IsrRef) → isr_count i (entered_after e s.isrs.entered) ≤ entered_limit core i)
@@ -94,7 +94,7 @@ pub goes-on : {priorities room : ℕ} {s : KernelState} (tasks : JobState) (bord
     → IsSound priorities room (record s { progress = record s.progress { entries = s.progress.entries + 1 }; tasks = tasks; border = border; clocks = clocks; tables = timetables })
 goes-on tasks border sound jobs crossing times = record { tasks = sound.tasks; objects = sound.objects; jobs = jobs; progress = under-way sound.progress; border = crossing; times = times }
 
--- an entry that begins and ends no job, and by which no ISR is entered
+-- the jobs stay sound at an entry that begins and ends no job and enters no ISR
 pub jobs-kept : {core : Core} {phase : Phase} {entries : ℕ} {s : JobState} (script : List Op) (e : Entry) (stamp : ℕ) → jobs_after e stamp s.jobs ≡ s.jobs → isrs_by e stamp s.isrs ≡ s.isrs → HasJobs core phase entries s
     → HasJobs core phase (entries + 1) (jobs_by script e stamp s)
 jobs-kept {core} {entries = entries} {s = s} script e stamp same none sound = jobs-on script e stamp sound
@@ -122,7 +122,7 @@ activated priorities room t s sound below live = goes-on _ _ sound jobs (border-
         (λ e. absurd (false≢true (sym live ∙ e)))
         sound.jobs.interrupts sound.jobs.entered
 
--- a call that is open after its own runner's entries is the one that was open
+-- a call that is open after an entry of a runner was open before
 still-open : (P : OpenCall → Type 0) (r : Runner) (open_call : Option OpenCall) → IfSome open_call P → IfSome (closed_by r open_call) P
 still-open P r None holds = tt
 still-open P r (Some call) holds = elim (same_runner call.runner r) as (λ b. IfSome (cond b None (Some call)) P) [ true ↦ tt | false ↦ holds ]
@@ -181,7 +181,7 @@ isr_left priorities room i s sound = goes-on _ _ sound jobs (border-closed (Runn
         (λ r. omega (arith, sound.jobs.interrupts r, job_count-without_oldest r (Runner.Isr i) s.tasks.isrs.live))
         (λ k. omega (arith, sound.jobs.entered k, isr_count-without k i s.tasks.isrs.entered))
 
--- and then the task has fewer jobs than it may have
+-- without its oldest job a runner has fewer jobs than it may have
 fewer : (r : Runner) (js : List Job) (most : ℕ) → 1 ≤ most → job_count r js ≤ most → job_count r (without_oldest r js) < most
 fewer r [] most some within = omega (arith, some)
 fewer r (j ∷ js) most some within = by (same_runner j.runner r) refl (λ rest. fewer r js most some rest)
@@ -215,7 +215,7 @@ place priorities room t s sound below =
     let more = length_within s.view.own (s.tasks.jobs ++ job ∷ []) (within_append (activation_limit s.view.own) s.tasks.jobs job sound.jobs.within below) in
     omega (arith, sound.tasks.limits, more, length-append s.tasks.jobs (job ∷ []))
 
--- one more at a place exceeds no bound but by one
+-- one more at a place exceeds a bound by at most one
 pub one_more-within : (counts : List ℕ) (c : CoreId) (most : ℕ) → ((k : ℕ) → slice_index counts k ≤ most) → (k : ℕ) → slice_index (one_more c counts) k ≤ most + 1
 one_more-within counts c most within k = at counts c.number k (omega (arith, within c.number)) within
   where
@@ -246,7 +246,7 @@ own-after : (item : Item) (open_call : Option OpenCall) (P : OpenCall → Type 0
 own-after (Item.Halt core status) open_call P own = tt
 own-after item open_call P own = own
 
--- an item leads neither back before the second gate nor past the first one but by its own
+-- the state stays sound if an item leads neither back before gate two nor, unless it is gate one's, past gate one
 pub taken : (priorities room : ℕ) (item : Item) (outbox : List Sent) (got : List GotSpinlock) (s : KernelState) → IsSound priorities room s
     → (is_before_live (phase_on item s.progress.phase) ≡ true → is_before_live s.progress.phase ≡ true)
     → (is_past_first_gate (phase_on item s.progress.phase) ≡ true → (is_first_gate item || is_past_first_gate s.progress.phase) ≡ true)
@@ -277,7 +277,7 @@ taken priorities room item outbox got s sound forward onward = record {
   times = sound.times;
 }
 
--- the core goes down
+-- the state stays sound when the core goes down
 pub went-down : {priorities room : ℕ} {s : KernelState} {got : List GotSpinlock} → IsSound priorities room s → IsSound priorities room (record s { progress = record s.progress { course = Course.Down; entries = s.progress.entries + 1 }; border = record s.border { spins = got } })
 went-down sound = record {
   tasks = sound.tasks;
@@ -288,27 +288,27 @@ went-down sound = record {
   times = sound.times;
 }
 
--- an entry of a counter, an alarm or a table
+-- the state stays sound at an entry of a counter, an alarm or a table
 pub clocked : (priorities room : ℕ) (clocks : ClockState) (timetables : TableStates) (s : KernelState) → IsSound priorities room s → AreClocks s.view.own clocks → AreTables s.view.own timetables → all_wait_by_counter s.view.own timetables ≡ true
     → IsSound priorities room (record s { progress = record s.progress { entries = s.progress.entries + 1 }; clocks = clocks; tables = timetables })
 clocked priorities room clocks timetables s sound are tables waiting =
     goes-on s.tasks s.border sound (jobs-later sound.jobs) (border-later sound.border) (record { clocks = are; tables = tables; waiting = waiting })
 
--- a mark that begins and ends no job
+-- a plain mark begins and ends no job
 pub plain-jobs : (m : Mark) (stamp : ℕ) (jobs : List Job) → is_plain m ≡ true → jobs_after (Printed m) stamp jobs ≡ jobs
 plain-jobs (Mark.Activated t) stamp jobs e = absurd (false≢true e)
 plain-jobs (Mark.Terminated t) stamp jobs e = absurd (false≢true e)
 plain-jobs (Mark.Released t) stamp jobs e = absurd (false≢true e)
 plain-jobs m stamp jobs e = refl
 
--- nor one of an ISR
+-- a plain mark does not change the state of the ISRs
 pub plain-isrs : (m : Mark) (stamp : ℕ) (s : IsrState) → is_plain m ≡ true → isrs_by (Printed m) stamp s ≡ s
 plain-isrs (Mark.InterruptAccepted i) stamp s e = absurd (false≢true e)
 plain-isrs (Mark.IsrEntered i) stamp s e = absurd (false≢true e)
 plain-isrs (Mark.IsrLeft i) stamp s e = absurd (false≢true e)
 plain-isrs m stamp s e = refl
 
--- nor does it change which spinlocks the core has
+-- a plain mark does not change which spinlocks the core has
 pub plain-spins : (m : Mark) (open_call : Option OpenCall) (got : List GotSpinlock) → is_plain m ≡ true → spins_after (Printed m) open_call got ≡ got
 plain-spins (Mark.Terminated t) open_call got e = absurd (false≢true e)
 plain-spins (Mark.IsrLeft i) open_call got e = absurd (false≢true e)

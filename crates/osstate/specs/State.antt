@@ -1,4 +1,4 @@
--- The state that a kernel keeps, and when it stands for a history.
+-- The state that a kernel keeps, and when it is the state of a history.
 use Rattle.std.specs.Prelude.{◌≡◌, IsTrue, length, map}
 use Rattle.osbase.specs.{declared.references.CoreId.CoreId, Interrupts.entered_isrs, Interrupts.isr_jobs, Sets.core_ids, Spins.got_spinlocks}
 use Rattle.osbase.specs.History.{History, began_count, agreement_of, course_of, started_cores, live_jobs, current_task, giving_way, open_call, outbox, queued_count, received_count, item_count}
@@ -9,7 +9,7 @@ use Rattle.ostable.specs.Tables.{TableStates, tables_of}
 use Rattle.osprogress.specs.{declared.progress.Progress.Progress, Border.BorderState}
 use Rattle.osstate.specs.Readings.{phase_at, rows_of}
 
--- What a kernel keeps, in groups: each field is one reading of the core's history.
+-- What a kernel keeps, in groups: what the core sees of the configuration, and readings of the core's history.
 pub record KernelState : Type 0 where
   pub view : View
   pub progress : Progress
@@ -18,7 +18,8 @@ pub record KernelState : Type 0 where
   pub tables : TableStates
   pub border : BorderState
 
--- What is read off a history, group by group.
+-- A core's progress after a history: its phase; whether it runs, is down or was halted; and what it learned at the
+-- gates. Also how many start-list entries it has done, items it has taken, and entries its history has.
 abbrev pub progress_of : View → History → Progress
 progress_of v h = record {
   phase = phase_at v h;
@@ -30,12 +31,17 @@ progress_of v h = record {
   entries = length h;
 }
 
+-- The live jobs of ISRs after a history, and the ISRs that were entered.
 abbrev pub isrs_of : History → IsrState
 isrs_of h = record { live = isr_jobs h; entered = entered_isrs h }
 
+-- What is kept of a core's tasks and ISRs after a history: the tasks, their live jobs, which task is in the running
+-- state, who gives way, the rows, the live jobs of ISRs, and the ISRs that were entered.
 abbrev pub tasks_of : View → History → JobState
 tasks_of v h = record { tasks = own_tasks v.own; jobs = live_jobs h; current = current_task h; giving_way = giving_way h; rows = rows_of v.own h; isrs = isrs_of h }
 
+-- What crosses the core's border, after a history: the open call, letters that wait, how many were queued for and
+-- received from each core, and the spinlocks that the core got.
 abbrev pub border_of : History → BorderState
 border_of h = record {
   open_call = open_call h;
@@ -45,12 +51,12 @@ border_of h = record {
   spins = got_spinlocks h;
 }
 
--- The record of all readings of a history.
+-- The state of a core with this view after a history: all readings of the history.
 abbrev pub state_of : View → History → KernelState
 state_of v h = record { view = v; progress = progress_of v h; tasks = tasks_of v h; clocks = clocks_of v.own h; tables = tables_of v.own h; border = border_of h }
 
--- The kernel stands for this history of this core: each of its fields equals what it is for, and each alarm was set as a service
--- grants it. A relation, so that the kernel needs to store no history. [own]
+-- The state is that of this history of this core: each field is what is read off the history. Each alarm was set as a
+-- service grants it. This is a relation, so that the kernel need not store the history. [own]
 pub record Stands (v : View) (h : History) (s : KernelState) : Type 0 where
   pub is : s ≡ state_of v h
   pub granted : IsTrue (are_settings_granted v.own h)

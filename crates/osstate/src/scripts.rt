@@ -8,7 +8,7 @@ use oscript::Op;
 use osplan::Core;
 use osplan::own::{isr_of, task_of};
 
-/// The script of one of the core's tasks or ISRs; no operation of another runner.
+/// The script of one of the core's tasks or ISRs; an empty one for any other runner.
 pub(crate) fn script_of(core: &Core, runner: Runner) -> &[Op]
     ensures { result.now ≡ script_of core.now runner }
 {
@@ -24,8 +24,8 @@ pub(crate) fn script_of(core: &Core, runner: Runner) -> &[Op]
     }
 }
 
-/// How many ticks a job of a task or an ISR of the core may use (AUTOSAR SWS OS 4.x, OsTaskExecutionBudget and
-/// OsIsrExecutionBudget).
+/// How many ticks a job of a task or an ISR of the core may use; 0 means any number. A runner of another core has 0
+/// (AUTOSAR SWS OS 4.x, OsTaskExecutionBudget and OsIsrExecutionBudget).
 pub(crate) fn budget_of(core: &Core, runner: Runner) -> u32
     ensures { result ≡ budget_of core.now runner }
 {

@@ -12,7 +12,7 @@ ghost use Rattle.osjobs.specs.Priorities.{holds_any, is_extended, is_newest, is_
 ghost use Rattle.osprogress.specs.{Border.is_grant_known, Border.is_posted, Border.is_sender_known, Progress.Joins};
 ghost use Rattle.osstate.specs.{Does.HasRoom, State.state_of, Steps.next_letter, Steps.state_after};
 ghost use Rattle.osstate.specs.Queries.{best_in, is_at_limit_in, is_suspended, is_suspended_in, next_action_in, running_in};
-ghost use Rattle.osstate.specs.Readings.{best_job, budget_of, is_locked, is_this_core, is_pending, next_start, resource_of, script_of};
+ghost use Rattle.osstate.specs.Readings.{best_job, budget_of, has_suspended_interrupts, is_this_core, is_pending, next_start, resource_of, script_of};
 ghost use Rattle.osstate.specs.Sound.{activation_limit, interrupt_limit, is_action_known, is_agreed, is_awaited_known, is_first_gate};
 
 mod alarms;
@@ -63,7 +63,7 @@ impl<'a, const P: usize, const J: usize, const OUT: usize> Model for CoreState<'
 }
 
 impl<'a, const P: usize, const J: usize, const OUT: usize> CoreState<'a, P, J, OUT> {
-    /// The state of a core that took no item.
+    /// The state of core `id`, which is configured, before it takes an item.
     pub fn new(config: &'a Config, id: CoreId) -> Self
         requires configured { IsSome (core_of config.now id) }
         requires priorities { IsTrue (list_all (λ (t : TaskValue). nat_lt t.priority P) (view_of config.now id).own.tasks) }
@@ -93,7 +93,8 @@ impl<'a, const P: usize, const J: usize, const OUT: usize> CoreState<'a, P, J, O
         }
     }
 
-    /// The entry of an item that the core takes.
+    /// The core takes an item, which changes the core's progress and what crosses its border. A task that gave way by
+    /// Schedule does so no longer.
     pub fn take_item(&mut self, item: &Item)
         requires sender { IsTrue (is_sender_known item.now) }
         requires lock { IfSome self.old.border.open_call (λ call. IsTrue (is_awaited_known call.awaits)) → IsTrue (is_grant_known item.now) }
@@ -124,8 +125,9 @@ impl<'a, const P: usize, const J: usize, const OUT: usize> CoreState<'a, P, J, O
         self.progress.record(Mark::Activated(task), marks);
     }
 
-    /// The oldest job of one of the core's tasks has ended, if there is one: it gives its resources back and owes its
-    /// spinlocks, resumes interrupts, and runs no longer. So the task has fewer jobs than it may have.
+    /// Ends the oldest job of one of the core's tasks, if there is one. The job gives its resources back, owes the
+    /// release of its spinlocks, resumes interrupts, closes its open call and runs no longer. The task then has fewer
+    /// jobs than it may have.
     pub fn terminate(&mut self, task: TaskRef, marks: &mut Vec<Mark>)
         requires own { IsTrue (is_own_runner self.old.view.own (Runner.Task task)) }
         requires room { HasRoom 1 1 self.old marks.old }
@@ -139,8 +141,8 @@ impl<'a, const P: usize, const J: usize, const OUT: usize> CoreState<'a, P, J, O
         self.progress.record(Mark::Terminated(task), marks);
     }
 
-    /// An interrupt of one of the core's ISRs is accepted: a job of it begins, and is pending (AUTOSAR SWS OS 4.x, section
-    /// 7.6).
+    /// An interrupt of one of the core's ISRs is accepted: a job of it begins, and is pending (AUTOSAR SWS OS 4.x,
+    /// section 7.6).
     pub fn accept(&mut self, isr: IsrRef, marks: &mut Vec<Mark>)
         requires limit { job_count (Runner.Isr isr) self.old.tasks.isrs.live < interrupt_limit self.old.view.own (Runner.Isr isr) }
         requires room { HasRoom 1 1 self.old marks.old }
@@ -151,8 +153,8 @@ impl<'a, const P: usize, const J: usize, const OUT: usize> CoreState<'a, P, J, O
         self.progress.record(Mark::InterruptAccepted(isr), marks);
     }
 
-    /// The oldest job of one of the core's ISRs is entered: it runs, whatever ran before, and the task in the running state
-    /// stays in it.
+    /// The oldest job of one of the core's ISRs is entered: it runs, whatever ran before. The task in the running state
+    /// stays in that state.
     pub fn enter_isr(&mut self, isr: IsrRef, marks: &mut Vec<Mark>)
         requires own { IsTrue (is_own_runner self.old.view.own (Runner.Isr isr)) }
         requires room { HasRoom 1 1 self.old marks.old }
@@ -163,8 +165,9 @@ impl<'a, const P: usize, const J: usize, const OUT: usize> CoreState<'a, P, J, O
         self.progress.record(Mark::IsrEntered(isr), marks);
     }
 
-    /// The oldest job of one of the core's ISRs has ended, if there is one: it gives its resources back and owes its
-    /// spinlocks, resumes interrupts, and runs no longer (AUTOSAR SWS OS 4.x, SWS_Os_00070).
+    /// Ends the oldest job of one of the core's ISRs, if there is one. The job gives its resources back, owes the
+    /// release of its spinlocks, resumes interrupts, closes its open call and runs no longer (AUTOSAR SWS OS 4.x,
+    /// SWS_Os_00070).
     pub fn leave_isr(&mut self, isr: IsrRef, marks: &mut Vec<Mark>)
         requires own { IsTrue (is_own_runner self.old.view.own (Runner.Isr isr)) }
         requires room { HasRoom 1 1 self.old marks.old }
@@ -177,7 +180,7 @@ impl<'a, const P: usize, const J: usize, const OUT: usize> CoreState<'a, P, J, O
         self.progress.record(Mark::IsrLeft(isr), marks);
     }
 
-    /// A tick: the running job, if there is one, has used one more of its budget (AUTOSAR SWS OS 4.x, SWS_Os_00028), and of
+    /// A tick: the running job, if any, has used one more tick of its budget (AUTOSAR SWS OS 4.x, SWS_Os_00028), and of
     /// the lock budget of each resource that it holds (the project's own).
     pub fn tick(&mut self, marks: &mut Vec<Mark>)
         requires { HasRoom 1 1 self.old marks.old }
@@ -190,26 +193,26 @@ impl<'a, const P: usize, const J: usize, const OUT: usize> CoreState<'a, P, J, O
 
     /// The oldest job of one of the core's tasks or ISRs suspends interrupts once more (OSEK/VDX OS 2.2.3, section
     /// 13.3.2.4).
-    pub fn lock_interrupts(&mut self, runner: Runner)
+    pub fn suspend_interrupts(&mut self, runner: Runner)
         requires own { IsTrue (is_own_runner self.old.view.own runner) }
         requires count { self.old.progress.entries < 2 ^ 63 }
         ensures { self.new ≡ state_after (Noted (InterruptsSuspended runner)) self.old }
     {
-        self.jobs.lock_interrupts(runner);
+        self.jobs.suspend_interrupts(runner);
         self.progress.entries += 1;
     }
 
     /// The oldest job of one of the core's tasks or ISRs resumes interrupts once (OSEK/VDX OS 2.2.3, section 13.3.2.3).
-    pub fn unlock_interrupts(&mut self, runner: Runner)
+    pub fn resume_interrupts(&mut self, runner: Runner)
         requires own { IsTrue (is_own_runner self.old.view.own runner) }
         requires count { self.old.progress.entries < 2 ^ 63 }
         ensures { self.new ≡ state_after (Noted (InterruptsResumed runner)) self.old }
     {
-        self.jobs.unlock_interrupts(runner);
+        self.jobs.resume_interrupts(runner);
         self.progress.entries += 1;
     }
 
-    /// The core goes down: it schedules and serves no longer, and owes its spinlocks (AUTOSAR SWS OS 4.x, ShutdownOS).
+    /// The core goes down: scheduling ends, and the release of all spinlocks is owed (AUTOSAR SWS OS 4.x, ShutdownOS).
     pub fn go_down(&mut self)
         requires count { self.old.progress.entries < 2 ^ 63 }
         ensures { self.new ≡ state_after (Noted WentDown) self.old }
@@ -238,7 +241,7 @@ impl<'a, const P: usize, const J: usize, const OUT: usize> CoreState<'a, P, J, O
         self.progress.record(Mark::PostTaskHook(task), marks);
     }
 
-    /// Events of one of the core's tasks are set, besides those that are (OSEK/VDX OS 2.2.3, section 7 and 13.5.3.1).
+    /// Events of one of the core's tasks are set; those set before stay (OSEK/VDX OS 2.2.3, section 7 and 13.5.3.1).
     pub fn set_events(&mut self, task: TaskRef, mask: u32, marks: &mut Vec<Mark>)
         requires own { IsTrue (is_own_runner self.old.view.own (Runner.Task task)) }
         requires room { HasRoom 1 1 self.old marks.old }
@@ -261,8 +264,8 @@ impl<'a, const P: usize, const J: usize, const OUT: usize> CoreState<'a, P, J, O
             .record(Mark::EventCleared { task, mask }, marks);
     }
 
-    /// One of the core's tasks waits for one of these events: no job of it may run, and once it is released its job has its
-    /// whole budget (OSEK/VDX OS 2.2.3, section 4.2.1 and 13.5.3.4; AUTOSAR SWS OS 4.x, SWS_Os_00473).
+    /// One of the core's tasks waits for one of these events: no job of the task may run. Once the task is released,
+    /// its job has its whole budget (OSEK/VDX OS 2.2.3, section 4.2.1 and 13.5.3.4; AUTOSAR SWS OS 4.x, SWS_Os_00473).
     pub fn wait(&mut self, task: TaskRef, mask: u32, marks: &mut Vec<Mark>)
         requires own { IsTrue (is_own_runner self.old.view.own (Runner.Task task)) }
         requires extended { is_extended self.old.view.own (Runner.Task task) ≡ true }
@@ -288,8 +291,8 @@ impl<'a, const P: usize, const J: usize, const OUT: usize> CoreState<'a, P, J, O
         self.progress.record(Mark::Released(task), marks);
     }
 
-    /// A mark that begins and ends no job, by which no task enters or leaves the running state, no ISR is entered and no row
-    /// changes.
+    /// Prints a mark that begins and ends no job and changes no row. With such a mark no task enters or leaves the
+    /// running state, and no ISR is entered. If the mark says that Schedule returned E_OK, its caller gives way.
     pub fn print(&mut self, mark: Mark, marks: &mut Vec<Mark>)
         requires plain { IsTrue (is_plain mark) }
         requires room { HasRoom 1 1 self.old marks.old }
@@ -300,7 +303,7 @@ impl<'a, const P: usize, const J: usize, const OUT: usize> CoreState<'a, P, J, O
         self.progress.record(mark, marks);
     }
 
-    /// A message for this core joins the outbox, with the next number on the way there.
+    /// A message for core `to` joins the outbox, with the next number on the way to that core.
     pub fn queue(&mut self, to: CoreId, message: Message)
         requires receiver { to.number < CORES }
         requires room { length self.old.border.outbox < OUT }
@@ -314,7 +317,8 @@ impl<'a, const P: usize, const J: usize, const OUT: usize> CoreState<'a, P, J, O
         self.progress.entries += 1;
     }
 
-    /// A service of a job of one of the core's tasks or ISRs waits: for another core's reply, for a spinlock's answer, or for a halt.
+    /// The call of a job of one of the core's tasks or ISRs stays open: it waits for another core's reply, for a
+    /// spinlock's answer, or for the shutdown of all cores.
     pub fn open_call(&mut self, call: OpenCall)
         requires own { IsTrue (is_own_runner self.old.view.own call.runner) }
         requires lock { IsTrue (is_awaited_known call.awaits) }
@@ -338,8 +342,8 @@ impl<'a, const P: usize, const J: usize, const OUT: usize> CoreState<'a, P, J, O
         self.progress.entries += 1;
     }
 
-    /// The oldest live job of one of the core's tasks or ISRs gives the newest of its resources back
-    /// (OSEK/VDX OS 2.2.3, section 8.2).
+    /// The oldest live job of one of the core's tasks or ISRs gives back the resource of this index, the newest that it
+    /// holds (OSEK/VDX OS 2.2.3, section 8.2).
     pub fn give_resource(&mut self, runner: Runner, index: u8)
         requires own { IsTrue (is_own_runner self.old.view.own runner) }
         requires newest { is_newest index (held_in runner self.old.tasks.rows) ≡ true }
@@ -350,7 +354,8 @@ impl<'a, const P: usize, const J: usize, const OUT: usize> CoreState<'a, P, J, O
         self.progress.entries += 1;
     }
 
-    /// An operation of the oldest live job of one of the core's tasks or ISRs is done.
+    /// An operation of the oldest live job of one of the core's tasks or ISRs is done, with this status and value. The
+    /// job goes on to its next operation, and its open call is closed.
     pub fn complete(&mut self, runner: Runner, status: Status, value: Option<i64>)
         requires own { IsTrue (is_own_runner self.old.view.own runner) }
         requires count { self.old.progress.entries < 2 ^ 63 }
@@ -362,7 +367,7 @@ impl<'a, const P: usize, const J: usize, const OUT: usize> CoreState<'a, P, J, O
         self.progress.entries += 1;
     }
 
-    /// The phase.
+    /// The phase of the core.
     pub fn phase(&self) -> Phase
         ensures { result ≡ self.now.progress.phase }
     {
@@ -376,7 +381,7 @@ impl<'a, const P: usize, const J: usize, const OUT: usize> CoreState<'a, P, J, O
         self.progress.course
     }
 
-    /// How many items were taken.
+    /// How many items the core has taken.
     pub fn items(&self) -> u64
         ensures { result ≡ self.now.progress.items }
     {
@@ -398,7 +403,7 @@ impl<'a, const P: usize, const J: usize, const OUT: usize> CoreState<'a, P, J, O
         self.progress.agreement
     }
 
-    /// The call that is open.
+    /// The call that is open, if there is one.
     pub fn awaited_call(&self) -> Option<OpenCall>
         ensures value { result ≡ self.now.border.open_call }
         ensures lock { IfSome result (λ call. IsTrue (is_awaited_known call.awaits)) }
@@ -415,7 +420,7 @@ impl<'a, const P: usize, const J: usize, const OUT: usize> CoreState<'a, P, J, O
         self.jobs.current()
     }
 
-    /// The front of the outbox.
+    /// The letter at the front of the outbox, and the core that it is for; none if the outbox is empty.
     pub fn front(&self) -> Option<Sent>
         ensures { result ≡ slice_get self.now.border.outbox 0 }
     {
@@ -436,7 +441,7 @@ impl<'a, const P: usize, const J: usize, const OUT: usize> CoreState<'a, P, J, O
         self.border.outbox.len() < OUT
     }
 
-    /// How many letters were received from this core.
+    /// How many letters this core received from core `id`.
     pub fn received_from(&self, id: CoreId) -> u64
         requires { id.number < CORES }
         ensures { result ≡ slice_index self.now.border.received id.number }
@@ -444,7 +449,7 @@ impl<'a, const P: usize, const J: usize, const OUT: usize> CoreState<'a, P, J, O
         self.border.received[usize::from(id.number)]
     }
 
-    /// Whether the core was started, as far as this core learned at the second gate.
+    /// Whether core `id` was started, as far as this core learned at the second gate.
     pub fn knows_started(&self, id: CoreId) -> bool
         ensures value { result ≡ has_core self.now.progress.started id }
         ensures number { IsTrue result → id.number < CORES }
@@ -459,7 +464,7 @@ impl<'a, const P: usize, const J: usize, const OUT: usize> CoreState<'a, P, J, O
         self.progress.started
     }
 
-    /// Whether the object is one of this core's.
+    /// Whether this is the core's own number.
     pub fn is_this_core(&self, id: CoreId) -> bool
         ensures value { result ≡ is_this_core self.now.view id }
         ensures own { result ≡ same_core id self.now.view.own.id }
@@ -467,14 +472,14 @@ impl<'a, const P: usize, const J: usize, const OUT: usize> CoreState<'a, P, J, O
         id == self.core.id
     }
 
-    /// Whether the object is there among this core's.
+    /// Whether this core has the object.
     pub fn has(&self, object: Object) -> bool
         ensures { result ≡ is_own_object self.now.view.own object }
     {
         self.core.has(object)
     }
 
-    /// Whether the core knows the stimulus.
+    /// Whether the core knows the stimulus: any, but an interrupt only if the ISR is one of its own.
     pub fn knows(&self, stimulus: Stimulus) -> bool
         ensures { result ≡ knows_stimulus self.now.view.own stimulus }
     {
@@ -520,8 +525,8 @@ impl<'a, const P: usize, const J: usize, const OUT: usize> CoreState<'a, P, J, O
         self.config.plan().modes.len()
     }
 
-    /// The running job: that of the ISR that was entered last, or else the oldest live job of the task in the running state
-    /// (OSEK/VDX OS 2.2.3, section 4.2 and 6).
+    /// The running job: that of the ISR that was entered last, or else the oldest live job of the task in the running
+    /// state (OSEK/VDX OS 2.2.3, section 4.2 and 6).
     #[inline(always)]
     pub fn running_job(&self) -> Option<Job>
         ensures value { result ≡ running_in self.now }
@@ -530,9 +535,9 @@ impl<'a, const P: usize, const J: usize, const OUT: usize> CoreState<'a, P, J, O
         self.jobs.running()
     }
 
-    /// The job to run, where this one is running: that one, if it has suspended interrupts; else of the jobs of ISRs of
-    /// greatest level the oldest; else of the able jobs of tasks of greatest current priority the oldest (OSEK/VDX OS 2.2.3,
-    /// section 4.4, 4.5, 6 and 13.3.2.4).
+    /// The job to run, given the running one. A running job that has interrupts suspended runs on. Else the oldest ISR
+    /// job of the greatest level runs. If there is none, the oldest of the task jobs with the greatest current priority
+    /// runs; those that wait do not count (OSEK/VDX OS 2.2.3, section 4.4, 4.5, 6 and 13.3.2.4).
     pub fn best_job(&mut self, running: Option<Job>) -> Option<Job>
         requires { running ≡ running_in self.old }
         ensures value { result ≡ best_in self.old }
@@ -542,8 +547,8 @@ impl<'a, const P: usize, const J: usize, const OUT: usize> CoreState<'a, P, J, O
         self.jobs.dispatch(self.core, running)
     }
 
-    /// A resource of the core that a script names, as a job would hold it; none for the invalid identifier, and for
-    /// one of another core.
+    /// A resource of the core that a script names, as a job would hold it: its index and its ceiling. None for the
+    /// invalid identifier, and for a resource of another core.
     pub fn resource(&self, target: Option<ResourceRef>) -> Option<HeldResource>
         ensures value { result ≡ resource_of self.now.view.own target }
         ensures place { IfSome result (λ x. x.index < RESOURCES) }
@@ -556,7 +561,7 @@ impl<'a, const P: usize, const J: usize, const OUT: usize> CoreState<'a, P, J, O
         })
     }
 
-    /// The priority of one of the core's tasks as it is configured (OSEK/VDX OS 2.2.3, section 4.5).
+    /// The configured priority of one of the core's tasks; 0 for an ISR (OSEK/VDX OS 2.2.3, section 4.5).
     pub fn static_priority(&self, runner: Runner) -> u8
         requires { IsTrue (is_own_runner self.now.view.own runner) }
         ensures { result ≡ static_priority self.now.view.own runner }
@@ -571,45 +576,47 @@ impl<'a, const P: usize, const J: usize, const OUT: usize> CoreState<'a, P, J, O
         osjobs::is_extended(self.core, runner)
     }
 
-    /// The events of one of the core's tasks (OSEK/VDX OS 2.2.3, section 7).
+    /// The events of one of the core's tasks: which are set, and which the task waits for, if it waits (OSEK/VDX OS
+    /// 2.2.3, section 7).
     pub fn events(&self, runner: Runner) -> TaskEvents
         ensures { result ≡ events_in runner self.now.tasks.rows }
     {
         self.jobs.events(runner)
     }
 
-    /// Whether the oldest job of one of the core's tasks or ISRs has suspended interrupts (OSEK/VDX OS 2.2.3, section
-    /// 13.3.2.4).
-    pub fn is_locked(&self, runner: Runner) -> bool
+    /// Whether interrupts are suspended now by the oldest job of one of the core's tasks or ISRs (OSEK/VDX OS 2.2.3,
+    /// section 13.3.2.4).
+    pub fn has_suspended_interrupts(&self, runner: Runner) -> bool
         ensures { result ≡ nat_lt 0 (depth_in runner self.now.tasks.rows) }
     {
-        self.jobs.is_locked(runner)
+        self.jobs.has_suspended_interrupts(runner)
     }
 
-    /// Whether the oldest job of one of the core's tasks or ISRs has reached its budget (AUTOSAR SWS OS 4.x, SWS_Os_00064 and
-    /// SWS_Os_00210).
+    /// Whether the oldest job of one of the core's tasks or ISRs has reached its execution budget, if it has one
+    /// (AUTOSAR SWS OS 4.x, SWS_Os_00064 and SWS_Os_00210).
     pub fn is_spent(&self, runner: Runner) -> bool
         ensures { result ≡ is_reached (budget_of self.now.view.own runner) (used_in runner self.now.tasks.rows) }
     {
         self.jobs.is_spent(runner, budget_of(self.core, runner))
     }
 
-    /// Whether the oldest job of one of the core's tasks or ISRs has reached the lock budget of a resource that it holds, of
-    /// ticks since it took that (the project's own).
+    /// Whether the oldest job of one of the core's tasks or ISRs has reached the lock budget of a resource that it
+    /// holds, in ticks since it took the resource (the project's own).
     pub fn is_overheld(&self, runner: Runner) -> bool
         ensures { result ≡ is_overheld self.now.view.own (row_in runner self.now.tasks.rows) }
     {
         self.jobs.is_overheld(self.core, runner)
     }
 
-    /// What the core does when a job has reached its budget (AUTOSAR SWS OS 4.x, ProtectionReturnType).
+    /// What the core does when a job has reached its execution budget or a lock budget (AUTOSAR SWS OS 4.x,
+    /// ProtectionReturnType).
     pub fn protection(&self) -> Protection
         ensures { result ≡ self.now.view.own.protection }
     {
         self.core.protection
     }
 
-    /// Whether a job of the ISR is pending (AUTOSAR SWS OS 4.x, section 7.6).
+    /// Whether a job of the ISR is pending: live, and not entered yet (AUTOSAR SWS OS 4.x, section 7.6).
     pub fn is_pending(&self, isr: IsrRef) -> bool
         ensures value { result ≡ is_pending_among isr self.now.tasks.isrs.entered self.now.tasks.isrs.live }
         ensures limit { IsTrue (is_own_runner self.now.view.own (Runner.Isr isr)) → result ≡ false → job_count (Runner.Isr isr) self.now.tasks.isrs.live < interrupt_limit self.now.view.own (Runner.Isr isr) }
@@ -646,7 +653,7 @@ impl<'a, const P: usize, const J: usize, const OUT: usize> CoreState<'a, P, J, O
         self.jobs.holds_any(runner)
     }
 
-    /// Whether as many jobs of one of the core's tasks are live as it may have; of another core's none may be.
+    /// Whether the task has as many live jobs here as it may have; yes for a task of another core, which may have none.
     pub fn is_at_limit(&self, task: TaskRef) -> bool
         ensures { result ≡ is_at_limit_in task self.now }
     {
@@ -657,14 +664,15 @@ impl<'a, const P: usize, const J: usize, const OUT: usize> CoreState<'a, P, J, O
         limit <= self.jobs.count(Runner::Task(task))
     }
 
-    /// Where the oldest live job of one of the core's tasks or ISRs stands in its script, with its variables.
+    /// Where in its script the oldest live job of one of the core's tasks or ISRs is, with its last status and its
+    /// variables.
     pub fn frame(&self, runner: Runner) -> Frame
         ensures { result ≡ frame_in runner self.now.tasks.rows }
     {
         self.jobs.frame(runner)
     }
 
-    /// What the oldest live job of one of the core's tasks or ISRs does next.
+    /// What the oldest live job of one of the core's tasks or ISRs does next: an operation of its script, or its end.
     pub fn next_action(&self, runner: Runner) -> Action
         ensures value { result ≡ next_action_in runner self.now }
         ensures known { IsTrue (is_action_known self.now.view.own result) }
@@ -673,8 +681,8 @@ impl<'a, const P: usize, const J: usize, const OUT: usize> CoreState<'a, P, J, O
     }
 }
 
-// An operation of this runner is done, or its job has ended: its call is open no longer. Mostly no call is open, and then nothing
-// is written.
+// Closes the open call if it is this runner's, whose operation is done or whose job has ended. Mostly no call is open;
+// then nothing is written.
 fn close_call(open_call: &mut Option<OpenCall>, runner: Runner)
     ensures { open_call.new ≡ closed_by runner open_call.old }
 {

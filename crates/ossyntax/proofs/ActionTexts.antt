@@ -1,4 +1,4 @@
--- An operation's text is an action's exactly where the operation is one.
+-- The text of an operation is the text of an action exactly if the operation is an action.
 use native.Mathlib.Omega.{arith}
 use Rattle.std.proofs.Common.{◌≡◌, ℕ, ◌&&◌, Bool, true, false, Option, Some, None, is_some, List, [], ◌∷◌, map, refl, sym, ap, ◌∙◌}
 use Rattle.std.specs.{List.list_all, Option.option_map_or}
@@ -10,8 +10,8 @@ use Rattle.ossyntax.specs.{Action.is_action, Action.is_action_op, ParsedOp.form_
 use Rattle.ossyntax.specs.Operation.{op_of_text, place_of_any, resolve_arg, resolve_args}
 use Rattle.ossyntax.proofs.{Meant.any_of_text, Operations.meant-form}
 
--- An operation is an action by its verb, whatever its object and its other arguments are, and where that object has a name, as is
--- seen before the name is looked up.
+-- Whether an operation is an action depends on its verb, and on whether its object has a name, which is seen before the
+-- name is looked up. It depends neither on the object itself nor on the other arguments.
 abbrev any_arg : Kind → Arg Place
 any_arg (Kind.Object kind) = Object kind (Some (place_on (record { number = 0 }) 0))
 any_arg kind = Number 0
@@ -30,7 +30,7 @@ action-form : (op : Op) → is_action_op op ≡ is_action_form (parsed_op_of op)
 action-form op = grind arith
 
 module _ (place : ObjectKind → List ℕ → Option Place) where
-  -- An object has a name wherever it stands.
+  -- Whether an object has a name does not depend on its place.
   arg-named : (shown : Arg (List ℕ)) (arg : Arg Place) → resolve_arg place shown ≡ Some arg → is_named (at_home arg) ≡ is_named shown
   arg-named shown arg e = grind arith
 
@@ -54,11 +54,11 @@ form-action text = by (op_of_text place_of_any text) refl
     by None none = sym (action-by (form_of text) (sym (any_of_text text) ∙ ap is_some none))
     by (Some op) e = formed-action place_of_any text op e
 
--- The operation that a text means is an action where the text is one.
+-- The operation that a text means is an action exactly if the text is the text of an action.
 pub meant_action : (place : ObjectKind → List ℕ → Option Place) (text : List ℕ) (op : Op) → op_of_text place text ≡ Some op → is_action_op op ≡ is_action text
 meant_action place text op e = formed-action place text op e ∙ sym (form-action text)
 
--- An action is in form and in range.
+-- The text of an action is in form and in range.
 formed-by : (o : Option (Verb × List (Arg (List ℕ)))) → option_map_or is_action_form o false ≡ true → is_some o ≡ true
 formed-by o e = grind arith
 

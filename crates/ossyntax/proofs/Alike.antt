@@ -1,4 +1,4 @@
--- The operation that a text names is the one that it means, but for its numbers.
+-- Except for its numbers, the operation that a text names is the one that it means.
 use Rattle.std.proofs.Common.{◌≡◌, ℕ, true, false, Option, Some, None, is_some, unwrap_or, List, [], ◌∷◌, map, refl, sym, ap, subst, ◌∙◌, arith}
 use Rattle.std.specs.Option.{option_map_or}
 use Rattle.std.proofs.lemmas.Bool.{or_parts}
@@ -11,7 +11,7 @@ use Rattle.ossyntax.specs.ParsedOp.{and_then_rest, verb_of, words_of}
 use Rattle.ossyntax.specs.Operation.{arg_of_word, args_of_words, is_formed, is_known, of_first, op_of_text, references_of_text, unranged, op_with_verb, references_with_verb}
 use Rattle.ossyntax.proofs.{KindTexts.mapped, Known.formed-known, Known.known_named, Meant.meant-args, Meant.text-means, RoundTrip.both}
 
--- The operations differ in their numbers alone: all that is judged beside these is the same.
+-- The operations differ in their numbers only: everything else that is judged is the same.
 pub record AreAlike (a b : Op) : Type 0 where
   pub own : refers_to_own_only a ≡ refers_to_own_only b
   pub objects : objects_of a ≡ objects_of b
@@ -23,7 +23,7 @@ none-of o e = grind arith
 both-some : (o : Option (Arg Place)) (r : Option (List (Arg Place))) (a : Arg Place) (rest : List (Arg Place)) → o ≡ Some a → r ≡ Some rest → and_then_rest o r ≡ Some (a ∷ rest)
 both-some o r a rest first later = grind arith
 
--- Arguments of these kinds that differ where a kind is a number, and nowhere else.
+-- Arguments of a kind that may differ only if the kind is a number.
 abbrev IsKept : Kind → Arg Place → Arg Place → Type 0
 IsKept (Kind.Number low high) a b = Unit {0}
 IsKept k a b = a ≡ b
@@ -74,17 +74,17 @@ module _ (place : ObjectKind → List ℕ → Option Place) where
       by None e = cc
       by (Some verb) e = verb-alike words verb op e
 
-  -- A text that means an operation names one that is alike.
+  -- A text that means an operation names an operation that is alike.
   pub named-alike : (text : List ℕ) (op : Op) → op_of_text place text ≡ Some op → (other : Op) × (references_of_text place text ≡ Some other) × AreAlike op other
   named-alike text op e = by-words (words_of text) op (sym (text-means place text) ∙ e)
 
-  -- One in form and in range that means none names none.
+  -- A text in form and in range that means no operation names none.
   named-none : (text : List ℕ) → is_formed text ≡ true → op_of_text place text ≡ None → references_of_text place text ≡ None
   named-none text formed e =
       let unknown : is_known place text ≡ false = formed-known place text formed ∙ ap is_some e in
       none-of (references_of_text place text) (or_parts (is_some (references_of_text place text)) _ (known_named place text ∙ unknown)).0
 
-  -- So of a text in form and in range the same holds of both, if it holds of operations that are alike.
+  -- A function that is the same for operations that are alike is the same for what such a text names and what it means.
   pub named-same : {X : Type 0} (f : Op → X) → ((a b : Op) → AreAlike a b → f a ≡ f b) → (text : List ℕ) → is_formed text ≡ true → f (unwrap_or (op_of_text place text) Work) ≡ f (unwrap_or (references_of_text place text) Work)
   named-same f keeps text formed = by (op_of_text place text) refl
     where

@@ -1,4 +1,4 @@
--- Whether a text begins with a word, without looking for the end of its first one.
+-- Whether a text begins with a word, without a search for the end of its first word.
 use Rattle.std.proofs.Common.{◌≡◌, ℕ, ◌==◌, Bool, true, false, not, List, [], ◌∷◌, ◌++◌, cond, find, Option, option_map, length, Some, None, refl, sym, ap, ◌∙◌, arith}
 use Rattle.std.specs.{List.join_with_byte, Option.option_map_or, Option.option_or, Str.bytes_eq}
 use Rattle.std.proofs.{lemmas.Bool.and_parts, lemmas.List.append-nil, lemmas.List.append_cancel_left, lemmas.List.Splits.join_with_byte-slice_split, lemmas.Slice.Eq.bytes_eq-Decides}
@@ -8,7 +8,7 @@ use Rattle.ossyntax.specs.{Operation.of_first, ParsedOp.first_read, ParsedOp.wor
 use Rattle.ossyntax.proofs.Joining.{all-none, has_none, split-cut, split-lone}
 use Rattle.ossyntax.proofs.Rows.{is-row}
 
--- If a text is not the word, and is not the word, a space and more, it begins with another word.
+-- If a text is neither the word nor the word, a space and more, it begins with another word.
 module _ (word text : List ℕ) (alone : text ≡ word → ⊥) (more : (rest : List ℕ) → text ≡ word ++ 32 ∷ rest → ⊥) where
   starts : (first : List ℕ) (words : List (List ℕ)) → word ≡ first → join_with_byte 32 (first ∷ words) ≡ text → ⊥
   starts first [] same e = alone (sym e ∙ sym same)
@@ -37,15 +37,15 @@ no-space verb = all-none is_name_part 32 (word_of verb) refl (and_parts (not (le
 same-word : (verb : Verb) → bytes_eq (word_of verb) (word_of verb) ≡ true
 same-word verb = (bytes_eq-Decides (word_of verb) (word_of verb)).1 refl
 
--- A text that is an operation's word alone has no words behind it.
+-- A text that is only an operation's word has no words behind that word.
 pub goes_no_further : (verb : Verb) (text : List ℕ) → text ≡ word_of verb ++ [] → words_behind (word_of verb) (words_of text) ≡ Some []
 goes_no_further verb text is = rw (is, append-nil, split-lone 32 (word_of verb) (no-space verb), same-word verb)
 
--- A text of an operation's word, a space and a rest has the words of the rest behind the first.
+-- If a text is an operation's word, a space and a rest, the words behind its first word are those of the rest.
 pub goes_on : (verb : Verb) (text rest : List ℕ) → text ≡ word_of verb ++ 32 ∷ rest → words_behind (word_of verb) (words_of text) ≡ Some (words_of rest)
 goes_on verb text rest is = rw (is, split-cut 32 (word_of verb) rest refl (no-space verb), same-word verb)
 
--- What is asked of the first verb that is read and the words behind it, is what is asked of the first word and those behind it.
+-- Asking about the first verb that is read and the words behind it is asking about the first word and those behind it.
 module _ {X : Type 0} (ask : List (List ℕ) → Verb → X) (none : X) where
   step : (here : Bool) (v : Verb) (words : List (List ℕ)) (found : Option Verb) (read : Option (Verb × List (List ℕ))) → option_map_or (ask words) found none ≡ option_map_or (λ r. ask r.1 r.0) read none
       → option_map_or (ask words) (cond here (Some v) found) none ≡ option_map_or (λ r. ask r.1 r.0) (option_or (option_map (λ behind. (v, behind)) (cond here (Some words) None)) read) none

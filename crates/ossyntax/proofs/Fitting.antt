@@ -1,4 +1,4 @@
--- What is read as an argument of a kind is one of the kind.
+-- What is read as an argument of a kind is an argument of that kind.
 use Rattle.std.proofs.Common.{◌≡◌, ℕ, ◌≤◌, ◌&&◌, ℤ, nat_le, true, Option, Some, List, [], ◌∷◌, arith}
 use Rattle.std.specs.{Option.option_map_or, Str.Parse.digits_value}
 use Rattle.std.proofs.lemmas.{Bool.and_from, Bool.and_parts, Bool.leb-true, Grind.common_steps}
@@ -17,7 +17,7 @@ use Rattle.ossyntax.proofs.{KindTexts.int-cases, KindTexts.mapped, RoundTrip.bot
 number-between : (low high : ℕ) (word : List ℕ) (n : ℕ) → number_in low high word ≡ Some n → (nat_le low n && nat_le n high) ≡ true
 number-between low high word n e = grind arith
 
--- What a number's word says: it is a decimal one, and within its limits.
+-- A word that is read as a number is decimal, and the number is within its limits.
 pub number-read : (low high : ℕ) (word : List ℕ) (n : ℕ) → number_in low high word ≡ Some n → (is_decimal word ≡ true) × (digits_value 10 word ≡ n) × (low ≤ n) × (n ≤ high)
 number-read low high word n e =
     let fits = and_parts (nat_le low n) (nat_le n high) (number-between low high word n e) in
@@ -54,7 +54,7 @@ module _ (place : ObjectKind → List ℕ → Option Place) where
       let n = both (resolve_arg place m.0) (resolve_args place m.1) args (rw (← m.4) at r) in
       rw (← n.4) (and_from _ _ (arg-fit k w m.0 n.0 m.2 n.2) (args-fit ks ws m.1 n.1 m.3 n.3))
 
--- The arguments of a text's form are what its words are as arguments of its kinds.
+-- The arguments of a text's form are its words, read as arguments of its kinds.
 pub formed-args : (words : List (List ℕ)) (form : Verb × List (Arg (List ℕ))) → form_of_words words ≡ Some form → (ws : List (List ℕ)) × (args_of (kinds_of form.0) ws ≡ Some form.1)
 formed-args [] form e = cc
 formed-args (word ∷ words) form e =

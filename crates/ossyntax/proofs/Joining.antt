@@ -16,7 +16,7 @@ pub split-cut : (byte : ℕ) (text rest : List ℕ) → (byte == byte) ≡ true 
 split-cut byte [] rest same none = rw same refl
 split-cut byte (x ∷ xs) rest same none = grind (arith, split-cut byte xs rest same)
 
--- what was joined is cut into its pieces
+-- a joined text is cut into the pieces that were joined
 pub split-joined : (byte : ℕ) (w : List ℕ) (ws : List (List ℕ)) → (byte == byte) ≡ true → list_all (has_none byte) (w ∷ ws) ≡ true → slice_split (λ b. b == byte) (join_with_byte byte (w ∷ ws)) ≡ w ∷ ws
 split-joined byte w [] same none = split-lone byte w (and_parts (has_none byte w) true none).0
 split-joined byte w (v ∷ ws) same none =
@@ -28,7 +28,7 @@ pub joined-none : (byte : ℕ) (w : List ℕ) (ws : List (List ℕ)) → (32 == 
 joined-none byte w [] other none = grind arith
 joined-none byte w (v ∷ ws) other none = grind (arith, list_all-append {X = ℕ}, joined-none byte v ws other)
 
--- nor is the whole empty, where the first word is not
+-- if the first word is not empty, neither is the whole
 pub some-more : (text more : List ℕ) → not (length text == 0) ≡ true → not (length (text ++ more) == 0) ≡ true
 some-more [] more some = cc
 some-more (x ∷ text) more some = grind arith
@@ -36,7 +36,7 @@ some-more (x ∷ text) more some = grind arith
 pub joined-some : (w : List ℕ) (ws : List (List ℕ)) → not (length w == 0) ≡ true → not (length (join_with_byte 32 (w ∷ ws)) == 0) ≡ true
 joined-some w ws some = grind (arith, some-more)
 
--- a byte that passes where another fails is not that one
+-- if one byte passes a test and another fails it, they differ
 pub not-byte : (p : ℕ → Bool) (byte x : ℕ) → p byte ≡ false → p x ≡ true → not (x == byte) ≡ true
 not-byte p byte x there here = grind (arith, common_steps)
 

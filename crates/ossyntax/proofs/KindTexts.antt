@@ -1,4 +1,4 @@
--- Each kind of argument: its text, once for each kind.
+-- The text of an argument, with a case for each kind of argument.
 use Rattle.std.proofs.Common.{rules, inl, inr, ◌≡◌, ℕ, suc, ◌-◌, ◌+◌, ◌⊎◌, ◌≤◌, ◌<◌, ◌^◌, ◌==◌, ℤ, pos, negsuc, Bool, true, false, cond, nat_le, Option, Some, None, option_map, List, [], ◌∷◌, length, get_or, codes, refl, ap, ◌∙◌, arith}
 use Rattle.std.specs.{Char.is_ascii_digit, Fmt.decimal, List.list_all, Str.bytes_eq}
 use Rattle.std.proofs.lemmas.Fmt.{decimal_digit, decimal_nonempty, first_decimal, digits_decimal, digits_value-decimal}
@@ -21,7 +21,7 @@ mapped f o b e = grind arith
 pub either : {A : Type 0} (b : Bool) (x y : Option A) (z : A) → cond b x y ≡ Some z → ((b ≡ true) × (x ≡ Some z)) ⊎ ((b ≡ false) × (y ≡ Some z))
 either b x y z e = grind arith
 
--- A signed number is read from a number behind a minus, or from one without it.
+-- A signed number is read from a number behind a minus, or from a number without a minus.
 module _ (P : List ℕ → ℤ → Type 0) (below : (word : List ℕ) (n : ℕ) → number_in 1 9223372036854775808 word ≡ Some n → P (45 ∷ word) (negsuc (n - 1))) (other : (word : List ℕ) (n : ℕ) → number_in 0 9223372036854775807 word ≡ Some n → P word (pos n)) where
   pub int-cases : (word : List ℕ) (z : ℤ) → int_of word ≡ Some z → P word z
   int-cases [] z e = cc
@@ -68,18 +68,18 @@ module _ (byte : ℕ) (apart : IsApart byte) where
   kind-none Kind.Variable word a e = let m = mapped Variable (variable_of word) a e in variable-none word m.0 m.1
   kind-none Kind.Core word a e = grind (arith, digits-none word, (bytes_eq-Decides word (codes "?")).0, apart)
 
--- what is read as an argument has no byte that no argument has
+-- a word that is read as an argument does not have a byte that no argument has
 pub arg_of-none : (byte : ℕ) (k : Kind) (word : List ℕ) (a : Arg (List ℕ)) → IsApart byte → arg_of k word ≡ Some a → has_none byte word ≡ true
 arg_of-none byte k word a apart e = kind-none byte apart k word a e
 
 -- ---- which arguments read back
 
--- the limits of a kind fit
+-- the numbers of a kind fit in 32 bits
 abbrev pub is_kind : Kind → Bool
 is_kind (Kind.Number low high) = nat_le high 4294967295
 is_kind k = true
 
--- the text of the argument is read as it
+-- the text of the argument is read as that argument
 abbrev pub ReadsBack : Kind → Arg (List ℕ) → Type 0
 ReadsBack k a = arg_of k (arg_text a) ≡ Some a
 

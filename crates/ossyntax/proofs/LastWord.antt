@@ -9,7 +9,7 @@ use Rattle.ossyntax.proofs.{Joining.has_none, Joining.split-lone, KindTexts.arg_
 onto-many : (x : ℕ) (ws : List (List ℕ)) → 1 < length ws → 1 < length (onto_first x ws)
 onto-many x ws many = grind arith
 
--- a text with a space has more words than one
+-- a text with a space has more than one word
 words-many : (text : List ℕ) → has_none 32 text ≡ false → 1 < length (words_of text)
 words-many [] spaced = cc
 words-many (x ∷ xs) spaced = grind (arith, length-slice_split (λ b. b == 32) xs, onto-many x (words_of xs), words-many xs)

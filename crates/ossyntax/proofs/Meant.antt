@@ -17,7 +17,7 @@ module _ (place : ObjectKind → List ℕ → Option Place) where
   pair : (o : Option (Arg (List ℕ))) (r : Option (List (Arg (List ℕ)))) → option_and_then (resolve_args place) (and_then_rest o r) ≡ and_then_rest (option_and_then (resolve_arg place) o) (option_and_then (resolve_args place) r)
   pair o r = grind arith
 
-  -- To look up the names of all arguments is to look them up one by one.
+  -- Looking up the names of all arguments together is looking them up one by one.
   pub meant-args : (ks : List Kind) (ws : List (List ℕ)) → option_and_then (resolve_args place) (args_of ks ws) ≡ args_of_words place ks ws
   meant-args [] ws = grind arith
   meant-args (k ∷ ks) [] = refl
@@ -34,7 +34,7 @@ module _ (place : ObjectKind → List ℕ → Option Place) where
   target-ref : {R : Type 0} (ref_of : Place → R) (k : ObjectKind) (o : Option (Option Place)) → option_map (option_map ref_of) o ≡ option_map (λ args. ref_at k ref_of args 0) (option_map last_of (option_map (Object k) o))
   target-ref ref_of k o = grind (arith, same_kind-self)
 
-  -- The object that is left for a last argument, as a reference.
+  -- The object of the last argument, as a reference.
   pub last_ref : {R : Type 0} (ref_of : Place → R) (k : ObjectKind) (text : List ℕ) (o : Option (Option Place)) → option_map (Object k) o ≡ arg_of_word place (Kind.Object k) text → option_map (option_map ref_of) o ≡ option_map (λ args. ref_at k ref_of args 0) (args_of_words place (Kind.Object k ∷ []) (words_of text))
   last_ref ref_of k text o e =
       target-ref ref_of k o ∙ ap (option_map (λ args. ref_at k ref_of args 0)) (ap (option_map last_of) e ∙ last_of_text (Kind.Object k) text)
@@ -42,7 +42,7 @@ module _ (place : ObjectKind → List ℕ → Option Place) where
   none-of : (words : List (List ℕ)) → (words ≡ [] → ⊥) → args_of_words place [] words ≡ None
   none-of words some = grind arith
 
-  -- Where a text is left, an argument is too many.
+  -- If text is left, there is an argument too many.
   pub none_left : (text : List ℕ) → args_of_words place [] (words_of text) ≡ None
   none_left text = none-of (words_of text) (some-word text)
 

@@ -26,7 +26,7 @@ too-large low high word e lt is h =
     let lack = parse_plain own 64 word (Err e) h (lack-plus word (decimal-digits word is)) in
     rw is (bounded-none low high (digits_value 10 word) (λ le. lack (decimal-digits word is, decimal-some word is, omega arith)))
 
--- without a minus a signed number is one that is not
+-- without a minus, a signed number is read as one without a sign
 pub int_of-plain : (word : List ℕ) → ((ys : List ℕ) → word ≢ 45 ∷ ys) → int_of word ≡ option_map (λ n. pos n) (number_in 0 9223372036854775807 word)
 int_of-plain [] lack = refl
 int_of-plain (c ∷ cs) lack = grind (arith, common_steps, lack cs)

@@ -1,4 +1,4 @@
--- Operations and their texts, there and back, by what names stand for.
+-- From operations to their texts and back, by what names refer to.
 use Rattle.std.proofs.Common.{◌≡◌, ℕ, ◌==◌, ◌≤◌, nat_le, not, Bool, true, false, Option, Some, None, is_some, option_map, option_and_then, List, [], ◌∷◌, length, map, refl, sym, ap, ◌∙◌, arith}
 use Rattle.std.specs.{List.list_all, Option.option_map_or}
 use Rattle.std.proofs.lemmas.Bool.{and_parts, false≢true, leb-true}
@@ -17,7 +17,7 @@ use Rattle.ossyntax.proofs.RoundTrip.{both, chained, AreArgs, form_text-back, fo
 
 -- ---- what a text means
 
--- The operation that words mean has their form, with the places of its names: each object where its references are.
+-- The operation that words mean has their form, with places for its names: each object is where its references are.
 pub record Meant (place : ObjectKind → List ℕ → Option Place) (words : List (List ℕ)) (op : Op) : Type 0 where
   pub form : Verb × List (Arg (List ℕ))
   pub args : List (Arg Place)
@@ -48,7 +48,7 @@ meant-words place words op e =
 pub meant-form : (place : ObjectKind → List ℕ → Option Place) (text : List ℕ) (op : Op) → op_of_text place text ≡ Some op → Meant place (words_of text) op
 meant-form place text op e = meant-words place (words_of text) op e
 
--- Arguments stay of their kinds.
+-- An argument keeps its kind when its object is put where its references are.
 home-of : (k : Kind) (a : Arg Place) → is_of k (at_home a) ≡ is_of k a
 home-of k a = grind arith
 
@@ -67,7 +67,7 @@ module _ (place : ObjectKind → List ℕ → Option Place) (p : Named → Bool)
       let m = both (resolve_arg place a) (resolve_args place shown) args e in
       rw (← m.4) (arg-passes a m.0 m.1 m.2 (args-pass shown m.1 m.3))
 
-  -- Each object of the operation of a text is one that some name refers to, if all of these are of their own cores.
+  -- If each object of a name passes a test and is where its references are, each object of a text's operation passes.
   pub meant-passes : (text : List ℕ) (op : Op) → op_of_text place text ≡ Some op → list_all p (objects_of op) ≡ true
   meant-passes text op e =
       let m = meant-form place text op e in
@@ -93,14 +93,14 @@ module _ (place : ObjectKind → List ℕ → Option Place) where
   args-events [] args e = grind arith
   args-events (a ∷ shown) args e = grind (arith, arg-event, args-events shown)
 
-  -- The masks of the operation that a text means are those of its form,
+  -- The masks of the operation that a text means are those of its form.
   form-masks : (text : List ℕ) (op : Op) → op_of_text place text ≡ Some op → rows.has_masks op ≡ option_map_or (λ form. list_all has_event form.1) (form_of text) true
   form-masks text op e = let m = meant-form place text op e in rw (m.args_are, args-events m.form.1 m.args m.placed, m.formed)
 
 some-of : (o : Option Op) → is_some o ≡ true → (op : Op) × (o ≡ Some op)
 some-of o e = grind arith
 
--- and so the text's.
+-- The masks of the operation that a text means are those of the text.
 pub meant_masks : (place : ObjectKind → List ℕ → Option Place) (text : List ℕ) (op : Op) → op_of_text place text ≡ Some op → rows.has_masks op ≡ has_masks text
 meant_masks place text op e =
     let any = some-of (op_of_text place_of_any text) (any_of_text text ∙ (meant-known place text op e).0) in
@@ -109,7 +109,7 @@ meant_masks place text op e =
 
 -- ---- what an operation's text means
 
--- The object's name is in form, and refers to it.
+-- The object's name is in form, and refers to the object.
 pub record IsNamed (place : ObjectKind → List ℕ → Option Place) (name : ObjectKind → Place → List ℕ) (object : Named) : Type 0 where
   pub in_form : is_name (name object.kind object.place) ≡ true
   pub found : place object.kind (name object.kind object.place) ≡ Some object.place
@@ -150,13 +150,13 @@ module _ (place : ObjectKind → List ℕ → Option Place) (name : ObjectKind �
   are-args : (op : Op) → is_in_form op ≡ true → rows.has_masks op ≡ true → list_all p (objects_of op) ≡ true → AreArgs (kinds_of (parsed_op_of op).0) (map (named name) (parsed_op_of op).1)
   are-args op fit some all = args-back (kinds_of (parsed_op_of op).0) (parsed_op_of op).1 (is-row (parsed_op_of op).0).2 fit some all
 
-  -- It means that operation,
+  -- An operation's text means that operation.
   pub text-meant : (op : Op) → is_in_form op ≡ true → rows.has_masks op ≡ true → list_all p (objects_of op) ≡ true → op_of_text place (op_text name op) ≡ Some op
   text-meant op fit some all =
       let form = parsed_op_of op in
       rw (form_text-back form.0 (map (named name) form.1) (are-args op fit some all), args-resolved form.1 all) (ap Some (is-op op))
 
-  -- and has no byte that no argument has, other than the space.
+  -- A byte that no argument has, other than the space, is not in an operation's text.
   pub text-none : (byte : ℕ) → IsApart byte → (32 == byte) ≡ false → (op : Op) → is_in_form op ≡ true → rows.has_masks op ≡ true → list_all p (objects_of op) ≡ true → has_none byte (op_text name op) ≡ true
   text-none byte apart other op fit some all = form_text-none byte apart other (parsed_op_of op).0 (map (named name) (parsed_op_of op).1) (are-args op fit some all)
 

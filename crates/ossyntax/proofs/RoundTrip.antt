@@ -39,7 +39,7 @@ args-back [] [] are = refl
 args-back (k ∷ ks) (a ∷ args) are = rw (are.0, args-back ks args are.1)
 args-back ks args are = absurd are
 
--- the words of such a form have no byte that no argument has
+-- a byte that no argument has is not in the words of such a form
 words-none : (byte : ℕ) → IsApart byte → (v : Verb) (args : List (Arg (List ℕ))) → AreArgs (kinds_of v) args → list_all (has_none byte) (word_of v ∷ map arg_text args) ≡ true
 words-none byte apart v args are =
     and_from _ _ (all-none is_name_part byte (word_of v) apart.part (and_parts (not (length (word_of v) == 0)) _ (is-row v).1).1)
@@ -48,14 +48,14 @@ words-none byte apart v args are =
 pub space-apart : IsApart 32
 space-apart = record { digit = refl; part = refl; minus = refl; invalid = refl; letter = refl }
 
--- What the text of a form says is that form.
+-- The text of a form is read as that form.
 pub form_text-back : (v : Verb) (args : List (Arg (List ℕ))) → AreArgs (kinds_of v) args → form_of (form_text (v, args)) ≡ Some (v, args)
 form_text-back v args are =
     ap form_of_words (split-joined 32 (word_of v) (map arg_text args) refl (words-none 32 space-apart v args are))
     ∙ ap (option_and_then (form_of_verb (map arg_text args))) (is-row v).0
     ∙ ap (option_map (λ as_. (v, as_))) (args-back (kinds_of v) args are)
 
--- The text has no byte that no argument has, other than the space, and is not empty.
+-- A byte that no argument has, other than the space, is not in the text; and the text is not empty.
 pub form_text-none : (byte : ℕ) → IsApart byte → (32 == byte) ≡ false → (v : Verb) (args : List (Arg (List ℕ))) → AreArgs (kinds_of v) args → has_none byte (form_text (v, args)) ≡ true
 form_text-none byte apart other v args are = joined-none byte (word_of v) (map arg_text args) other (words-none byte apart v args are)
 

@@ -1,5 +1,5 @@
--- What is proved of every operation, one case for each, found by the check itself. So a new operation needs no line here; and all else
--- is proved of the rows at once.
+-- What is proved of every operation. The checker makes a case of each operation, so a new operation needs no line here.
+-- All else is proved of the rows at once.
 use native.Mathlib.Omega.{arith}
 use Rattle.std.proofs.Common.{◌≡◌, ℕ, ◌<◌, ◌≤◌, ◌==◌, ◌&&◌, nat_le, not, Bool, true, false, Some, List, [], ◌∷◌, length, map, refl, ap}
 use Rattle.std.specs.List.{list_all}
@@ -12,12 +12,12 @@ use Rattle.oscript.proofs.Homes.{at_home}
 use Rattle.ossyntax.specs.ParsedOp.{verb_of}
 use Rattle.ossyntax.proofs.KindTexts.{is_kind}
 
--- a word of bytes that names have, and not empty
+-- a word that is not empty and has only bytes of names
 abbrev pub is_plain : List ℕ → Bool
 is_plain word = not (length word == 0) && list_all is_name_part word
 
--- A row's word is plain and no other row's; its limits fit; and the form of a form's operation is that form with each object where its
--- references are, where the arguments are of their kinds.
+-- A row's word is plain and no other row's, and its limits fit. If a form's arguments are of their kinds, the form of
+-- its operation is that form, with each object where its references are.
 abbrev pub IsRow : Verb → Type 0
 IsRow v = (verb_of (word_of v) ≡ Some v) × (is_plain (word_of v) ≡ true) × (list_all is_kind (kinds_of v) ≡ true)
     × ((args : List (Arg Place)) → (parsed_op_of (op_of (v, args))).0 ≡ v) × ((args : List (Arg Place)) → are_of (kinds_of v) args ≡ true → (parsed_op_of (op_of (v, args))).1 ≡ map at_home args)

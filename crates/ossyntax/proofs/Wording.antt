@@ -3,7 +3,7 @@ use Rattle.std.proofs.Common.{◌≡◌, ◌≢◌, ℕ, ◌<◌, ◌==◌, fals
 use Rattle.std.proofs.{lemmas.Grind.common_steps, lemmas.Grind.get_or_default_zero, lemmas.List.Splits.length-slice_split}
 use Rattle.ossyntax.specs.ParsedOp.{words_of}
 
--- a text has a word
+-- a text has at least one word
 pub some-word : (text : List ℕ) → words_of text ≡ [] → ⊥
 some-word text e = let n = length-slice_split (λ b. b == 32) text in let z : length (words_of text) ≡ 0 = ap length e in omega arith
 

@@ -1,4 +1,4 @@
-//! Actions: the operations that an alarm can make by itself.
+//! Actions: the operations that an alarm or an expiry point can make.
 
 ghost use Rattle.std.specs.Prelude.{◌≡◌};
 ghost use Rattle.ossyntax.specs.Action.{is_action};
@@ -7,8 +7,8 @@ use crate::parsing::op_of_text;
 use crate::places::AnyName;
 use oscript::action_of_op;
 
-/// Whether a text is an action in form: an operation that activates a task or sets events of one, whose name is no
-/// `?`. Whether there is such a task is not looked at (AUTOSAR SWS OS 4.x, OsAlarmAction).
+/// Whether a text is a well-formed action: an operation that activates a task or sets events of one, and has a name,
+/// not `?`. Whether there is a task of this name is not checked (AUTOSAR SWS OS 4.x, OsAlarmAction).
 pub fn is_action(text: &str) -> bool
     ensures { result ≡ is_action text.now }
 {

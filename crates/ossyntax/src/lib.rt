@@ -1,8 +1,8 @@
-//! Operations as texts: an operation in form, what its names stand for, and its text again.
+//! Operations as texts: reading a text, looking up its names, and writing the text of an operation.
 //!
-//! The grammar is the table of rows (`oscript`): no operation is known here. What a text says is a form,
-//! whose names are looked up by whoever knows the objects (`Places`), and written by whoever knows their
-//! names (`Names`). A call across cores has the words of its operation.
+//! The grammar is the table of rows in `oscript`; this crate has no other grammar. A text is read into a form,
+//! whose names are looked up by `Places`. A form is written as a text with the names that `Names` has for the
+//! objects. A call across cores has the words of its operation.
 #![tactic(auto)]
 
 mod actions;

@@ -6,6 +6,7 @@ ghost use Rattle.ossyntax.specs.Word.{core_of, is_unpadded, is_decimal, mask_of,
 
 use osbase::CoreId;
 
+// Whether the word is not empty, and does not begin with `0` if it has more than one character.
 fn is_unpadded(word: &[u8]) -> bool
     ensures { result ≡ is_unpadded word.now }
 {
@@ -22,7 +23,7 @@ fn are_digits(word: &[u8]) -> bool
     word.iter().all(|c| c.is_ascii_digit())
 }
 
-/// A decimal number without leading zeros.
+/// Whether the word is a decimal number without leading zeros.
 fn is_decimal(word: &str) -> bool
     ensures { result ≡ is_decimal word.now }
 {
@@ -38,7 +39,7 @@ fn below_zero(n: u64) -> i64
     -1 - (n - 1) as i64
 }
 
-/// A decimal number of this range.
+/// The number that the word stands for, if it is a decimal number in this range.
 pub fn number_in(low: u64, high: u64, word: &str) -> Option<u64>
     ensures value { result ≡ number_in low high word.now }
     ensures least { IfSome result (λ n. low ≤ n) }
@@ -53,7 +54,8 @@ pub fn number_in(low: u64, high: u64, word: &str) -> Option<u64>
     }
 }
 
-/// The events of a mask: a decimal number of 1 to 4294967295. 0 of another decimal number.
+/// The mask that the word stands for, a bit for each event: a decimal number from 1 to 4294967295. For any other
+/// decimal number, it is 0. `None` for any other word.
 pub fn mask_of(word: &str) -> Option<u32>
     ensures { result ≡ mask_of word.now }
 {
@@ -66,7 +68,8 @@ pub fn mask_of(word: &str) -> Option<u32>
     }
 }
 
-/// A signed number of 64 bits, with `-` before it where it is below 0.
+/// The signed number of 64 bits that the word stands for, with `-` in front if it is below 0. `None` for any other
+/// word.
 pub fn int_of(word: &str) -> Option<i64>
     ensures { result ≡ int_of word.now }
 {
@@ -82,7 +85,7 @@ pub fn int_of(word: &str) -> Option<i64>
     }
 }
 
-/// The number of a variable.
+/// The number of the variable that the word names, `v0` to `v7`. `None` for any other word.
 pub fn variable_of(word: &str) -> Option<u8>
     ensures { result ≡ variable_of word.now }
 {
@@ -98,7 +101,7 @@ pub fn variable_of(word: &str) -> Option<u8>
     }
 }
 
-/// The core of a number of 0 to 255, configured or not; none for `?`.
+/// The core, configured or not, whose number the word is, 0 to 255; no core for `?`. `None` for any other word.
 pub fn core_of(word: &str) -> Option<Option<CoreId>>
     ensures { result ≡ core_of word.now }
 {

@@ -1,4 +1,4 @@
-//! Reading: operations in form, with the places of their names.
+//! Reading: well-formed operations, with the places of their names.
 
 ghost use Rattle.std.specs.Prelude.{◌≡◌, ◌∷◌, [], map, option_map, List};
 ghost use Rattle.oscript.specs.{declared.rows.Arg.Arg, declared.rows.Kind.Kind, Rows.items, Rows.ref_at, Rows.word_of};
@@ -11,7 +11,8 @@ use crate::words::cut;
 use osbase::{ObjectKind, Place, Reference};
 use oscript::{Arg, Args, Kind, Op, ParsedOp, VERBS, Verb, op_of, row_of};
 
-// The object of a name; none for `?`. A place's name is in form, so it is not judged again.
+// The place of the object that the word names; no place for `?`. None for any other word. A name that has a place is
+// well-formed, so its form needs no check.
 #[inline(always)]
 fn target_of_word<P: Places>(places: &P, kind: ObjectKind, word: &str) -> Option<Option<Place>>
     ensures { option_map (Arg.Object kind) result ≡ arg_of_word (P.place places.now) (Kind.Object kind) word.now }
@@ -22,6 +23,8 @@ fn target_of_word<P: Places>(places: &P, kind: ObjectKind, word: &str) -> Option
     if word == "?" { Some(None) } else { None }
 }
 
+// The word as an argument of the kind, with the place of its name. None if the word is no such argument, or if the name
+// has no place.
 #[inline(always)]
 fn arg_of_word<P: Places>(places: &P, kind: Kind, word: &str) -> Option<Arg<Place>>
     ensures { result ≡ arg_of_word (P.place places.now) kind word.now }
@@ -39,7 +42,8 @@ fn arg_of_word<P: Places>(places: &P, kind: Kind, word: &str) -> Option<Arg<Plac
     }
 }
 
-// The next word as an argument of the kind, and what follows it.
+// The next word as an argument of the kind, and the rest of the text behind the word. None if there is no such
+// argument.
 #[inline(always)]
 fn next_arg<'a, P: Places>(
     places: &P,
@@ -52,7 +56,7 @@ fn next_arg<'a, P: Places>(
     Some((arg_of_word(places, kind, word)?, rest))
 }
 
-// The last word as an argument of the kind. No argument has a space, so all that is left is that word.
+// The last word as an argument of the kind. No argument has a space, so the whole rest of the text is that word.
 #[tactic(auto, using(crate::proofs::Meant::last_of_text))]
 #[inline(always)]
 fn last_arg<P: Places>(places: &P, kind: Kind, rest: Option<&str>) -> Option<Arg<Place>>
@@ -64,6 +68,7 @@ fn last_arg<P: Places>(places: &P, kind: Kind, rest: Option<&str>) -> Option<Arg
     }
 }
 
+// The last two words as arguments of the kinds.
 #[inline(never)]
 fn last_two<P: Places>(
     places: &P,
@@ -82,6 +87,7 @@ fn last_two<P: Places>(
     }
 }
 
+// The last three words as arguments of the kinds.
 #[inline(never)]
 fn last_three<P: Places>(
     places: &P,
@@ -101,8 +107,8 @@ fn last_three<P: Places>(
     }
 }
 
-// Operations of one argument are read here. Those of more are read by calls of their own, which cost these
-// nothing.
+// The rest of the text as arguments of the kinds. One argument is read here. More are read by separate calls, which do
+// not slow down operations with one.
 #[inline(always)]
 fn args_of_words<P: Places>(
     places: &P,
@@ -131,7 +137,8 @@ fn args_of_words<P: Places>(
     }
 }
 
-// What follows a verb's word in a text that begins with this word.
+// What follows the verb's word, if it is the first word of the text; nothing if the text ends there. None if the first
+// word is another one.
 #[inline(always)]
 fn rest_of(verb: Verb, text: &str) -> Option<Option<&str>>
     ensures { option_map rest_words result ≡ words_behind (word_of verb) (words_of text.now) }
@@ -146,7 +153,7 @@ fn rest_of(verb: Verb, text: &str) -> Option<Option<&str>>
     }
 }
 
-// The first of these verbs whose word a text begins with, and what follows that word.
+// The first of these verbs whose word is the first word of the text, and what follows that word.
 #[inline(always)]
 fn first_of<'t>(verbs: &[Verb], text: &'t str) -> Option<(Verb, Option<&'t str>)>
     ensures { option_map verb_and_words result ≡ first_read (words_of text.now) verbs.now }
@@ -159,8 +166,8 @@ fn first_of<'t>(verbs: &[Verb], text: &'t str) -> Option<(Verb, Option<&'t str>)
     None
 }
 
-// The verb of a text's first word, and what follows it. The words are short, so each is compared where it would stand, and
-// the end of the first one is not looked for. The verb that comes most is compared by itself.
+// The verb of a text's first word, and what follows it. Each verb's word is compared with the beginning of the text:
+// words are short, so the first word's end is not looked for. The most frequent verb is compared first, by itself.
 #[inline(always)]
 fn first_verb(text: &str) -> Option<(Verb, Option<&str>)>
     ensures { option_map verb_and_words result ≡ first_read (words_of text.now) VERBS }
@@ -171,9 +178,9 @@ fn first_verb(text: &str) -> Option<(Verb, Option<&str>)>
     }
 }
 
-// The operation of a verb, whatever its arguments are.
+// The operation of the verb with the rest of the text as its arguments, however many the verb has.
 #[inline(never)]
-fn op_in_form<P: Places>(places: &P, verb: Verb, rest: Option<&str>) -> Option<Op>
+fn op_with_args<P: Places>(places: &P, verb: Verb, rest: Option<&str>) -> Option<Op>
     ensures { result ≡ op_with_verb (P.place places.now) (rest_words rest.entry) verb }
 {
     match args_of_words(places, row_of(verb).kinds, rest) {
@@ -182,7 +189,8 @@ fn op_in_form<P: Places>(places: &P, verb: Verb, rest: Option<&str>) -> Option<O
     }
 }
 
-// The last word as the reference to an object.
+// The last word as the reference to the object that it names; no reference for `?`. None for any other word, or if
+// there is none.
 #[inline(always)]
 fn ref_of_text<P: Places, R: Reference>(places: &P, rest: Option<&str>) -> Option<Option<R>>
     ensures { result ≡ option_map (λ args. ref_at R.KIND R.ref_of args 0) (args_of_words (P.place places.now) (Kind.Object R.KIND ∷ []) (rest_words rest.entry)) }
@@ -197,8 +205,8 @@ fn ref_of_text<P: Places, R: Reference>(places: &P, rest: Option<&str>) -> Optio
     }
 }
 
-// Most operations have one argument, an object. They are read here straight, and the others by a call, which costs these
-// nothing.
+// The operation of the verb with the rest of the text as its arguments. Operations with one argument, an object of a
+// core, are read here directly. The others are read by a call, which does not slow down these.
 #[tactic(auto, using(crate::proofs::Meant::mapped_twice))]
 #[inline(always)]
 fn op_with_verb<P: Places>(places: &P, verb: Verb, rest: Option<&str>) -> Option<Op>
@@ -212,11 +220,11 @@ fn op_with_verb<P: Places>(places: &P, verb: Verb, rest: Option<&str>) -> Option
         Verb::IncrementCounter => Some(Op::IncrementCounter(ref_of_text(places, rest)?)),
         Verb::CancelAlarm => Some(Op::CancelAlarm(ref_of_text(places, rest)?)),
         Verb::StopScheduleTable => Some(Op::StopScheduleTable(ref_of_text(places, rest)?)),
-        _ => op_in_form(places, verb, rest),
+        _ => op_with_args(places, verb, rest),
     }
 }
 
-/// The operation that a text means; None if it is not in form and in range, as an empty one, or if a name in it
+/// The operation that a text means. None if the text is empty, not well-formed or not in range, or if a name in it
 /// has no place.
 #[inline(always)]
 pub fn op_of_text<P: Places>(places: &P, text: &str) -> Option<Op>
@@ -228,6 +236,7 @@ pub fn op_of_text<P: Places>(places: &P, text: &str) -> Option<Op>
     }
 }
 
+// The kind; in place of `Number`, it is `Mask`, which takes any decimal number.
 #[inline(always)]
 fn unranged(kind: Kind) -> Kind
     ensures { result ≡ unranged kind }
@@ -238,6 +247,7 @@ fn unranged(kind: Kind) -> Kind
     }
 }
 
+// The kinds; in place of each `Number`, there is `Mask`.
 #[inline(always)]
 fn all_unranged(kinds: Args<Kind>) -> Args<Kind>
     ensures { items result ≡ map unranged (items kinds) }
@@ -250,6 +260,7 @@ fn all_unranged(kinds: Args<Kind>) -> Args<Kind>
     }
 }
 
+// The operation of the verb with the rest of the text as its arguments, but with 0 for each `Number`.
 #[inline(always)]
 fn references_with_verb<P: Places>(places: &P, verb: Verb, rest: Option<&str>) -> Option<Op>
     ensures { result ≡ references_with_verb (P.place places.now) (rest_words rest.entry) verb }
@@ -260,8 +271,8 @@ fn references_with_verb<P: Places>(places: &P, verb: Verb, rest: Option<&str>) -
     }
 }
 
-/// The operation that a text names: the one that it means, but with 0 for each number, be that in its range or not. So its
-/// names and its masks can be judged whatever its numbers are. None if the text is not in form, or if a name in it
+/// The operation that a text means, but with 0 for each `Number`, whether the number is in its range or not. So the
+/// names and the masks can be checked whatever the numbers are. None if the text is not well-formed, or if a name in it
 /// has no place.
 pub fn references_of_text<P: Places>(places: &P, text: &str) -> Option<Op>
     ensures { result ≡ references_of_text (P.place places.now) text.now }
@@ -272,16 +283,16 @@ pub fn references_of_text<P: Places>(places: &P, text: &str) -> Option<Op>
     }
 }
 
-/// Whether each name of a text has its place, if the text is in form, whatever its numbers are. A text that is not
-/// in form has no names.
+/// Whether each name of a well-formed text has a place, whatever the numbers of the text are. Any other text has no
+/// names.
 pub fn is_known<P: Places>(places: &P, text: &str) -> bool
     ensures { result ≡ is_known (P.place places.now) text.now }
 {
     references_of_text(places, text).is_some() || references_of_text(&AnyName, text).is_none()
 }
 
-/// Whether each mask of a text is in its range, if the text is in form, whatever its numbers are. A text that is not in
-/// form has no masks.
+/// Whether each mask of a well-formed text is in its range, whatever the numbers of the text are. Any other text has no
+/// masks.
 pub fn has_masks(text: &str) -> bool
     ensures { result ≡ has_masks text.now }
 {

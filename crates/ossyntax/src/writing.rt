@@ -19,7 +19,7 @@ pub trait Names {
         ensures { result.now ≡ name self.now kind place };
 }
 
-// Adds a space and the argument.
+// Adds a space and the argument to the text.
 fn push_arg<N: Names>(
     alloc: Global,
     names: &N,
@@ -45,6 +45,7 @@ fn push_arg<N: Names>(
     Ok(())
 }
 
+// Adds the arguments to the text, each after a space.
 fn push_args<N: Names>(
     alloc: Global,
     names: &N,
@@ -68,6 +69,7 @@ fn push_args<N: Names>(
     }
 }
 
+// The text of a form: its words, divided by one space.
 #[tactic(auto, using(crate::proofs::ArgsTexts::joined))]
 fn form_text<N: Names>(
     alloc: Global,

@@ -1,4 +1,4 @@
--- What is asked of a core's tables is what is asked of its history.
+-- A query of a core's tables is answered as the same query of its history is.
 use Rattle.std.proofs.Common.{◌≡◌, ℕ, zero, suc, ◌+◌, ◌<◌, ◌≤◌, Bool, true, false, cond, Option, Some, None, option_map, filter, filter_map, length, List, [], ◌∷◌, map, refl, ap, ◌∙◌, arith}
 use Rattle.std.specs.{List.cons_option, List.find, List.list_all, Option.option_map_or}
 use Rattle.std.proofs.lemmas.Bool.{and_from}
@@ -65,7 +65,7 @@ next-read core s h =
 
 -- ---- those of a counter
 
--- what is made of each element that is kept, by two ways that agree there
+-- if `f` and `g` agree on all that passes `q`, they make the same of it
 pub made-same : {A B : Type 0} (q : A → Bool) (f g : A → Option B) (xs : List A) → ((x : A) → q x ≡ true → f x ≡ g x) → filter_map f (filter q xs) ≡ filter_map g (filter q xs)
 made-same q f g [] same = refl
 made-same q f g (x ∷ xs) same = by (q x) refl (made-same q f g xs same)
@@ -87,7 +87,7 @@ dues-read core c h within =
 
 -- ---- the core's own
 
--- all that are found or made of what is the core's own
+-- each reference to a table of the core is to one of its own tables
 all-refs : (core : Core) (first count : ℕ) → ((n : ℕ) → n < first + count → is_own_object core (table_object (table_ref core n)) ≡ true) → list_all (λ (u : TableRef). is_own_object core (table_object u)) (map (table_ref core) (numbers_from first count)) ≡ true
 all-refs core first zero each = refl
 all-refs core first (suc count) each = and_from _ _ (each first (omega arith)) (all-refs core (first + 1) count (λ n h. each n (omega (arith, h))))
@@ -95,7 +95,7 @@ all-refs core first (suc count) each = and_from _ _ (each first (omega arith)) (
 pub refs-own : (core : Core) → list_all (λ (u : TableRef). is_own_object core (table_object u)) (table_refs core) ≡ true
 refs-own core = all-refs core 0 (length core.tables) (λ n inside. table-own core n (omega (arith, inside)))
 
--- A table that waits is the core's own,
+-- The table that waits for a table is the core's own.
 pub next-own : (core : Core) (s : TableRef) (h : History) → option_map_or (λ (u : TableRef). is_own_object core (table_object u)) (next_by core s h) true ≡ true
 next-own core s h = by (next_by core s h) refl
   where
@@ -115,7 +115,7 @@ made-passes {A} {B} q g p (x ∷ xs) each = by (q x) refl (made-passes q g p xs 
     by false e rest = rest
     by true e rest = made (g x) (each x e) rest
 
--- and so is each that is due, and the one that begins in its place.
+-- Each table that is due is the core's own, and so is the table that begins in its place.
 pub dues-own : (core : Core) (c : CounterRef) (h : History) → list_all (are_own core) (due_tables_by core c h) ≡ true
 dues-own core c h = made-passes (is_timed_by core c) (due_table_by core h) (are_own core) (table_refs core) (λ s on. by s (timed-own core c s on) (due_by core s h))
   where
@@ -138,7 +138,7 @@ made-fewer {A} {B} g (x ∷ xs) = by (g x) (made-fewer g xs)
 pub dues-few : (core : Core) (c : CounterRef) (h : History) → length (due_tables_by core c h) ≤ length (timed_by core c)
 dues-few core c h = made-fewer (due_table_by core h) (timed_by core c)
 
--- The same of the tables themselves.
+-- The same for the state of the tables.
 pub dues-own-in : (core : Core) (c : CounterRef) (x : TableStates) → AreTables core x → list_all (are_own core) (due_tables_in core c x) ≡ true
 dues-own-in core c x are =
     ap (λ (y : TableStates). list_all (are_own core) (due_tables_in core c y)) are.is

@@ -34,7 +34,7 @@ steps core c within own = by (slice_get core.counters c.index) refl (some-at cor
           least = (between 1 k.max k.min (and_parts (is_between 1 1000000000 (Some k.max)) (is_between 1 k.max (Some k.min)) fits).1).0;
         }
 
--- so the last point of a table that repeats comes before the end
+-- the last point of a table that repeats comes before the end of the period
 last-before : (core : Core) (s : TableRef) (t : TablePlan) → are_clocks_within core ≡ true → own_table core s ≡ Some t → t.repeating ≡ true → last_offset (map point_sizes t.points) < t.duration
 last-before core s t within own repeating =
     let k = steps core t.counter within (attached core s t within own) in
@@ -93,7 +93,7 @@ module _ (t : TablePlan) (b : Bool) (so : b ≡ true → number_of_point t.durat
   alone-at (NextOf s) = refl
   alone-at (Running run) = alone-run (counts_run run)
 
--- of a table
+-- a table that repeats has no point where its period ends
 alone-by : (core : Core) (s : TableRef) (h : History) → are_clocks_within core ≡ true → (o : Option TablePlan) → own_table core s ≡ o
     → option_map_or (alone (option_map_or (λ (x : TablePlan). x.repeating) o false)) (option_map_or (λ (t : TablePlan). due_at t (counted_once (table_state t.counter s h))) o None) true ≡ true
 alone-by core s h within None own = refl
@@ -104,13 +104,13 @@ alone-table : (core : Core) (s : TableRef) (next : Option TableRef) (o : Option 
 alone-table core s next None is = refl
 alone-table core s next (Some due) is = is
 
--- of each that is due
+-- no table of a counter that is due and repeats has a point where its period ends
 pub ends-alone-by : (core : Core) (c : CounterRef) (h : History) → are_clocks_within core ≡ true → list_all (ends_alone core) (due_tables_by core c h) ≡ true
 ends-alone-by core c h within =
     made-passes (is_timed_by core c) (due_table_by core h) (ends_alone core) (table_refs core)
     (λ s on. alone-table core s (next_by core s h) (due_by core s h) (alone-by core s h within (own_table core s) refl))
 
--- The same of the tables themselves.
+-- The same for the state of the tables.
 pub ends-alone-in : (core : Core) (c : CounterRef) (x : TableStates) → AreTables core x → list_all (ends_alone core) (due_tables_in core c x) ≡ true
 ends-alone-in core c x are =
     ap (λ (y : TableStates). list_all (ends_alone core) (due_tables_in core c y)) are.is

@@ -15,7 +15,7 @@ use Rattle.ostable.proofs.Points.{number-from, number-is}
 -- ---- the count of a period
 
 module _ (d : ℕ) where
-  -- count o of a period, behind so many whole ones
+  -- count o of a period, after a number of whole periods
   pub period-from : (n o : ℕ) → 1 ≤ o → count_in_period d n ≡ o → (p : ℕ) × (n ≡ p * d + o)
   period-from zero o some is = absurd (omega (arith, some, is))
   period-from (suc n) o some is = (n / d, omega (arith, is, mod-add-div' n d))
@@ -74,11 +74,12 @@ module _ (t : TablePlan) (wait counts : ℕ) where
       by true e is = absurd (false≢true is)
       by false e is = (ltb-false counts wait e, eqb-true (count_in_period t.duration (counts - wait)) t.duration is)
 
--- ---- the laws, of a table that was started to begin after `wait` counts, so many `counts` ago. That it goes on behind the end of a
--- period holds of one that repeats; another one is stopped there.
+-- ---- the laws of a table that was started `counts` counts ago, to begin after `wait` counts. A table that repeats
+-- goes on after the end of a period; any other table is stopped there.
 
 module _ (t : TablePlan) (timed : IsTimed t) (wait counts : ℕ) where
-  -- A point of an offset from 1 to the duration is due that many counts into each period. [AUTOSAR SWS OS 4.x, section 7.3.3]
+  -- A point of an offset from 1 to the duration is due that many counts into each period. [AUTOSAR SWS OS 4.x, section
+  -- 7.3.3]
   pub point-is-due : (n : ℕ) (point : ExpiryPoint) → slice_get t.points n ≡ Some point → 1 ≤ point.offset
       → (due_point t (running_for wait counts) ≡ Some n) ↔ ((p : ℕ) × (counts ≡ wait + p * t.duration + point.offset))
   point-is-due n point is some = (from, so)
@@ -97,7 +98,7 @@ module _ (t : TablePlan) (timed : IsTimed t) (wait counts : ℕ) where
           ∙ ap (λ (count : ℕ). number_of_point count t.points) into
           ∙ number-from t.points n point timed.ascending is
 
-  -- One of offset 0 is due where the first period begins; with each later period it is done where the period before ends.
+  -- A point of offset 0 is due where the first period begins. For a later period, it is done where the last one ends.
   pub first-point-is-due : (n : ℕ) (point : ExpiryPoint) → slice_get t.points n ≡ Some point → point.offset ≡ 0 → (due_point t (running_for wait counts) ≡ Some n) ↔ (counts ≡ wait)
   first-point-is-due n point is none = (from, so)
     where
@@ -139,7 +140,7 @@ module _ (t : TablePlan) (timed : IsTimed t) (wait counts : ℕ) where
 
 -- ---- and the table of a history
 
--- Started and since then neither stopped nor started again, it runs for as many counts as its counter had since.
+-- If a table was started and no later entry concerns it, it runs for as many counts as its counter had since then.
 pub runs-since : (c : CounterRef) (s : TableRef) (wait : ℕ) (later h : History) → list_all (λ (e : Entry). not (concerns s e)) later ≡ true
     → table_state c s (later ++ Noted (TableStarted s wait) ∷ h) ≡ running_for wait (counts_of c later)
 runs-since c s wait [] h none = cond-true (same_table s s) (started_after wait) (table_state c s h) (same_table-refl s)

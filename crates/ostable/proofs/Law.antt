@@ -1,4 +1,4 @@
--- What an entry does to the tables of a core is what it does to what is read off the history.
+-- An entry changes the state of the tables as it changes what is read off the history.
 use Rattle.std.proofs.Common.{◌≡◌, ℕ, Bool, true, false, cond, Option, Some, None, is_some, List, ◌∷◌, length, refl, ap, sym, ◌∙◌}
 use Rattle.std.specs.Option.{option_map_or}
 use Rattle.std.proofs.lemmas.Bool.{cond-false, cond-true, false≢true}
@@ -45,7 +45,7 @@ tables-on : (core : Core) (c : CounterRef) (h : History) → are_clocks_within c
 tables-on core c h within =
     those-changed (placed core) (λ s. table_by core s h) (λ s. table_by core s (Noted (CounterIncremented c) ∷ h)) c (moved core) Table.Stopped (λ s. table-on core c s h within (own_table core s) refl)
 
--- a count of what is not the core's own
+-- a count of a counter that is not the core's own
 count-off : (core : Core) (c : CounterRef) (h : History) → are_clocks_within core ≡ true → is_own_object core (counter_object c) ≡ false → tables_of core h ≡ tables_of core (Noted (CounterIncremented c) ∷ h)
 count-off core c h within other =
     together
@@ -65,9 +65,9 @@ count-after core c h within = by (is_own_object core (counter_object c)) refl
     by true own = together (tables-on core c h within) refl
     by false other = count-off core c h within other
 
--- ---- what is told of one table
+-- ---- what is noted of one table
 
--- an entry that gives one table a state, and no other one
+-- an entry that gives a state to one table and to no other
 module _ (core : Core) (s : TableRef) (h : History) (e : Entry) (state : TableState)
     (here : (c : CounterRef) → table_state c s (e ∷ h) ≡ state)
     (there : (c : CounterRef) (u : TableRef) → same_table s u ≡ false → table_state c u (e ∷ h) ≡ table_state c u h) where
@@ -98,7 +98,7 @@ module _ (core : Core) (s : TableRef) (h : History) (e : Entry) (state : TableSt
   told-after true own = told-own own
   told-after false other = told-off other
 
--- what is not the core's own has this state as well
+-- a table that is the core's own has this state, whatever its configuration
 whichever : (o : Option TablePlan) (table : Table) → is_some o ≡ true → table ≡ option_map_or (λ (t : TablePlan). table) o Table.Stopped
 whichever None table some = absurd (false≢true some)
 whichever (Some t) table some = refl
@@ -130,7 +130,7 @@ next-after core s next h =
     (λ c u apart. cond-false (same_table next u) (NextOf s) (table_state c u h) apart)
     (is_own_object core (table_object next)) refl
 
--- What is read off a longer history is what its newest entry does to what was read.
+-- The tables of a longer history are those of the history, changed by the newest entry.
 pub after : (core : Core) (e : Entry) (h : History) → are_clocks_within core ≡ true → tables_by core e (tables_of core h) ≡ tables_of core (e ∷ h)
 after core (Noted (CounterIncremented c)) h within = count-after core c h within
 after core (Noted (TableStarted s wait)) h within = start-after core s wait h

@@ -12,7 +12,7 @@ use Rattle.ostable.proofs.Places.{placed}
 pub table-refs-length : (core : Core) → length (table_refs core) ≡ length core.tables
 table-refs-length core = length-table (table_ref core) (length core.tables)
 
--- each is the core's own
+-- each table of a counter is the core's own
 pub timed-own : (core : Core) (c : CounterRef) (s : TableRef) → is_timed_by core c s ≡ true → is_own_object core (table_object s) ≡ true
 timed-own core c s on = goes-own (placed core) c s on
 
@@ -39,7 +39,7 @@ refs-at core i inside =
     drop-there (table_refs core) i (table_ref core i)
     (slice_get-get_or (table_refs core) i (table_ref core i) within ∙ ap (λ (s : TableRef). Some s) (table-at (table_ref core) 0 (length core.tables) i i (table_ref core i) (omega arith) inside))
 
--- what is kept of one more
+-- what is kept of one element more
 pub filter_map-more : {X Y : Type 0} (f : X → Option Y) (xs : List X) (i : ℕ) (d : X) → i < length xs → filter_map f (take (i + 1) xs) ≡ filter_map f (take i xs) ++ filter_map f (get_or xs i d ∷ [])
 filter_map-more f xs i d inside = ap (filter_map f) (take_more xs i d inside) ∙ filter_map-append f (take i xs) (get_or xs i d ∷ [])
 

@@ -1,4 +1,4 @@
--- A count that goes over a counter's own tables is one that goes over all and leaves the others.
+-- A change of only a counter's tables is the same as a pass over all tables that leaves the others unchanged.
 use Rattle.std.proofs.Common.{◌≡◌, true, List, [], refl, ap, sym, ◌∙◌, get_or}
 use Rattle.std.proofs.lemmas.Bool.{cond-true}
 use Rattle.osbase.specs.{declared.references.CounterRef.CounterRef, declared.references.TableRef.TableRef, History.Noted, History.CounterIncremented, Objects.counter_object}
@@ -9,7 +9,7 @@ use Rattle.ostable.specs.Tables.{AreTables, TableStates, all_moved, each_moved, 
 use Rattle.ostable.proofs.Bounds.{list-at, tables-length}
 
 module _ (core : Core) (c : CounterRef) where
-  -- what a count leaves of a core's tables
+  -- a core's tables after a count
   pub counted-is : (x y : TableStates) (list : List TableRef) (tables : List Table) → y ≡ x → AreTables core x → is_own_object core (counter_object c) ≡ true → list ≡ get_or y.timed c.index [] → tables ≡ each_moved core list y.tables
       → (let u : TableStates = record { tables = tables; timed = y.timed } in u) ≡ tables_by core (Noted (CounterIncremented c)) x
   counted-is x y list tables same are own at is =

@@ -6,7 +6,7 @@ use Rattle.osplan.specs.{declared.plans.Core.Core, Objects.is_own_object, View.o
 use Rattle.osattached.proofs.Own.{Placed, own-is, own-there}
 use Rattle.ostable.specs.Tables.{table_family, table_ref}
 
--- They are all of the core's objects of their kind.
+-- The family of tables has all of the core's tables, by their places.
 abbrev pub placed : (core : Core) → Placed core.id (length core.counters) (table_family core)
 placed core = record { place = table_place; plans = core.tables; ref = (λ s is. ap table_of is); at = (λ n. refl); own = (λ s. refl); all = refl }
 

@@ -8,7 +8,7 @@ use Rattle.ostable.specs.Periods.{are_ascending, number_of_point}
 abbrev pub until : ℕ → List ExpiryPoint → ℕ
 until q points = length (filter (λ (point : ExpiryPoint). nat_le point.offset q) points)
 
--- The first point behind those that are due until q is due at this count.
+-- The first point after those that are due until q is due at this count.
 abbrev pub is_next_at : ℕ → ℕ → List ExpiryPoint → Bool
 is_next_at count q points = option_map_or (λ (point : ExpiryPoint). nat_eq point.offset count) (slice_get points (until q points)) false
 
@@ -19,30 +19,30 @@ rest-ascending p (r ∷ points) a = (and_parts (nat_lt p.offset r.offset) (are_a
 rest-later : (p r : ExpiryPoint) (points : List ExpiryPoint) → are_ascending (p ∷ r ∷ points) ≡ true → p.offset < r.offset
 rest-later p r points a = ltb-true p.offset r.offset (and_parts (nat_lt p.offset r.offset) (are_ascending (r ∷ points)) a).0
 
--- None is due until a count before the first one,
+-- If the first point is later than a count, no point is due until that count.
 none-until : (q : ℕ) (p : ExpiryPoint) (points : List ExpiryPoint) → are_ascending (p ∷ points) ≡ true → q < p.offset → until q (p ∷ points) ≡ 0
 none-until q p [] a later = rw (lt-leb p.offset q later) refl
 none-until q p (r ∷ points) a later = rw (lt-leb p.offset q later) (none-until q r points (rest-ascending p (r ∷ points) a) (omega (arith, later, rest-later p r points a)))
 
--- nor at it.
+-- If the first point is later than a count, no point is due at that count.
 none-numbered : (q : ℕ) (p : ExpiryPoint) (points : List ExpiryPoint) → are_ascending (p ∷ points) ≡ true → q < p.offset → number_of_point q (p ∷ points) ≡ None
 none-numbered q p [] a later = rw (ne_eqb p.offset q (λ e. omega (arith, later, e))) refl
 none-numbered q p (r ∷ points) a later = rw (ne_eqb p.offset q (λ e. omega (arith, later, e))) (ap (option_map suc) (none-numbered q r points (rest-ascending p (r ∷ points) a) (omega (arith, later, rest-later p r points a))))
 
--- None of those behind a point is due until that point's own count.
+-- None of the points after a point is due until that point's own count.
 behind-until : (p : ExpiryPoint) (points : List ExpiryPoint) → are_ascending (p ∷ points) ≡ true → until p.offset points ≡ 0
 behind-until p [] a = refl
 behind-until p (r ∷ points) a = none-until p.offset r points (rest-ascending p (r ∷ points) a) (rest-later p r points a)
 
 -- ---- one count more
 
--- What holds of the count behind this one.
+-- What one count more changes: how many points are due until then, and which is due then.
 pub record Steps (q : ℕ) (points : List ExpiryPoint) : Type 0 where
   pub more : until (suc q) points ≡ cond (is_next_at (suc q) q points) (suc (until q points)) (until q points)
   pub number : number_of_point (suc q) points ≡ cond (is_next_at (suc q) q points) (Some (until q points)) None
   pub later : IfSome (slice_get points (until q points)) (λ (point : ExpiryPoint). q < point.offset)
 
--- behind a point that is due already
+-- after a point that is due already
 over : (q : ℕ) (p : ExpiryPoint) (points : List ExpiryPoint) → nat_le p.offset q ≡ true → Steps q points → Steps q (p ∷ points)
 over q p points e rest =
     let least : p.offset ≤ q = leb-true p.offset q e in
@@ -62,7 +62,7 @@ over q p points e rest =
     mapped true = refl
     mapped false = refl
 
--- at the first that is not
+-- at the first point that is not due yet
 at : (q : ℕ) (p : ExpiryPoint) (points : List ExpiryPoint) → are_ascending (p ∷ points) ≡ true → q < p.offset → Steps q (p ∷ points)
 at q p points a later = by (nat_eq p.offset (suc q)) refl
   where

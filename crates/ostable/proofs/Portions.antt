@@ -1,4 +1,4 @@
--- Each table goes by at most one counter: what the tables of all counters add up to.
+-- Each table uses at most one counter, so the sum over all counters is at most the sum over all tables.
 use Rattle.std.proofs.Common.{◌≡◌, ℕ, suc, ◌+◌, ◌≤◌, Option, Some, None, length, List, [], ◌∷◌, map, sum_by, refl, ap, sym, ◌∙◌, arith}
 use Rattle.std.specs.{List.slice_get, Option.option_map_or}
 use Rattle.std.proofs.{lemmas.Bool.cond-true, lemmas.List.Sums.sum_by-cons}

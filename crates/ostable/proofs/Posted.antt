@@ -1,4 +1,4 @@
--- At one count no table is done twice: neither one that is due, nor one that begins where another one's period ends.
+-- No table is processed twice at one count, whether it is due or begins where another one's period ends.
 use Rattle.std.proofs.Common.{◌≡◌, ℕ, ◌+◌, ◌≤◌, Bool, true, false, cond, Option, Some, None, is_some, option_map, length, List, sum_by, refl, ap, sym, subst, ◌∙◌, arith}
 use Rattle.std.specs.Option.{option_map_or}
 use Rattle.std.proofs.{lemmas.Bool.false≢true, lemmas.List.Sums.sum_by-le-sum_by}
@@ -22,7 +22,7 @@ sum-once core s k =
           (λ m n one other. ap (λ (u : TableRef). u.index) (sym (same_table-true s (table_ref core m) one) ∙ same_table-true s (table_ref core n) other)),
     )
 
--- ---- a table that waits goes by the counter of the one that it waits for
+-- ---- a table that waits uses the same counter as the table that it waits for
 
 next-on : (core : Core) (c : CounterRef) (s u : TableRef) → is_timed_by core c s ≡ true → (table : Table) → waits_by_counter core u table ≡ true → is_next_in s table ≡ true → is_timed_by core c u ≡ true
 next-on core c s u on Table.Stopped near is = absurd (false≢true is)
@@ -39,7 +39,7 @@ next-on core c s u on (Table.NextOf t) near is = by (own_table core s) (own_tabl
 -- ---- the bound
 
 module _ (core : Core) (c : CounterRef) (x : TableStates) (f : TableRef → ℕ) where
-  -- what a table adds that is due, and what one adds that begins in the place of another one
+  -- what a due table adds, and what a table adds that begins in the place of another one
   abbrev amount : TableRef → ℕ
   amount u = cond (is_timed_by core c u) (f u) 0
 

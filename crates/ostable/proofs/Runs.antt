@@ -34,7 +34,7 @@ module _ (t : TablePlan) (timed : IsTimed t) where
         by None h = small
         by (Some p) h = h
 
-    -- the point that comes next is due at this count, where it is the count of what comes next and that is a point
+    -- whether the point that comes next, if there is one, is due at this count
     next-is : (o : Option ExpiryPoint) → slice_get t.points next ≡ o → option_map_or (λ (point : ExpiryPoint). nat_eq point.offset (suc q)) (slice_get t.points next) false ≡ option_map_or (λ (point : ExpiryPoint). nat_eq point.offset (suc q)) o false
     next-is o e = ap (λ (x : Option ExpiryPoint). option_map_or (λ (point : ExpiryPoint). nat_eq point.offset (suc q)) x false) e
 
@@ -77,7 +77,7 @@ module _ (t : TablePlan) (timed : IsTimed t) where
               let number : number_of_point (suc q) t.points ≡ Some next = step.number ∙ ap (λ (b : Bool). cond b (Some next) None) (next-is (Some p) f ∙ eq-eqb p.offset (suc q) offset) in
               rw (ends, f, number) refl
 
-    -- ---- or later
+    -- ---- what comes next is due later
     module _ (other : suc q < count_of_next t (points_until t q)) where
       not-next : option_map_or (λ (point : ExpiryPoint). nat_eq point.offset (suc q)) (slice_get t.points next) false ≡ false
       not-next = by (slice_get t.points next) refl
@@ -199,7 +199,7 @@ module _ (t : TablePlan) (timed : IsTimed t) where
           subst (λ (n : ℕ). Goes (record { next = 0; distance = suc n }) (ahead_in t 0) (if_any (due_in t 0))) (sym none) (starts-now none)
       by false e = starts-later (omega (arith, eqb-false (count_of_next t 0) 0 e))
 
-  -- before that
+  -- at an earlier count
   waits : (counts wait : ℕ) → suc counts < wait → Goes (record { next = 0; distance = (wait - counts) + count_of_next t 0 }) (record { next = 0; distance = (wait - suc counts) + count_of_next t 0 }) None
   waits counts wait before =
       let more : nat_le ((wait - counts) + count_of_next t 0) 1 ≡ false = lt-leb ((wait - counts) + count_of_next t 0) 1 (omega (arith, before)) in

@@ -19,7 +19,7 @@ ascends (p ∷ r ∷ points) a =
     let both = and_parts (nat_lt p.offset r.offset) (limits.are_ascending (map point_sizes (r ∷ points))) a in
     and_from _ _ both.0 (ascends (r ∷ points) both.1)
 
--- and none is later than the last
+-- no point is later than the last one
 first-last : (p : ExpiryPoint) (points : List ExpiryPoint) → are_ascending (p ∷ points) ≡ true → p.offset ≤ last_offset (map point_sizes (p ∷ points))
 first-last p [] a = omega arith
 first-last p (r ∷ points) a =
@@ -38,7 +38,7 @@ none-later (p ∷ r ∷ points) most a last =
 pub own-passes : (core : Core) (q : TablePlan → Bool) (s : TableRef) (t : TablePlan) → list_all q core.tables ≡ true → own_table core s ≡ Some t → q t ≡ true
 own-passes core q s t all own = passes q core.tables (same_core s.core core.id) s.index t all own
 
--- An own table is in order.
+-- An own table is within the limits of `IsTimed`.
 pub timed : (core : Core) (s : TableRef) (t : TablePlan) → are_clocks_within core ≡ true → own_table core s ≡ Some t → IsTimed t
 timed core s t within own =
     let parts = clock-parts core within in

@@ -1,4 +1,4 @@
--- No table of a core waits for one of another counter, whatever is noted.
+-- If entries make tables wait only for those of their own counter, no table waits for one of another counter.
 use Rattle.std.proofs.Common.{◌≡◌, ℕ, zero, suc, ◌+◌, ◌<◌, Bool, true, false, cond, Option, Some, None, length, [], ◌∷◌, map, refl, ap, sym, ◌∙◌, arith}
 use Rattle.std.specs.{List.list_all, Option.option_map_or}
 use Rattle.std.proofs.lemmas.Bool.{and_from, and_parts}
@@ -18,7 +18,7 @@ all-in : {A : Type 0} (p : A → Bool) (F : ℕ → A) (first count : ℕ) → (
 all-in p F first zero each = refl
 all-in p F first (suc count) each = and_from _ _ (each first (omega arith)) (all-in p F (first + 1) count (λ n h. each n (omega (arith, h))))
 
--- a test that each passes by which each passes another one
+-- if each passes a test, and all that pass it pass another, each passes that one
 all-so : {A : Type 0} (p q : A → Bool) (F : ℕ → A) (first count : ℕ) → ((n : ℕ) → n < first + count → p (F n) ≡ true → q (F n) ≡ true) → list_all p (map F (numbers_from first count)) ≡ true → list_all q (map F (numbers_from first count)) ≡ true
 all-so p q F first zero so all = refl
 all-so p q F first (suc count) so all =
@@ -70,7 +70,7 @@ table-on core u e h names (Some t) fit =
 
 -- ---- of all tables
 
--- It holds where nothing is noted yet,
+-- Before the first entry, no table waits for one of another counter.
 pub waits-begun : (core : Core) → all_wait_by_counter core (tables_of core []) ≡ true
 waits-begun core =
     all-in (λ (u : TableRef). waits_by_counter core u (table_in u (tables_of core []))) (table_ref core) 0 (length core.tables)
@@ -80,7 +80,7 @@ waits-begun core =
     by u None = refl
     by u (Some t) = refl
 
--- and each entry keeps it that names two tables of one counter where it lets one wait.
+-- If an entry that makes a table wait names two tables of one counter, this stays true after it.
 pub waits-after : (core : Core) (e : Entry) (h : History) → is_next_by_counter core e ≡ true → all_wait_by_counter core (tables_of core h) ≡ true → all_wait_by_counter core (tables_of core (e ∷ h)) ≡ true
 waits-after core e h names all =
     all-so (λ (u : TableRef). waits_by_counter core u (table_in u (tables_of core h))) (λ (u : TableRef). waits_by_counter core u (table_in u (tables_of core (e ∷ h)))) (table_ref core) 0 (length core.tables) so all
@@ -91,7 +91,7 @@ waits-after core e h names all =
         ap (waits_by_counter core (table_ref core n)) (table-there core (table_ref core n) (e ∷ h) own)
         ∙ table-on core (table_ref core n) e h names (own_table core (table_ref core n)) (ap (waits_by_counter core (table_ref core n)) (sym (table-there core (table_ref core n) h own)) ∙ fit)
 
--- The same of the tables themselves.
+-- The same for the state of the tables.
 pub waits-kept : (core : Core) (e : Entry) (x : TableStates) → AreTables core x → is_next_by_counter core e ≡ true → all_wait_by_counter core x ≡ true → all_wait_by_counter core (tables_by core e x) ≡ true
 waits-kept core e x are names all =
     ap (λ (y : TableStates). all_wait_by_counter core (tables_by core e y)) are.is

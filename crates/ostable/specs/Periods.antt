@@ -7,19 +7,20 @@ use Rattle.osplan.specs.declared.plans.ExpiryPoint.{ExpiryPoint}
 abbrev pub counts_run : TableRun → Option ℕ
 counts_run run = if nat_lt run.counts run.wait then None else Some (run.counts - run.wait)
 
--- Which count of a period this is, of periods of this duration: count 0 where the first one begins, and for each period the counts from
--- 1 to its duration, at which it ends. So the end of a period is a count of that period, and not of the next one.
--- [AUTOSAR SWS OS 4.x, section 7.3.3]
+-- Which count of a period this is, if each period has this duration. Count 0 is where the first period begins. Each
+-- period then has the counts from 1 to its duration. So the end of a period is a count of that period, and not of the
+-- next one. [AUTOSAR SWS OS 4.x, section 7.3.3]
 abbrev pub count_in_period : ℕ → ℕ → ℕ
 count_in_period duration zero = 0
 count_in_period duration (suc n) = suc (n % duration)
 
--- The point that is due at this count of a period, by its number. [AUTOSAR SWS OS 4.x, OsScheduleTblExpPointOffset]
+-- The number of the point that is due at this count of a period; none if no point is due. [AUTOSAR SWS OS 4.x,
+-- OsScheduleTblExpPointOffset]
 abbrev pub number_of_point : ℕ → List ExpiryPoint → Option ℕ
 number_of_point count [] = None
 number_of_point count (point ∷ points) = if point.offset == count then Some 0 else option_map suc (number_of_point count points)
 
--- The points come by ascending offset. [AUTOSAR SWS OS 4.x, OsScheduleTblExpPointOffset]
+-- The points are in the order of ascending offsets. [AUTOSAR SWS OS 4.x, OsScheduleTblExpPointOffset]
 abbrev pub are_ascending : List ExpiryPoint → Bool
 are_ascending [] = true
 are_ascending (point ∷ []) = true

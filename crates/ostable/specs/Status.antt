@@ -10,7 +10,8 @@ abbrev pub is_running : TableStatus → Bool
 is_running TableStatus.Running = true
 is_running status = false
 
--- 0 stopped, 1 waiting for another table, 2 running. [AUTOSAR SWS OS 4.x, SWS_Os_00289 to SWS_Os_00291; the numbers: own]
+-- The number of a status: 0 for stopped, 1 for waiting for another table, 2 for running. [AUTOSAR SWS OS 4.x,
+-- SWS_Os_00289 to SWS_Os_00291; the numbers: own]
 abbrev pub number_of : TableStatus → ℕ
 number_of TableStatus.Stopped = 0
 number_of TableStatus.Next = 1

@@ -1,4 +1,4 @@
-//! Schedule tables: what comes next of a table, and after how many counts.
+//! Schedule tables: the next expiry point or end of period of each, and how many counts lead to it.
 //!
 //! Nothing here takes memory.
 #![tactic(auto)]

@@ -1,4 +1,4 @@
-//! How a schedule table goes on with the counts of its counter.
+//! How a schedule table moves on with the counts of its counter.
 
 ghost use Rattle.std.specs.Prelude.{◌≡◌, ◌≤◌};
 ghost use Rattle.osbase.specs.Counting.{TableState, Stopped, NextOf, counted_once, started_after};
@@ -8,15 +8,15 @@ ghost use Rattle.ostable.specs.Ahead.{IsTimed, ahead_beyond, ahead_in, beyond_ne
 
 use osbase::TableRef;
 
-/// What comes next of a table that runs: the point of this number, or, past the last point, the end of the period; and
-/// after how many counts.
+/// What comes next in a table that runs: the expiry point number `next` or, past the last one, the end of the period.
+/// It comes after `distance` counts.
 #[derive(Clone, Copy, PartialEq, Eq)]
 pub struct Ahead {
     pub next: u8,
     pub distance: u32,
 }
 
-/// What a table does at a count: the point that is due, by its number, and whether a period ends.
+/// What a table does at a count: the expiry point that is due, by its number, and whether a period ends.
 #[derive(Clone, Copy, Default, PartialEq, Eq)]
 pub struct Due {
     pub point: Option<u8>,
@@ -77,8 +77,8 @@ impl Table {
         Table::Stopped
     }
 
-    /// The table runs, and its first period begins after so many counts. A point of offset 0 of a period that begins at
-    /// once is not due any more: it is for whoever starts the table.
+    /// Starts the table. Its first period begins after `wait` counts. If the period begins at once, an expiry point of
+    /// offset 0 is not due any more: the caller processes this point.
     pub fn start_rel(&mut self, plan: &osplan::Table, wait: u32)
         requires timed { IsTimed plan.now }
         requires turn { wait ≤ 1000000001 }
@@ -122,7 +122,7 @@ impl Table {
         }
     }
 
-    /// Whether the table waits for the end of a period of this one.
+    /// Whether the table waits for the end of a period of `table`, another one.
     pub fn awaits(self, table: TableRef) -> bool
         ensures { result ≡ is_next_in table self }
     {
@@ -132,7 +132,7 @@ impl Table {
         }
     }
 
-    /// What the table does at the next count of its counter; none where nothing is due.
+    /// What the table does at the next count of its counter; `None` if nothing is due.
     pub fn due_next(self, plan: &osplan::Table) -> Option<Due>
         requires timed { IsTimed plan.now }
         ensures state { result ≡ due_next plan.now self }
@@ -144,8 +144,8 @@ impl Table {
         }
     }
 
-    /// Its counter is incremented. Where a period ends, another one begins, whose point of offset 0 has expired already,
-    /// as in `start_rel`.
+    /// If the table runs, moves it on by one count of its counter. If a period ends, the next one begins. An expiry
+    /// point of offset 0 is not due in the next period, as in `start_rel`.
     pub fn advance(&mut self, plan: &osplan::Table)
         requires timed { IsTimed plan.now }
         ensures state { self.new ≡ table_beyond plan.now self.old }
@@ -157,7 +157,7 @@ impl Table {
     }
 }
 
-// At which count of a period the point of this number is due; past the last point, the end of the period.
+// At which count of a period the expiry point of this number is due; past the last one, the end of the period.
 fn count_of_next(plan: &osplan::Table, next: u8) -> u32
     ensures { result ≡ count_of_next plan.now next }
 {
@@ -167,7 +167,7 @@ fn count_of_next(plan: &osplan::Table, next: u8) -> u32
     }
 }
 
-// What comes next where a period begins, behind a point of offset 0.
+// What comes next at the beginning of a period, once an expiry point of offset 0, if there is one, is done.
 fn beginning(plan: &osplan::Table) -> Ahead
     requires timed { IsTimed plan.now }
     ensures { result ≡ ahead_in plan.now 0 }
@@ -179,6 +179,7 @@ fn beginning(plan: &osplan::Table) -> Ahead
     }
 }
 
+// What the table does when `next` is due: the expiry point of this number, if there is one, and whether a period ends.
 fn due_of(plan: &osplan::Table, next: u8) -> Due
     ensures { result ≡ due_of_next plan.now next }
 {
@@ -193,6 +194,7 @@ fn due_of(plan: &osplan::Table, next: u8) -> Due
     }
 }
 
+// What comes next, and after how many counts, once one more count of the table's counter has passed.
 fn beyond(plan: &osplan::Table, ahead: Ahead) -> Ahead
     requires timed { IsTimed plan.now }
     ensures { result ≡ ahead_beyond plan.now ahead }
@@ -206,6 +208,7 @@ fn beyond(plan: &osplan::Table, ahead: Ahead) -> Ahead
     beyond_next(plan, ahead.next)
 }
 
+// What comes next, and after how many counts, after the count at which `next` is due.
 fn beyond_next(plan: &osplan::Table, next: u8) -> Ahead
     requires timed { IsTimed plan.now }
     ensures { result ≡ beyond_next plan.now next }

@@ -15,7 +15,7 @@ use osbase::{CoreId, CounterRef, TABLES, TableRef};
 use osplan::{Core, own};
 use std::marker::Model;
 
-/// What a table does at a count, and which table begins in its place where its period ends.
+/// What a table does at a count and, if its period ends, which table begins in its place.
 #[derive(Clone, Copy, Default, PartialEq, Eq)]
 pub struct DueTable {
     pub table: TableRef,
@@ -26,7 +26,7 @@ pub struct DueTable {
 /// What some tables do at a count, in index order.
 pub type DueTables = ArrayVec<DueTable, TABLES>;
 
-/// What comes next of each table of a core, by index.
+/// The state of each schedule table of a core, by index.
 #[derive(Drop)]
 pub struct Tables {
     tables: ArrayVec<Table, TABLES>,
@@ -53,7 +53,8 @@ impl Tables {
         }
     }
 
-    /// A counter of the core is incremented, and each of its tables moves on by one count (AUTOSAR SWS OS 4.x, section 7.3).
+    /// A counter of the core is incremented, and each of its tables moves on by one count (AUTOSAR SWS OS 4.x, section
+    /// 7.3).
     pub fn count(&mut self, core: &Core, counter: CounterRef)
         requires tables { AreTables core.now self.old }
         requires own { IsTrue (is_own_object core.now (counter_object counter)) }
@@ -62,7 +63,7 @@ impl Tables {
         move_tables(core, &mut self.tables, self.timed.of(counter));
     }
 
-    /// A table of the core runs, and its first period begins after so many counts, at most a full turn of its counter
+    /// Starts a table of the core. Its first period begins after `wait` counts, at most a full turn of its counter
     /// (AUTOSAR SWS OS 4.x, SWS_Os_00278 and SWS_Os_00351).
     pub fn start(&mut self, core: &Core, table: TableRef, wait: u32)
         requires tables { AreTables core.now self.old }
@@ -82,7 +83,7 @@ impl Tables {
         stop(&mut self.tables, table);
     }
 
-    /// A second table of the core waits for the end of a period of the first (AUTOSAR SWS OS 4.x, SWS_Os_00284).
+    /// The core's table `next` waits for the end of a period of `table` (AUTOSAR SWS OS 4.x, SWS_Os_00284).
     pub fn wait_for(&mut self, core: &Core, table: TableRef, next: TableRef)
         requires tables { AreTables core.now self.old }
         requires own { IsTrue (is_own_object core.now (table_object next)) }
@@ -99,7 +100,7 @@ impl Tables {
         self.table(table).status()
     }
 
-    /// The table of the core that waits for the end of a period of this one.
+    /// The table of the core that waits for the end of a period of `table`; `None` if none waits.
     pub fn next(&self, core: &Core, table: TableRef) -> Option<TableRef>
         requires { length self.now.tables ≡ length core.now.tables }
         ensures { result ≡ next_in core.now table self.now }
@@ -113,7 +114,7 @@ impl Tables {
         None
     }
 
-    /// What the tables of a counter of the core do at its next count, those that do nothing left out.
+    /// What the tables of a counter of the core do at its next count, without those that do nothing.
     pub fn due_next(&self, core: &Core, counter: CounterRef) -> DueTables
         requires tables { AreTables core.now self.now }
         requires own { IsTrue (is_own_object core.now (counter_object counter)) }
@@ -128,6 +129,8 @@ impl Tables {
         due
     }
 
+    // What a table of the core does at its counter's next count and, if its period ends, which table begins in its
+    // place. `None` if it does nothing.
     fn due_table(&self, core: &Core, table: TableRef) -> Option<DueTable>
         requires tables { AreTables core.now self.now }
         requires own { IsTrue (is_own_object core.now (table_object table)) }
@@ -162,6 +165,7 @@ fn new_tables(count: usize) -> ArrayVec<Table, TABLES>
     tables
 }
 
+// The tables of each counter of the core, in index order.
 fn new_timed(core: &Core) -> Attached<TableRef, TABLES>
     requires { IsTrue (are_clocks_within core.now) }
     ensures { result ≡ each_by core.now (table_family core.now) (table_refs core.now) }
@@ -170,7 +174,7 @@ fn new_timed(core: &Core) -> Attached<TableRef, TABLES>
     Attached::new(counters, core.tables.len(), |index| object_at(core, index))
 }
 
-// The counter of the table of this index, and its reference.
+// The core's table of this index: its counter, and a reference to the table.
 fn object_at(core: &Core, index: usize) -> (CounterRef, TableRef)
     requires within { IsTrue (are_clocks_within core.now) }
     requires inside { index < length core.now.tables }
@@ -188,7 +192,7 @@ fn reference(core: CoreId, index: usize) -> TableRef
     TableRef { core, index }
 }
 
-// Takes each of these tables one count on.
+// Moves each of these tables on by one count.
 fn move_tables(core: &Core, tables: &mut ArrayVec<Table, TABLES>, timed: &[TableRef])
     requires within { IsTrue (are_clocks_within core.now) }
     requires places { All (λ (s : TableRef). s.index < length tables.old.items) timed.now }
@@ -201,6 +205,8 @@ fn move_tables(core: &Core, tables: &mut ArrayVec<Table, TABLES>, timed: &[Table
     }
 }
 
+// A table of the core that starts now: its first period begins after `wait` counts. A table that is not the core's own
+// is stopped.
 fn started(core: &Core, table: TableRef, wait: u32) -> Table
     requires within { IsTrue (are_clocks_within core.now) }
     requires turn { wait ≤ 1000000001 }
@@ -227,7 +233,7 @@ fn stop(tables: &mut ArrayVec<Table, TABLES>, table: TableRef)
     tables.as_mut_slice()[usize::from(table.index)].stop();
 }
 
-// The table waits for the end of a period of another one.
+// The table `table` waits for the end of a period of the table `other`.
 fn wait(tables: &mut ArrayVec<Table, TABLES>, table: TableRef, other: TableRef)
     requires { table.index < length tables.old.items }
     ensures { tables.new.items ≡ slice_set tables.old.items table.index (TableValue.NextOf other) }

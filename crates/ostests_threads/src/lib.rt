@@ -1,4 +1,4 @@
-//! Tests of the program by threads. They stand apart from the code, so that they prove none of it again.
+//! Tests of the program by threads. They are a crate of their own, so that none of the code is proved again.
 #![tactic(auto)]
 
 #[cfg(test)]

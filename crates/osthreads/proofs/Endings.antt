@@ -1,4 +1,4 @@
--- What a thread gives back, whatever the kind of mail: it is an ending of its core's worker.
+-- For each kind of mail, a thread gives back an ending of its core's worker.
 use Rattle.std.proofs.Common.{◌≡◌}
 use Rattle.osbase.specs.declared.references.CoreId.{CoreId}
 use Rattle.osmail.specs.Ends.{Streams}
@@ -6,7 +6,7 @@ use Rattle.osworker.specs.{declared.run.Run.Run, declared.worker.Worked.Worked, 
 use Rattle.osthreads.specs.{declared.ending.Ending.Ending, declared.ending.Kept.Kept, Threads.IsEnded, Threads.sent_of, Threads.taken_of}
 use Rattle.osworker.proofs.{Shifting.worked-finished, Working.spins-thin, Working.thin}
 
--- What the worker of a core gave back, whatever its end of the mail left behind that says what it sent and took.
+-- What a core's worker gave back. `kept` is what its end of the mail left behind, which says what was sent and taken.
 abbrev pub ending : {M : Type 0} → Worked M → Kept → Ending
 ending w kept = record { report = w.report; seats = w.seats; kept = kept; stop = w.stop }
 

@@ -47,7 +47,7 @@ pub all_kept : (es : List Ending) → list_all (λ (e : Ending). is_kept_by e.st
 all_kept [] kept = tt
 all_kept (e ∷ es) kept = let rest = and_parts (is_kept_by e.stop) _ kept in (rest.0, all_kept es rest.1)
 
--- Workers that neither a failed allocation nor a letter stopped had ended or stalled.
+-- If neither a failed allocation, a request nor a letter stopped a worker, its core has ended or the worker stalled.
 pub all_finished : (es : List Ending) → list_any (λ (e : Ending). was_stopped_by e.stop) es ≡ false → AreAllKept es → AreAllFinished es
 all_finished [] none kept = tt
 all_finished (e ∷ es) none kept = let others = or_parts (was_stopped_by e.stop) _ none in (by e.stop others.0 kept.0, all_finished es others.1 kept.1)
@@ -62,8 +62,8 @@ pub record Flows (plan : Plan) (e : Ending) : Type 0 where
   sent : (to : CoreId) → sent_of e.kept to ≡ posted to (history_by plan e.report.core e.report.items)
   taken : (from : CoreId) → taken_of e.kept from ≡ received from (history_by plan e.report.core e.report.items)
 
--- What the workers of these cores gave back, list by list: the cores, the places and the logs of their seats, what went between them, and
--- each worker's calls in one history of each.
+-- What the workers of these cores gave back, list by list: the cores, the places and the logs of their seats, what they
+-- sent and took, and how each worker finished, by one history of the board and one of the spinlocks.
 pub record AreGathered (plan : Plan) (stimuli : List CoreStimuli) (turns : ℕ) (shared : Shared) (ids : List CoreId) (es : List Ending) : Type 0 where
   pub cores : map (λ (r : Report). r.core) (reports_of es) ≡ ids
   pub board_cores : cores_of (boards_of es) ≡ ids
@@ -79,7 +79,7 @@ pub record AreGathered (plan : Plan) (stimuli : List CoreStimuli) (turns : ℕ) 
       → AllByRecursion (λ (r : Report). IsFinished plan stimuli turns r (calls_of r.core history)) (reports_of es)
 
 module _ (plan : Plan) (stimuli : List CoreStimuli) (turns : ℕ) (shared : Shared) where
-  -- one core more, and its ending
+  -- one more core, and its ending
   pub ended-push : (ids : List CoreId) (es : List Ending) (id : CoreId) (e : Ending) → AreEnded plan stimuli turns shared ids es → IsEnded plan stimuli turns shared id e → AreEnded plan stimuli turns shared (ids ++ id ∷ []) (es ++ e ∷ [])
   ended-push [] [] id e ended one = (one, tt)
   ended-push (i ∷ is) (x ∷ es) id e ended one = (ended.0, ended-push is es id e ended.1 one)
@@ -143,14 +143,14 @@ module _ (plan : Plan) (stimuli : List CoreStimuli) (turns : ℕ) (shared : Shar
     pub spins : IsOneHistory spinlocks (new_spins plan) (spins_of es)
 
   module _ (es : List Ending) (all : AreGathered plan stimuli turns shared (ids_of plan) es) (one : AreOneEach es) where
-    -- Where what was taken is what was sent but for what is left, and each letter became an item, the reports are sound.
+    -- If what was sent is what was taken and then what is left, and each letter became an item, the reports are sound.
     pub seats-sound : IsTrue (is_within_limits plan) → AreKnown plan stimuli → AreAllKept es → AreSettled es → AreSound plan stimuli (reports_of es)
     seats-sound limits known kept settled =
         runs-sound plan stimuli limits known (reports_of es) all.logs all.cores all.runs (delivered-all es (all.flows kept) es (all.flows kept) settled)
         (one_run IsLook one_board (new_board plan) (boards_of es) (map (λ (log : Calls). log.board) all.logs) (ids-apart plan) all.board_cores looks_idle all.board_logs one.board)
         (one_run IsRefusedCall spinlocks (new_spins plan) (spins_of es) (map (λ (log : Calls). log.spins) all.logs) (ids-apart plan) all.spins_cores refused_idle all.spins_logs one.spins)
 
-    -- Where all have ended or stalled, one history of each says so.
+    -- If all workers have ended or stalled, one history of the board and one of the spinlocks show this.
     pub seats-finished : AreAllFinished es → AreFinished plan stimuli turns (reports_of es)
     seats-finished finished =
         let history : Calls = record { board = one.board.log; spins = one.spins.log } in
@@ -164,11 +164,11 @@ module _ (plan : Plan) (stimuli : List CoreStimuli) (turns : ℕ) (shared : Shar
 
 -- ---- seats
 
--- One pair more.
+-- One more pair of seats.
 pub paired-more : (done more : List BoardSeat) (b : BoardSeat) (spins left : List SpinSeat) (s : SpinSeat) (seats : List Seats) → paired (done ++ b ∷ more) spins ≡ seats ++ paired (b ∷ more) (s ∷ left) → paired ((done ++ b ∷ []) ++ more) spins ≡ (seats ++ record { board = b; spins = s } ∷ []) ++ paired more left
 paired-more done more b spins left s seats before = ap (λ (bs : List BoardSeat). paired bs spins) (append_assoc done (b ∷ []) more) ∙ before ∙ sym (append_assoc seats (record { board = b; spins = s } ∷ []) (paired more left))
 
--- One seat at the board more, where no other is left.
+-- One seat more at the board, if no seat at the spinlocks is left.
 pub paired-none : (done : List BoardSeat) (b : BoardSeat) (spins left : List SpinSeat) (seats : List Seats) → left ≡ [] → ((more : List BoardSeat) → paired (done ++ more) spins ≡ seats ++ paired more left) → (more : List BoardSeat) → paired ((done ++ b ∷ []) ++ more) spins ≡ seats ++ paired more left
 paired-none done b spins left seats is so more = rw (append_assoc done (b ∷ []) more, so (b ∷ more), is) (by more)
   where

@@ -1,5 +1,5 @@
--- What the cores' threads start with; and of the ends of rings, that those which come back are those which were given, and what they
--- show together.
+-- What the cores' threads start with, and what the ends of rings that come back show together. Those that come back are
+-- the ends that were given.
 use Rattle.std.proofs.Common.{◌≡◌, ◌⊎◌, inl, inr, ℕ, IsTrue, true, Option, Some, None, IfSome, is_some, List, [], ◌∷◌, ◌++◌, drop, length, map, refl, sym, ap, subst, ◌∙◌, append_assoc, append-nil, arith}
 use Rattle.std.specs.{Option.option_to_list, List.AllByRecursion}
 use Rattle.std.proofs.{lemmas.List.Elements.filter_passes, lemmas.List.Elements.recursion_from_All, lemmas.Option.same_Some}
@@ -15,12 +15,12 @@ use Rattle.osthreads.proofs.Gathering.{AreGathered, AreOneEach, gathered, report
 
 -- ---- before the threads
 
--- What holds of all, and of the last.
+-- If something holds of all elements, it holds of all but the last, and of the last.
 pub all_snoc : {X : Type 0} (P : X → Type 0) (xs : List X) (x : X) → AllByRecursion P (xs ++ x ∷ []) → AllByRecursion P xs × P x
 all_snoc P [] x all = (tt, all.0)
 all_snoc P (y ∷ ys) x all = let more = all_snoc P ys x all.1 in ((all.0, more.0), more.1)
 
--- One core's seats more, with the next end, if there is one.
+-- One more core's seats, with the next end of the rings, if there is one.
 abbrev outfit : Seats → Option RingEnd → Outfit
 outfit s end = record { seats = s; end = end }
 
@@ -81,9 +81,9 @@ ready_with plan cores shared outfit end is ready = rw (← is) ready
 pub same_given : (given end : Option RingEnd) (kept : Kept) → given ≡ end → IsSameEnd end kept → IsSameEnd given kept
 same_given given end kept is same = rw is same
 
--- ---- after them
+-- ---- after the threads
 
--- One ending more, and what it left behind.
+-- One more ending, and the ends of rings that it left behind.
 pub kept_more : (es : List Ending) (e : Ending) (ends ends' : List RingEnd) → ends ≡ ends_kept es → ends' ≡ ends ++ kept_in e.kept → ends' ≡ ends_kept (es ++ e ∷ [])
 kept_more es e ends ends' are more = more ∙ ap (λ (xs : List RingEnd). xs ++ kept_in e.kept) are ∙ push es
   where
@@ -91,11 +91,11 @@ kept_more es e ends ends' are more = more ∙ ap (λ (xs : List RingEnd). xs ++ 
     push [] = sym (append-nil (kept_in e.kept))
     push (x ∷ es) = append_assoc (kept_in x.kept) (ends_kept es) (kept_in e.kept) ∙ ap (λ (xs : List RingEnd). kept_in x.kept ++ xs) (push es)
 
--- What two records of mailboxes under locks show.
+-- What two records of mailboxes under locks show of their cores' ends.
 pub settled_by : (a b : Ending) (sent taken : List MailStep) (left : List Letter) → (sent_of a.kept ≡ sent_to sent) × (taken_of a.kept ≡ taken_from sent) → (sent_of b.kept ≡ sent_to taken) × (taken_of b.kept ≡ taken_from taken) → taken_from taken a.report.core ++ left ≡ sent_to sent b.report.core → IsSettled a b
 settled_by a b sent taken left from to same = rw (from.0, to.1) (left, same)
 
--- Those that are there.
+-- The values of the options that have one.
 abbrev somes : {X : Type 0} → List (Option X) → List X
 somes [] = []
 somes (None ∷ os) = somes os
@@ -122,7 +122,7 @@ given-all : (kind : MailKind) (shared : Shared) (cs : List CoreId) (ends : List 
 given-all Ring shared cs ends cores = given-each shared cs ends cores
 given-all Locked shared cs ends none = rw none (given-none (map (first_seats shared) cs))
 
--- It left an end of the rings behind, of its core.
+-- The worker left an end of the rings behind, which is its core's.
 record HasEnd (e : Ending) : Type 0 where
   end : RingEnd
   kept : e.kept ≡ Rings end
@@ -146,7 +146,7 @@ ends-by shared cs ends es cores same reports = absurd (cc)
 settled-one : (a b : Ending) (from : HasEnd a) (to : HasEnd b) → IsDelivered (past_of from.end) (past_of to.end) → IsSettled a b
 settled-one a b from to delivered = rw (to.kept, from.kept, ← from.core, ← to.core) delivered
 
--- what the ends that were left behind show is so of each two that left them
+-- What the ends that were left behind show together holds of each two workers that left them.
 settled-row : (a : Ending) (from : HasEnd a) (bs : List Ending) → AllByRecursion HasEnd bs → AllByRecursion (IsDelivered (past_of from.end)) (map past_of (ends_kept bs)) → AllByRecursion (IsSettled a) bs
 settled-row a from [] has all = tt
 settled-row a from (b ∷ bs) has all =
@@ -182,11 +182,11 @@ module _ (plan : Plan) (stimuli : List CoreStimuli) (turns : ℕ) (kind : MailKi
             let has = ends-by shared (ids_of plan) are.ends es (rw is at are.ends_for) (same ∙ ap (map end_of) are.made) all-gathered.cores in
             settled-rows es has es has delivered
 
-    -- Where the mail is whole, they are sound.
+    -- If the mail is whole, the reports are sound.
     pub whole-sound : AreOneEach plan stimuli turns shared es → IsTrue (is_within_limits plan) → AreKnown plan stimuli → AreAllKept es → AreDelivered (map past_of (ends_kept es)) → (kind ≡ Locked → AreSettled es) → AreSound plan stimuli (reports_of es)
     whole-sound one limits known kept delivered compared = seats-sound plan stimuli turns shared es all-gathered one limits known kept (all-settled delivered compared)
 
--- The reports are sound also if a thread was refused or memory ran out.
+-- The reports are sound also if a thread could not be started or memory ran out.
 pub fault-sound : (plan : Plan) (stimuli : List CoreStimuli) (reason : ThreadReason) (reports : List Report) → (reason ≡ NoThread) ⊎ (reason ≡ NoMemory) → AreSound plan stimuli reports → IsThreadFault plan stimuli reason reports
 fault-sound plan stimuli reason reports (inl is) sound = rw is sound
 fault-sound plan stimuli reason reports (inr is) sound = rw is sound

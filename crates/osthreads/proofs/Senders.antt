@@ -49,6 +49,6 @@ module _ (v : View) where
       let parts = solo-parts v h i is each in
       known-solo (after v h i) is (known-after h i parts.0 known) parts.1
 
-  -- Of a core that is not configured nothing was received.
+  -- Nothing was received from a core that is not configured.
   pub none-received : (is : List Item) → solo_from v [] is ≡ Some (history_from v [] is) → (id : CoreId) → is_configured v id ≡ false → received id (history_from v [] is) ≡ []
   none-received is each id out = (known-solo [] is (record { started = λ c there. absurd (nobody-there c there); senders = λ c o. refl }) each).senders id out

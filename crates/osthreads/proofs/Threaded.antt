@@ -20,7 +20,8 @@ use Rattle.osworker.proofs.Listed.{unlisted-unseen}
 abbrev cores_in : List Report → List CoreId
 cores_in reports = map (λ (r : Report). r.core) reports
 
--- What is true of each report's items, and of no items where no report is of the core, is true of each core's.
+-- If `P` holds of each report's items, and of the empty list for a core without a report, it holds of each core's
+-- items.
 items-have : (P : CoreId → List Item → Type 0) (reports : List Report) (id : CoreId) → AllByRecursion (λ (r : Report). P r.core r.items) reports → (has (cores_in reports) id ≡ false → P id []) → P id (items_of (lists_in reports) id)
 items-have P [] id each none = none refl
 items-have P (r ∷ rs) id each none = by (same_core r.core id) refl (items-have P rs id each.1)
@@ -41,7 +42,7 @@ pub both : (a b : Calls) → a.board ≡ b.board → a.spins ≡ b.spins → a �
 both a b board spins = (λ i. record { board = board i; spins = spins i })
 
 module _ (plan : Plan) (stimuli : List CoreStimuli) where
-  -- The report of each says what its own items say.
+  -- Each report says what its own items say.
   pub each-alone : (reports : List Report) (logs : List Calls) → AreRuns plan stimuli reports logs → AllByRecursion (IsOneCore plan stimuli) reports
   each-alone [] [] runs = tt
   each-alone (r ∷ rs) (l ∷ ls) runs = (runs.0.alone, each-alone rs ls runs.1)
@@ -64,7 +65,7 @@ module _ (plan : Plan) (stimuli : List CoreStimuli) where
     abbrev Flows : CoreId → List Item → CoreId → List Item → Type 0
     Flows from sent to got = IsPrefix (received from (history_by plan to got)) (posted to (history_by plan from sent))
 
-    -- who has no list posted nothing, and nothing was received from it
+    -- a core without a report posted nothing, so nothing was received from it
     from-nobody : (from to : CoreId) → has (cores_in reports) from ≡ false → Flows from [] to (items_of (lists_in reports) to)
     from-nobody from to out =
         ([], ap (λ (xs : List Letter). xs ++ []) (none-received (view_of plan to) (items_of (lists_in reports) to) (cores-fit to).alone from (unlisted-unseen plan limits from to (rw cores at out))))
@@ -92,8 +93,8 @@ module _ (plan : Plan) (stimuli : List CoreStimuli) where
           },
         )
 
-    -- The reports of the configured cores' runs, with one history of the board, one of the spinlocks and what was received from each, are
-    -- sound.
+    -- The reports of the configured cores' runs, with one history of the board, one of the spinlocks and what was
+    -- received from each, are sound.
     pub runs-sound : AreDelivered plan reports → IsOneBoard plan logs → AreOneSpins plan logs → AreSound plan stimuli reports
     runs-sound delivered board spins = let fits = fit delivered board spins in record {
       cores = cores;

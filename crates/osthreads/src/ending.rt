@@ -10,14 +10,15 @@ use osworker::{Run, Seats, Stop};
 use std::snapshot::Snapshot;
 use std::thread::Promise;
 
-/// What a worker's thread starts with: its core's seats, and the core's end of the rings, if the mail goes through rings.
+/// What a worker's thread starts with: its core's seats, and the core's end of the rings, if the mail goes through
+/// rings.
 #[derive(Drop)]
 pub struct Outfit {
     pub seats: Seats,
     pub end: Option<RingEnd>,
 }
 
-/// What a core's end of the mail leaves behind: an end of locked mailboxes what it sent and took, an end of rings itself.
+/// What a core's end of the mail leaves behind: of locked mailboxes, what it sent and took; of rings, the end itself.
 #[derive(Drop)]
 pub enum Kept {
     Steps(Vec<MailStep>),
@@ -25,7 +26,7 @@ pub enum Kept {
 }
 
 impl Kept {
-    // What an end of locked mailboxes sent and took.
+    // If this is an end of locked mailboxes, returns what it sent and took.
     pub(crate) fn steps(&self) -> Option<&[MailStep]>
         ensures { IfSome result (λ steps. (sent_of self.now ≡ sent_to steps.now) × (taken_of self.now ≡ taken_from steps.now)) }
     {
@@ -35,7 +36,7 @@ impl Kept {
         }
     }
 
-    // Puts an end of rings behind those, if this is one.
+    // If this is an end of rings, appends it to `ends`.
     pub(crate) fn put_end(self, ends: &mut Vec<RingEnd>)
         requires { vec_len ends.old < vec_capacity ends.old }
         ensures items { ends.new.items ≡ ends.old.items ++ kept_in self }
@@ -58,8 +59,8 @@ pub struct Ending {
     pub stop: Stop,
 }
 
-/// What is promised of the thread of a core: it gives back an ending of that core's worker, and the end of the rings that
-/// it was given, if it was given one.
+/// What is promised of the thread of a core: it gives back an ending of that core's worker, and the end of the rings
+/// that it was given, if it was given one.
 #[derive(Drop)]
 pub struct EndOf<'a> {
     pub run: Run<'a>,

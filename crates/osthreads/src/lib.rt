@@ -1,7 +1,7 @@
 //! The cores of a configuration, each on a thread of its own.
 //!
-//! Each core has a worker (`osworker`). Here they get their seats and their ends of the mail, are started and joined, and what
-//! they hand back is brought together.
+//! Each core has a worker (`osworker`). This crate gives the workers their seats and their ends of the mail, starts and
+//! joins them, and gathers what they hand back.
 #![tactic(auto)]
 
 pub mod ending;

@@ -39,13 +39,13 @@ pub enum ThreadReason {
     /// without a thread is empty.
     #[error("a thread could not be started")]
     NoThread,
-    /// A core could not take an envelope; or, through mailboxes under locks, what was taken and left is not what was sent.
+    /// A core could not take an envelope; or, with mailboxes under locks, what was taken and left is not what was sent.
     #[error("the mail between two cores broke")]
     MailBreak,
 }
 
 /// Why a threaded run failed, and a report for each configured core, by ascending core, unless nothing was begun. Each
-/// says what its own items say.
+/// report says what its own items say.
 #[derive(Debug, Drop, Error)]
 #[error("{reason}")]
 pub struct ThreadFault {
@@ -53,7 +53,7 @@ pub struct ThreadFault {
     pub reports: Vec<Report>,
 }
 
-// What the cores share, and the seats of each there, by ascending core.
+// What the cores share, and each core's seats there, by ascending core.
 #[derive(Drop)]
 struct Seated {
     board: Board,
@@ -61,7 +61,7 @@ struct Seated {
     seats: Vec<Seats>,
 }
 
-// What a run needs before its threads start. All its memory is taken before, but for what the workers' turns allocate.
+// What a run needs before its threads start. All memory is allocated by then, but for what the workers' turns allocate.
 #[derive(Drop)]
 struct Prepared {
     cores: Vec<CoreId>,
@@ -72,15 +72,15 @@ struct Prepared {
     room: Room,
 }
 
-// The mail of a run: mailboxes under locks, each core making its own end, or rings, whose ends are made. One of the two
-// is empty.
+// The mail of a run: mailboxes under locks, where each core makes its own end, or rings, whose ends are already made.
+// One of the two is empty.
 #[derive(Drop)]
 struct RunMail {
     locked: LockedMail<MAILBOX>,
     rings: RingMail<MAILBOX>,
 }
 
-// What the threads' endings are parted into: the seats at the board, those at the spinlocks, the ends of the rings, and the
+// What the threads' endings are split into: the seats at the board and at the spinlocks, the ends of the rings, and the
 // reports.
 #[derive(Drop)]
 struct Returned {
@@ -91,7 +91,7 @@ struct Returned {
 }
 
 impl Returned {
-    // Room for so many of each.
+    // Empty vectors, each with room for `count` elements.
     fn new(alloc: Global, count: usize) -> Result<Self, AllocError>
         ensures { IfOk result (HasRoomFor count) }
     {
@@ -104,7 +104,7 @@ impl Returned {
     }
 }
 
-// What is made from the number of threads alone: room for their endings and for what these are parted into, and the clocks.
+// What depends only on the number of threads: room for their endings and for what these are split into, and the clocks.
 #[derive(Drop)]
 struct Room {
     endings: Vec<Ending>,
@@ -113,7 +113,7 @@ struct Room {
 }
 
 impl Room {
-    // Room for so many threads.
+    // Empty vectors with room for what `count` threads give back, and the clocks.
     fn new(alloc: Global, count: usize) -> Result<Self, AllocError>
         ensures { IfOk result (IsRoomFor count) }
     {
@@ -125,7 +125,7 @@ impl Room {
     }
 }
 
-// The seats of each core.
+// Each core's seats: a seat at the board, paired with a seat at the spinlocks, in order.
 fn pair(
     alloc: Global,
     board: Vec<BoardSeat>,
@@ -143,7 +143,8 @@ fn pair(
     Ok(seats)
 }
 
-// Each core's seats, with its end of the rings where there is one left.
+// Each core's outfit: its seats with an end of the rings, paired in order. Seats for which no end is left are without
+// one.
 #[tactic(auto, using(crate::proofs::Outfits::equipped_more))]
 fn equip(alloc: Global, seats: Vec<Seats>, ends: Vec<RingEnd>) -> Result<Vec<Outfit>, AllocError>
     ensures { IfOk result (λ outfits. outfits.items ≡ equipped seats.items ends.items) }
@@ -157,7 +158,8 @@ fn equip(alloc: Global, seats: Vec<Seats>, ends: Vec<RingEnd>) -> Result<Vec<Out
     Ok(outfits)
 }
 
-// The mail of a run of these cores, and their ends of it where it has rings.
+// The mail of a run of these cores, with room for `cap` envelopes in each mailbox, and the cores' ends of the rings.
+// There are no ends if the mail is under locks.
 #[tactic(auto, using(crate::proofs::Outfits::ring_ends, crate::proofs::Outfits::no_ends, crate::proofs::Outfits::none_linked, crate::proofs::Outfits::none_unused))]
 fn mail_of(
     alloc: Global,
@@ -185,7 +187,7 @@ fn mail_of(
     }
 }
 
-// What the cores share, and the seats of each there.
+// What the cores share, and each core's seats there.
 fn seat(alloc: Global, config: &Config) -> Result<Seated, AllocError>
     ensures { IfOk result (IsSeated config.now) }
 {
@@ -196,6 +198,7 @@ fn seat(alloc: Global, config: &Config) -> Result<Seated, AllocError>
     Ok(Seated { board, bank, seats })
 }
 
+// What a run of this configuration by mail of this kind needs before its threads start.
 fn prepare(alloc: Global, config: &Config, kind: MailKind) -> Result<Prepared, AllocError>
     ensures { IfOk result (IsPrepared config.now kind) }
 {
@@ -215,11 +218,11 @@ fn prepare(alloc: Global, config: &Config, kind: MailKind) -> Result<Prepared, A
     })
 }
 
-/// Runs a worker for each configured core, each on a thread of its own, and gives their reports, one for each core in
-/// ascending order: each says what its own items say, the items fit one another, the listed stimuli and what the
-/// cores share, and each separate core prints what its configuration alone prints. A core that nobody starts has a
-/// worker too, whose turns change nothing. So many turns in a row that change nothing stop a worker, whose core has
-/// not ended then. Each other report is of a core that has ended.
+/// Runs a worker for each configured core, each on a thread of its own, and returns their reports, one for each core in
+/// ascending order. Each is the report of its own items. The items fit one another, the listed stimuli and what the
+/// cores share. Each separate core prints what its configuration alone prints. A core that no core starts has a worker
+/// too, whose turns change nothing. After `turns` turns in a row that change nothing, a worker stops; its core has not
+/// ended then. Each other report is of a core that has ended.
 pub fn run_threads<R: Threads + Wait + Sync, G: Gate + Sync>(
     rt: &R,
     alloc: Global,
@@ -289,8 +292,8 @@ pub fn run_threads<R: Threads + Wait + Sync, G: Gate + Sync>(
     }
 }
 
-// Whether every letter that was taken became an item; and of mailboxes under locks whether every one that was sent was taken
-// in its turn or is left. Of rings that needs no test.
+// Whether every letter that was taken became an item. For mailboxes under locks, also whether every letter that was
+// sent was taken in its turn or is left. Rings need no such test.
 #[tactic(auto, using(crate::proofs::Gathering::all_kept))]
 fn is_whole(kind: MailKind, mail: &mut LockedMail<MAILBOX>, joined: &Joined) -> bool
     ensures kept { IsTrue result → AreAllKept joined.now.endings.items }
@@ -300,7 +303,7 @@ fn is_whole(kind: MailKind, mail: &mut LockedMail<MAILBOX>, joined: &Joined) -> 
     are_kept(endings) && is_delivered(kind, mail, endings)
 }
 
-// Why a run whose mail is whole is none, if it is none.
+// Why a run whose mail is whole failed; `None` if it did not fail.
 #[tactic(auto, using(crate::proofs::Gathering::all_finished))]
 fn reason_in(joined: &Joined) -> Option<ThreadReason>
     ensures none { IfNone result (AreAllKept joined.now.endings.items → AreAllFinished joined.now.endings.items) }
@@ -331,7 +334,7 @@ fn are_kept(endings: &[Ending]) -> bool
         .all(|ending| !matches!(ending.stop, Stop::Refused(_, _)))
 }
 
-// Of mailboxes under locks, whether what was taken and what is left is what was sent. Of rings that needs no comparison.
+// For mailboxes under locks, whether what was taken and what is left is what was sent. Rings need no such comparison.
 #[tactic(auto, using(crate::proofs::Outfits::not_locked))]
 fn is_delivered(kind: MailKind, mail: &mut LockedMail<MAILBOX>, endings: &[Ending]) -> bool
     ensures { IsTrue result → kind ≡ Locked → AreSettled endings.now }
@@ -342,7 +345,7 @@ fn is_delivered(kind: MailKind, mail: &mut LockedMail<MAILBOX>, endings: &[Endin
     }
 }
 
-// Whether what each core took of each, and then what is left, is what that one sent to it.
+// Whether, for each sender and each receiver, what was taken and then what is left is what was sent.
 fn all_settle(mail: &mut LockedMail<MAILBOX>, endings: &[Ending]) -> bool
     ensures { IsTrue result → AreSettled endings.now }
 {
@@ -354,7 +357,7 @@ fn all_settle(mail: &mut LockedMail<MAILBOX>, endings: &[Ending]) -> bool
     true
 }
 
-// Whether it is so of what one core sent.
+// Whether, for this sender and each receiver, what was taken and then what is left is what was sent.
 fn settles_with(mail: &mut LockedMail<MAILBOX>, sender: &Ending, receivers: &[Ending]) -> bool
     ensures { IsTrue result → AllByRecursion (IsSettled sender.now) receivers.now }
 {
@@ -366,7 +369,7 @@ fn settles_with(mail: &mut LockedMail<MAILBOX>, sender: &Ending, receivers: &[En
     true
 }
 
-// Whether it is so of what one core sent to one.
+// Whether, for this sender and this receiver, what was taken and then what is left is what was sent.
 #[tactic(auto, using(crate::proofs::Outfits::settled_by))]
 fn settles_one(mail: &mut LockedMail<MAILBOX>, sender: &Ending, receiver: &Ending) -> bool
     ensures { IsTrue result → IsSettled sender.now receiver.now }
@@ -381,7 +384,7 @@ fn settles_one(mail: &mut LockedMail<MAILBOX>, sender: &Ending, receiver: &Endin
     left.settles(from, sent, to, taken)
 }
 
-// The seats, the ends of the rings and the reports, in vectors that have room for them.
+// Splits the endings into the seats, the ends of the rings and the reports, in vectors that have room for them.
 #[tactic(auto, using(crate::proofs::Outfits::kept_more))]
 fn part(endings: Vec<Ending>, returned: Returned) -> Returned
     requires { HasRoomFor (vec_len endings) returned }

@@ -22,8 +22,8 @@ pub struct Joined {
     pub complete: bool,
 }
 
-// What one thread does: the core works with its end of the rings, if it was given one, or else with an end of the mailboxes
-// under locks.
+// What one thread does: the core works with its end of the rings if it was given one, and otherwise with an end of the
+// mailboxes under locks.
 #[tactic(auto, using(crate::proofs::Outfits::ready_with, crate::proofs::Outfits::same_given))]
 fn work<R: Wait, G: Gate>(
     rt: &R,
@@ -44,7 +44,7 @@ fn work<R: Wait, G: Gate>(
     }
 }
 
-// The core works with this end of the rings, which comes back.
+// The core works with this end of the rings, and gives it back.
 fn work_by_ring<R: Wait, G: Gate>(
     rt: &R,
     alloc: Global,
@@ -66,7 +66,7 @@ fn work_by_ring<R: Wait, G: Gate>(
     }
 }
 
-// The core works with an end of the mailboxes under locks, whose record comes back.
+// The core works with an end of the mailboxes under locks, and gives back that end's record.
 fn work_by_locks<R: Wait, G: Gate>(
     rt: &R,
     alloc: Global,
@@ -90,8 +90,8 @@ fn work_by_locks<R: Wait, G: Gate>(
     }
 }
 
-// Starts the thread of a core, if no worker is to stop, the gate lets it start, and the system has one. Else all are to stop,
-// and the core's worker stops before its first turn, on this thread.
+// Starts the thread of a core if no worker is told to stop, the gate lets it start, and the system has a thread. Else
+// all workers are told to stop, and the core's worker stops before its first turn, on this thread.
 fn start<'s, E, R: Threads + Wait + Sync, G: Gate + Sync>(
     rt: &'s R,
     scope: &Scope<'s, E>,
@@ -120,7 +120,7 @@ fn start<'s, E, R: Threads + Wait + Sync, G: Gate + Sync>(
         turns,
     } = *run;
     let end = Snapshot::of(&outfit.end);
-    // The closure captures the parts of the run. Of one that captures a type with lifetimes no clause is known outside.
+    // The closure captures the run's parts. If it captured a type with lifetimes, none of its clauses would be known.
     let job = move || -> Ending
         requires { IsReady config.now cores.now (shared board.now bank.now) outfit }
         ensures { IsEnded config.entry.now stimuli.entry.now turns (shared board.entry.now bank.entry.now) outfit.seats.board.core result × IsSameEnd outfit.end result.kept }
@@ -152,8 +152,8 @@ fn start<'s, E, R: Threads + Wait + Sync, G: Gate + Sync>(
     }
 }
 
-// Starts a thread for each core's outfit, the last one first, and then joins them. It says whether each could be started. Where one
-// could not, no more are started, and each core has an ending all the same.
+// Starts a thread for each core's outfit, the last one first, and then joins them. Returns whether each could be
+// started. If one could not, no more are started, but each core still has an ending.
 fn run_each<'s, E, R: Threads + Wait + Sync, G: Gate + Sync>(
     rt: &'s R,
     scope: &Scope<'s, E>,
@@ -187,7 +187,8 @@ fn run_each<'s, E, R: Threads + Wait + Sync, G: Gate + Sync>(
     }
 }
 
-/// Runs a worker for each core's outfit, each on a thread of its own, and joins all of them.
+/// Runs a worker for each core's outfit, each on a thread of its own, and joins all of them. Returns what they gave
+/// back, and whether each thread could be started.
 pub(crate) fn run_all<R: Threads + Wait + Sync, G: Gate + Sync>(
     rt: &R,
     alloc: Global,

@@ -8,7 +8,7 @@ use Rattle.osclock.proofs.Portions.{attached-portions}
 use Rattle.osstate.specs.State.{KernelState}
 use Rattle.ostable.specs.Tables.{table_refs, timed_by}
 use Rattle.ostable.proofs.{Portions.sum-of-plans, Portions.timed-portions, Sums.sum-both}
-use Rattle.osexpiry.specs.Advancing.{posted_at_point, posted_by, posted_for, posts_by}
+use Rattle.osexpiry.specs.Advancing.{most_posted_of_table, posted_by, posted_for, posts_by}
 use Rattle.osexpiry.proofs.Postings.{sum-of-alarms}
 
 -- ---- how much the counters before a place add up to
@@ -36,7 +36,7 @@ tables_at core n = length (timed_by core (counter_ref core n))
 abbrev pub posted_at : Core → ℕ → ℕ
 posted_at core n = posted_by core (counter_ref core n)
 
--- So it is of the counter with this reference, in a state of the same core.
+-- The same amounts for the counter with this reference, in a state of the same core.
 pub record Amounts (own : Core) (place : ℕ) (now : KernelState) (c : CounterRef) : Type 0 where
   pub alarms : length (attached_to now.view.own c) ≡ alarms_at own place
   pub tables : length (timed_by now.view.own c) ≡ tables_at own place
@@ -49,7 +49,7 @@ amounts old place now c view here = record {
   posted = λ i. posted_by (view i).own (here i);
 }
 
--- In all they are at most those of the core.
+-- Added up over counters, they are at most those of the core.
 filter-every : (xs : List AlarmRef) → length (filter (λ a. true) xs) ≡ length xs
 filter-every [] = refl
 filter-every (x ∷ xs) = ap suc (filter-every xs)
@@ -89,10 +89,10 @@ pub posted-within : (core : Core) (place : ℕ) → total (posted_at core) place
 posted-within core place =
     omega (
       arith,
-      sum-both (λ (n : ℕ). sum_by (posted_for core) (attached_to core (counter_ref core n))) (λ (n : ℕ). sum_by (posted_at_point core) (timed_by core (counter_ref core n))) (numbers_from 0 place),
+      sum-both (λ (n : ℕ). sum_by (posted_for core) (attached_to core (counter_ref core n))) (λ (n : ℕ). sum_by (most_posted_of_table core) (timed_by core (counter_ref core n))) (numbers_from 0 place),
       alarms-posted core place,
       sum-of-alarms core,
-      timed-portions core (posted_at_point core) place,
+      timed-portions core (most_posted_of_table core) place,
       sum-of-plans core (most_posts_of_table core),
     )
 

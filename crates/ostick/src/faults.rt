@@ -12,8 +12,8 @@ use oscall::shutdown::go_down;
 use osplan::Protection;
 use osstate::CoreState;
 
-/// The running job is looked at, if there is one: where it has used up a budget, ProtectionHook is called once, and then it ends, or the
-/// core goes down (AUTOSAR SWS OS 4.x, section 8.6.1 and ProtectionReturnType). No letter joins the outbox.
+/// If the running job has used up a budget, ProtectionHook is called once. Then the job ends, or the core goes down
+/// (AUTOSAR SWS OS 4.x, section 8.6.1 and ProtectionReturnType). No letter joins the outbox.
 pub(crate) fn protect<const P: usize, const J: usize, const OUT: usize>(
     state: &mut CoreState<'_, P, J, OUT>,
     marks: &mut Vec<Mark>,
@@ -26,6 +26,7 @@ pub(crate) fn protect<const P: usize, const J: usize, const OUT: usize>(
     }
 }
 
+// If the oldest job of this task or ISR has used up a budget, calls ProtectionHook, and then the core answers.
 fn protect_from<const P: usize, const J: usize, const OUT: usize>(
     state: &mut CoreState<'_, P, J, OUT>,
     runner: Runner,
@@ -40,7 +41,8 @@ fn protect_from<const P: usize, const J: usize, const OUT: usize>(
     }
 }
 
-// The status of the budget that the oldest job of one of the core's tasks or ISRs has reached: its execution budget comes first.
+// The status for the budget that the oldest job of one of the core's tasks or ISRs has reached, if any: its execution
+// budget, or else the lock budget of a resource that it holds.
 fn fault_of<const P: usize, const J: usize, const OUT: usize>(
     state: &CoreState<'_, P, J, OUT>,
     runner: Runner,
@@ -57,7 +59,7 @@ fn fault_of<const P: usize, const J: usize, const OUT: usize>(
     }
 }
 
-// The core's answer to a time fault of this job: it ends, or the core goes down.
+// The core's answer to a time fault: by TerminateTaskIsr the runner's job ends; by any other answer the core goes down.
 fn answer<const P: usize, const J: usize, const OUT: usize>(
     state: &mut CoreState<'_, P, J, OUT>,
     runner: Runner,

@@ -14,9 +14,9 @@ use osbase::{CounterRef, Mark};
 use osplan::Counter;
 use osstate::CoreState;
 
-/// A tick: its line, by which the running job has used one tick of its budget; what follows if that was the last one; and, unless the
-/// core is down by it, each hardware counter of the core is incremented, in index order, and what expires by it acts (OSEK/VDX OS
-/// 2.2.3, section 9.1).
+/// Prints the tick's line, which charges the running job one tick of its budgets. If a budget is reached, the core
+/// answers. Then, unless the core is down or halted, each of its hardware counters is incremented, in index order, and
+/// what expires acts (OSEK/VDX OS 2.2.3, section 9.1).
 pub fn tick<const P: usize, const J: usize, const OUT: usize>(
     state: &mut CoreState<'_, P, J, OUT>,
     marks: &mut Vec<Mark>,
@@ -31,7 +31,7 @@ pub fn tick<const P: usize, const J: usize, const OUT: usize>(
     }
 }
 
-// Each hardware counter is incremented.
+// Increments each hardware counter of the core, in index order. What expires at it acts.
 fn count_each<const P: usize, const J: usize, const OUT: usize>(
     state: &mut CoreState<'_, P, J, OUT>,
     marks: &mut Vec<Mark>,
@@ -49,7 +49,7 @@ fn count_each<const P: usize, const J: usize, const OUT: usize>(
     }
 }
 
-// A software counter is left as it is.
+// Increments the counter, unless it is a software counter. What expires acts.
 fn count_by_tick<const P: usize, const J: usize, const OUT: usize>(
     state: &mut CoreState<'_, P, J, OUT>,
     counter: &Counter,

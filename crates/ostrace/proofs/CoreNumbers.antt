@@ -1,4 +1,4 @@
--- A core's number in decimal is read as that number, and ends where its word has no digit more.
+-- A core's number in decimal is read as that number, and ends where its word has no more digits.
 use Rattle.std.proofs.Common.{◌≡◌, ℕ, ◌+◌, ◌*◌, ◌/◌, ◌%◌, ◌<◌, nat_lt, true, false, not, Some, List, [], ◌∷◌, ◌++◌, inl, inr, length, length-append, refl, ap, ◌∙◌, arith}
 use Rattle.std.specs.{Char.is_ascii_digit, Fmt.decimal, List.list_all, List.prefix_len}
 use Rattle.std.proofs.lemmas.Bool.{and_parts, cases_lt, lt-ltb}

@@ -2,27 +2,27 @@
 use Rattle.std.proofs.Common.{map, ◌≡◌, ◌+◌, ℕ, List, [], ◌∷◌, ◌++◌, Option, Result, Ok, Err, take, drop, refl, sym, ap, ◌∙◌, append_assoc, append-nil, take-append-drop, arith}
 use Rattle.std.proofs.lemmas.{Grind.flat_map-append, List.Folds.flat_map-map}
 use Rattle.std.specs.{List.flat_map, Result.IsErr}
-use Rattle.ostrace_text.specs.Trace.{led, spaced}
-use Rattle.ostrace.specs.{Gathers.Gathers, Pieces.led_text, Pieces.word_text, Taken.Writes, declared.words.Word.Word}
+use Rattle.ostrace_text.specs.Trace.{after_spaces, spaced}
+use Rattle.ostrace.specs.{Gathers.Gathers, Pieces.text_after_spaces, Pieces.word_text, Taken.Writes, declared.words.Word.Word}
 use Rattle.ostrace.proofs.Writing.{Appends-then}
 
--- what is said of the first elements and of the others is said of all
+-- the text of the first elements, followed by that of the others, is the text of all
 pub flat_whole : {X : Type 0} (f : X → List ℕ) (xs : List X) (i : ℕ) → flat_map f (take i xs) ++ flat_map f (drop i xs) ≡ flat_map f xs
 flat_whole f xs i = sym (flat_map-append f (take i xs) (drop i xs)) ∙ ap (flat_map f) (take-append-drop i xs)
 
 -- the words of texts that are joined
 pub ruleset joining = (append_assoc, append-nil, flat_map-append, flat_map-map)
 
-pub led-cons : (word : List ℕ) (words : List (List ℕ)) → led (word ∷ []) ++ led words ≡ led (word ∷ words)
-led-cons word words = simp joining
+pub after_spaces-cons : (word : List ℕ) (words : List (List ℕ)) → after_spaces (word ∷ []) ++ after_spaces words ≡ after_spaces (word ∷ words)
+after_spaces-cons word words = simp joining
 
-pub spaced-more : (word : List ℕ) (us : List (List ℕ)) (v : List ℕ) → spaced (word ∷ us) ++ led (v ∷ []) ≡ spaced (word ∷ (us ++ v ∷ []))
+pub spaced-more : (word : List ℕ) (us : List (List ℕ)) (v : List ℕ) → spaced (word ∷ us) ++ after_spaces (v ∷ []) ≡ spaced (word ∷ (us ++ v ∷ []))
 spaced-more word us v = simp joining
 
-pub spaced-rest : (word : List ℕ) (us : List (List ℕ)) (v : List ℕ) (words : List Word) → spaced (word ∷ us) ++ (led (v ∷ []) ++ led_text words) ≡ spaced (word ∷ (us ++ v ∷ map word_text words))
+pub spaced-rest : (word : List ℕ) (us : List (List ℕ)) (v : List ℕ) (words : List Word) → spaced (word ∷ us) ++ (after_spaces (v ∷ []) ++ text_after_spaces words) ≡ spaced (word ∷ (us ++ v ∷ map word_text words))
 spaced-rest word us v words = simp joining
 
-pub spaced-append : (word : List ℕ) (us : List (List ℕ)) (words : List Word) → spaced (word ∷ us) ++ led_text words ≡ spaced (word ∷ (us ++ map word_text words))
+pub spaced-append : (word : List ℕ) (us : List (List ℕ)) (words : List Word) → spaced (word ∷ us) ++ text_after_spaces words ≡ spaced (word ∷ (us ++ map word_text words))
 spaced-append word us words = simp joining
 
 -- what is sent of both texts, and what is left

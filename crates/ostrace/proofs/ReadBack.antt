@@ -11,7 +11,7 @@ use Rattle.osplan.specs.{declared.faults.ConfFault.TheVariants.Limit, declared.f
 use Rattle.osplan.proofs.{Numbered.configured-low, Tests.all-append, Tests.all-flat, Tests.all-weaker, Tests.find-holds}
 use Rattle.osjson.specs.Reading.{each, parts_of}
 use Rattle.osinput.specs.Given.{choice_of, core_named, digits_in, meaning_by, schedule_of_text, schedule_of_data, served, schedule_tests, turn_of, turns_of_text}
-use Rattle.ostrace_text.specs.Trace.{led, spaced}
+use Rattle.ostrace_text.specs.Trace.{after_spaces, spaced}
 use Rattle.ostrace.specs.Schedules.{are_turns_of, choice_word, is_choice_of, is_turn_of, schedule_text, turn_word}
 use Rattle.ostrace.proofs.{CoreNumbers.digits-end, CoreNumbers.number-back, Quoted.read-quoted, Spaced.parts-spaced}
 
@@ -23,28 +23,28 @@ Turn = CoreId × Choice
 digit-plain : (b : ℕ) → is_ascii_digit b ≡ true → is_plain b ≡ true
 digit-plain b digit = grind (arith, nat_tests)
 
--- Behind the number of a core stands a letter.
+-- The number of a core is followed by a letter.
 letter-ends : (digits : List ℕ) (choice : Choice) → list_all is_ascii_digit digits ≡ true → digits_in (digits ++ choice_word choice) ≡ length digits
 letter-ends digits Own all = digits-end digits 111 [] all refl
 letter-ends digits Look all = digits-end digits 108 [] all refl
 letter-ends digits (Serve from) all = digits-end digits 115 (decimal from.number) all refl
 
--- So a word is not empty.
+-- A word is not empty.
 word-some : (turn : Turn) → not (length (turn_word turn) == 0) ≡ true
 word-some turn = grind (arith, nat_tests, length-append (decimal turn.0.number) (choice_word turn.1))
 
--- What holds of the bytes of words, and of the space, holds of those of the words with spaces between them.
+-- If the space and each byte of words pass a test, each byte of the words with spaces between them passes it.
 module _ (p : ℕ → Bool) (space : p 32 ≡ true) where
-  led-all : (words : List (List ℕ)) → list_all (list_all p) words ≡ true → list_all p (led words) ≡ true
-  led-all words all = all-flat p (λ word. codes " " ++ word) words (all-weaker (list_all p) (λ word. list_all p (codes " " ++ word)) (λ word h. and_from _ _ space h) words all)
+  after_spaces-all : (words : List (List ℕ)) → list_all (list_all p) words ≡ true → list_all p (after_spaces words) ≡ true
+  after_spaces-all words all = all-flat p (λ word. codes " " ++ word) words (all-weaker (list_all p) (λ word. list_all p (codes " " ++ word)) (λ word h. and_from _ _ space h) words all)
 
   spaced-all : (words : List (List ℕ)) → list_all (list_all p) words ≡ true → list_all p (spaced words) ≡ true
   spaced-all [] all = refl
   spaced-all (word ∷ words) all =
       let parts = and_parts (list_all p word) (list_all (list_all p) words) all in
-      all-append p word (led words) parts.0 (led-all words parts.1)
+      all-append p word (after_spaces words) parts.0 (after_spaces-all words parts.1)
 
--- Turns that are read, and few enough, are what is meant.
+-- If turns are read, and they are few enough, they are what is meant.
 meant : (turns : List Turn) (o : Option (List Turn)) (few : Bool) → o ≡ Some turns → few ≡ true
     → option_and_then (if_faultless (failing ((Limit, few) ∷ (BadSchedule, is_some o) ∷ []))) o ≡ Some turns
 meant turns o few is within = rw (is, within) refl
@@ -56,7 +56,7 @@ module _ (plan : Plan) (limits : IsTrue (is_within_limits plan)) where
   digits-all : (id : CoreId) → is_some (core_of plan id) ≡ true → list_all is_ascii_digit (decimal id.number) ≡ true
   digits-all id there = let low = configured-low plan id limits there in digits_decimal own id.number (omega (arith, low))
 
-  -- What holds of each digit and of the letters of choices holds of each byte of a word.
+  -- If each digit and the letters of choices pass a test, each byte of a word passes it.
   module _ (p : ℕ → Bool) (digit : (b : ℕ) → is_ascii_digit b ≡ true → p b ≡ true) (o : p 111 ≡ true) (l : p 108 ≡ true) (s : p 115 ≡ true) where
     number-all : (id : CoreId) → is_some (core_of plan id) ≡ true → list_all p (decimal id.number) ≡ true
     number-all id there = all-weaker is_ascii_digit p digit (decimal id.number) (digits-all id there)

@@ -27,7 +27,7 @@ module _ (bytes : List ℕ) (at : ℕ) where
   pub take_further : (count : ℕ) → take (at + count) bytes ≡ take at bytes ++ take count (take (length bytes - at) (drop at bytes))
   take_further count = rw (take_rest bytes at) (take-add at count bytes)
 
-  -- a write failed after a prefix of them
+  -- a write failed after a prefix of the bytes
   pub Writes-stopped : {S E : Type 0} (taken : S → Option (List ℕ)) (failed : S → ℕ) (old mid new : S) (e : E) → Appends (taken old) (taken mid) (take at bytes) → failed mid ≡ failed old → Appends (taken mid) (taken new) [] → failed new ≡ failed mid + 1
       → Writes taken failed old new bytes (Err e)
   Writes-stopped taken failed old mid new e wrote same nothing counted = record {

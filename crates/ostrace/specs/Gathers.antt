@@ -3,15 +3,15 @@ use Rattle.std.specs.Prelude.{◌≡◌, ℕ, ◌+◌, Option, Result, List, ◌
 use Rattle.std.specs.Io.KnownBytes.{Appends}
 use Rattle.ostrace.specs.Taken.{failures, TakesBeginning}
 
--- The sink took a text up to what is left of it.
+-- The sink took all of `text` but `left`, which is the text's end.
 pub record Sends (old new : Option (List ℕ)) (text left : List ℕ) : Type 0 where
   pub sent : List ℕ
   pub is : sent ++ left ≡ text
   pub takes : Appends old new sent
 
--- A call gathered a text after what was gathered before: at `Ok` the sink has all of both up to what is gathered
--- now, and at `Err` it has a prefix of both, up to the first failed write.
--- `taken` and `failed` are what the sink's type says of it.
+-- A call gathered `text` after what was gathered `before`. At `Ok` the sink took all of both but what is still gathered
+-- `after` the call. At `Err` it took a prefix of both, up to the first failed write, which is counted.
+-- By the sink's type, `taken` is what a sink has taken, and `failed` how many writes to it failed.
 pub record Gathers {S E : Type 0} (taken : S → Option (List ℕ)) (failed : S → ℕ) (old new : S) (before after text : List ℕ)
     (result : Result Unit E) : Type 0 where
   pub ok : OnOk result (Sends (taken old) (taken new) (before ++ text) after)

@@ -5,11 +5,12 @@ use Rattle.std.specs.declared.alloc.Global.{Global}
 use Rattle.ostrace_text.specs.Trace.{line_end, lines_of, title_of}
 use Rattle.ostrace.specs.declared.parts.Part.{Part}
 
--- What stands before the lines of a part: the title of its block, if these are the first ones. [own]
+-- The text before the lines of a part: if the part has its block's first lines, the title of the block; else none.
+-- [own]
 abbrev pub title_before : Part → List ℕ
 title_before part = if part.is_first then title_of part.core ++ line_end else []
 
--- The text of a part. [own]
+-- The text of a part: the title of its block, if the part has the block's first lines, and a line for each mark. [own]
 abbrev pub part_text : Part → List ℕ
 part_text part = title_before part ++ lines_of part.plan.now part.marks.now
 
@@ -17,7 +18,7 @@ part_text part = title_before part ++ lines_of part.plan.now part.marks.now
 abbrev pub parts_text : List Part → List ℕ
 parts_text parts = flat_map part_text parts
 
--- The parts of the round at this place, where each has so many. [own]
+-- The parts of the round at this place, where each round has `size` parts. [own]
 abbrev pub round_of : List Part → ℕ → ℕ → List Part
 round_of parts size at = take size (drop (at * size) parts)
 

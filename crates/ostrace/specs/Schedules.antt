@@ -19,16 +19,16 @@ turn_word turn = decimal turn.0.number ++ choice_word turn.1
 abbrev pub schedule_text : List (CoreId × Choice) → List ℕ
 schedule_text turns = codes "\"" ++ (spaced (map turn_word turns) ++ codes "\"")
 
--- What the core may choose: whom it serves is configured, and is another core.
+-- The core may make this choice. If it chooses to serve a core, that core has to be configured and not be itself.
 abbrev pub is_choice_of : Plan → CoreId → Choice → Bool
 is_choice_of plan core Own = true
 is_choice_of plan core Look = true
 is_choice_of plan core (Serve from) = is_some (core_of plan from) && not (same_core from core)
 
--- A turn of a configured core, of which this core may choose what it does.
+-- A turn of a configured core, with a choice that this core may make.
 abbrev pub is_turn_of : Plan → CoreId × Choice → Bool
 is_turn_of plan turn = is_some (core_of plan turn.0) && is_choice_of plan turn.0 turn.1
 
--- Each is a turn of the configuration.
+-- Each of the turns is one of a configured core, with a choice that this core may make.
 abbrev pub are_turns_of : Plan → List (CoreId × Choice) → Bool
 are_turns_of plan turns = list_all (is_turn_of plan) turns

@@ -7,7 +7,7 @@ abbrev pub is_failed_write : Option ℕ → List ℕ → Bool
 is_failed_write None bytes = true
 is_failed_write (Some n) bytes = (n == 0) && not (length bytes == 0)
 
--- One more failed write, if this one was one.
+-- How many writes have failed: one more than before, if this write failed.
 abbrev pub count_after : ℕ → Option ℕ → List ℕ → ℕ
 count_after failed result bytes = failed + (if is_failed_write result bytes then 1 else 0)
 
@@ -27,9 +27,8 @@ abbrev pub failures : {E : Type 0} → Result Unit E → ℕ
 failures (Ok x) = 0
 failures (Err e) = 1
 
--- A call wrote a text to a sink: all of it at `Ok`, and a prefix of it up to the first failed write
--- at `Err`.
--- `taken` and `failed` are what the sink's type says of it.
+-- A call wrote a text to a sink: all of it at `Ok`, and at `Err` a prefix of it, up to the first failed write, which is
+-- counted. By the sink's type, `taken` is what a sink has taken, and `failed` how many writes to it failed.
 pub record Writes {S E : Type 0} (taken : S → Option (List ℕ)) (failed : S → ℕ) (old new : S) (text : List ℕ)
     (result : Result Unit E) : Type 0 where
   pub ok : OnOk result (Appends (taken old) (taken new) text)

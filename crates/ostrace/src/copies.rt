@@ -2,7 +2,7 @@
 
 ghost use Rattle.std.specs.Prelude.{◌≡◌, ◌*◌, ◌≤◌, length};
 
-/// Copies these bytes over as many others, and makes no call where they are few.
+/// Copies the bytes of `from` over those of `to`, which has as many. For 2 to 16 bytes it calls no library function.
 #[inline(always)]
 pub fn copy_bytes(to: &mut [u8], from: &[u8])
     requires { length to.old ≡ length from.now }
@@ -16,7 +16,7 @@ pub fn copy_bytes(to: &mut [u8], from: &[u8])
     }
 }
 
-// Copies the first `N` bytes and the last `N`, which may overlap.
+// Copies the first `N` bytes and the last `N`, which may overlap and together are all.
 #[inline(always)]
 fn copy_ends<const N: usize>(to: &mut [u8], from: &[u8])
     requires same { length to.old ≡ length from.now }

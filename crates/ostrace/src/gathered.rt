@@ -8,7 +8,7 @@ use crate::copies::copy_bytes;
 use crate::sinks::{Sink, WriteFailed, write_all};
 use std::marker::Model;
 
-/// How many bytes are gathered at most: more than a stream's own buffer holds, which then copies none of them.
+/// How many bytes are gathered at most: more than a stream's own buffer holds, so that the stream copies none of them.
 const ROOM: usize = 16384;
 
 /// The bytes that are not sent yet, so that a sink gets a text in few writes.
@@ -40,7 +40,7 @@ impl Gathered {
         }
     }
 
-    // Whether so many bytes more are within the room.
+    // Whether there is room for `count` more bytes.
     #[inline(always)]
     fn has_room(&self, count: usize) -> bool
         ensures { result ≡ nat_le (length self.now + count) ROOM }
@@ -48,6 +48,7 @@ impl Gathered {
         count <= ROOM - self.len
     }
 
+    // Gathers these bytes, for which there is room.
     #[inline(always)]
     fn add(&mut self, bytes: &[u8])
         requires { length self.old + length bytes.now ≤ ROOM }
@@ -58,7 +59,7 @@ impl Gathered {
         self.len = end;
     }
 
-    /// Gathers these bytes, and sends what is gathered before where there is no room for them.
+    /// Gathers these bytes. If there is no room for them, it first sends what is gathered.
     #[inline(always)]
     pub fn put<S: Sink>(&mut self, out: &mut S, bytes: &[u8]) -> Result<(), WriteFailed>
         requires { S.failed out.old < 2 ^ 48 }
@@ -71,7 +72,7 @@ impl Gathered {
         self.put_after_sending(out, bytes)
     }
 
-    /// Gathers a text, as `put` does its bytes.
+    /// Gathers a text as `put` gathers bytes.
     #[inline(always)]
     pub fn put_text<S: Sink>(&mut self, out: &mut S, text: &str) -> Result<(), WriteFailed>
         requires { S.failed out.old < 2 ^ 48 }
@@ -80,7 +81,7 @@ impl Gathered {
         self.put(out, text.as_bytes())
     }
 
-    /// Gathers two texts with a space between them, by one look for room.
+    /// Gathers two texts with a space between them, with one check for room.
     #[inline(always)]
     pub fn put_pair<S: Sink>(
         &mut self,
@@ -101,7 +102,7 @@ impl Gathered {
         self.put_parts(out, first, second)
     }
 
-    // The same, by a look for each part.
+    // Gathers the same text as `put_pair`, with a check for each part.
     #[cold]
     #[inline(never)]
     fn put_parts<S: Sink>(
@@ -119,7 +120,7 @@ impl Gathered {
         self.put_text(out, second)
     }
 
-    // Bytes for which there is never room go straight to the sink.
+    // Sends what is gathered, and then gathers these bytes. More bytes than `ROOM` go straight to the sink.
     #[cold]
     #[inline(never)]
     fn put_after_sending<S: Sink>(&mut self, out: &mut S, bytes: &[u8]) -> Result<(), WriteFailed>

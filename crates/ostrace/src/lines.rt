@@ -7,17 +7,19 @@ ghost use Rattle.oscript.specs.Rows.{form_view, items, word_of};
 ghost use Rattle.ossyntax.specs.{Call.form_words, ParsedOp.arg_text, Operation.named};
 ghost use Rattle.ostrace.specs.{Gathers.Gathers, Pieces.is_long, Pieces.is_of_result, Pieces.word_text};
 ghost use Rattle.osplan.specs.Names.{name_of, runner_name, task_name};
-ghost use Rattle.ostrace_text.specs.Trace.{call_words, led, line_of, spaced, value_words, variable_name};
+ghost use Rattle.ostrace_text.specs.Trace.{call_words, after_spaces, line_of, spaced, value_words, variable_name};
 
 use crate::gathered::Gathered;
 use crate::sinks::{Sink, WriteFailed};
 use crate::words::{
-    Word, write_led, write_led_text, write_led_whole, write_led_word, write_spaced,
+    Word, write_after_space, write_spaced, write_text_after_space, write_whole_after_space,
+    write_word_after_space,
 };
 use osbase::{CoreId, Mark, Place, RemoteCall, Runner, ServiceId, Status, TaskRef, Variable};
 use oscript::{Arg, Args, ParsedOp, Verb, op_of_call, parsed_op_of, row_of};
 use ostrace_text::BlockNames;
 
+// Writes a verb, a name, and a number, divided by spaces.
 #[inline(always)]
 fn write_number<S: Sink>(
     out: &mut S,
@@ -31,9 +33,10 @@ fn write_number<S: Sink>(
         (spaced (verb.now ∷ name.now ∷ decimal number ∷ [])) result }
 {
     gathered.put_pair(out, verb, name)?;
-    write_led_whole(out, gathered, number)
+    write_whole_after_space(out, gathered, number)
 }
 
+// Writes `hook`, the name of a hook, and a status, divided by spaces.
 #[inline(always)]
 fn write_hook<S: Sink>(
     out: &mut S,
@@ -46,9 +49,10 @@ fn write_hook<S: Sink>(
         (spaced (codes "hook" ∷ hook.now ∷ status_name status ∷ [])) result }
 {
     gathered.put_pair(out, "hook", hook)?;
-    write_led_text(out, gathered, status.name())
+    write_text_after_space(out, gathered, status.name())
 }
 
+// Writes a verb, the name of a task, and a mask of events, divided by spaces.
 #[inline(always)]
 fn write_events<S: Sink>(
     out: &mut S,
@@ -65,14 +69,14 @@ fn write_events<S: Sink>(
     write_number(out, gathered, verb, names.task_name(task), mask)
 }
 
-// The word of a status.
+// The word of a status: its name.
 fn status_word(status: Status) -> Word<'static>
     ensures { word_text result ≡ status_name status }
 {
     Word::Text(status.name())
 }
 
-// The words of a value, which comes with E_OK.
+// The words of an answer with a value: E_OK, and then the value.
 fn answer_words(value: i64) -> [Word<'static>; 2]
     ensures { map word_text result ≡ value_words value }
 {
@@ -86,7 +90,7 @@ fn core_word(core: CoreId) -> Word<'static>
     Word::Whole(u32::from(core.number))
 }
 
-/// Writes a verb and the number of a core.
+/// Writes a verb and the number of a core, divided by a space.
 #[inline]
 pub fn write_verb_and_core<S: Sink>(
     out: &mut S,
@@ -101,6 +105,7 @@ pub fn write_verb_and_core<S: Sink>(
     write_spaced(out, gathered, verb, &[core_word(core)])
 }
 
+// Writes a verb, the number of a core, and a status, divided by spaces.
 fn write_core<S: Sink>(
     out: &mut S,
     gathered: &mut Gathered,
@@ -115,7 +120,7 @@ fn write_core<S: Sink>(
     write_spaced(out, gathered, verb, &[core_word(core), status_word(status)])
 }
 
-// The word of an argument.
+// The word of an argument; `?` for the invalid identifier.
 #[inline(always)]
 fn arg_word<'a>(names: &'a BlockNames, arg: Arg<Place>) -> Word<'a>
     ensures { word_text result ≡ arg_text (named (name_of names.now) arg) }
@@ -130,6 +135,7 @@ fn arg_word<'a>(names: &'a BlockNames, arg: Arg<Place>) -> Word<'a>
     }
 }
 
+// Writes an argument after a space.
 fn write_arg<S: Sink>(
     out: &mut S,
     gathered: &mut Gathered,
@@ -138,11 +144,12 @@ fn write_arg<S: Sink>(
 ) -> Result<(), WriteFailed>
     requires { S.failed out.old < 2 ^ 48 }
     ensures { Gathers S.taken S.failed out.old out.new gathered.old gathered.new
-        (led (arg_text (named (name_of names.now) arg) ∷ [])) result }
+        (after_spaces (arg_text (named (name_of names.now) arg) ∷ [])) result }
 {
-    write_led_word(out, gathered, arg_word(names, arg))
+    write_word_after_space(out, gathered, arg_word(names, arg))
 }
 
+// Writes arguments, each after a space.
 fn write_args<S: Sink>(
     out: &mut S,
     gathered: &mut Gathered,
@@ -151,7 +158,7 @@ fn write_args<S: Sink>(
 ) -> Result<(), WriteFailed>
     requires { S.failed out.old < 2 ^ 48 }
     ensures { Gathers S.taken S.failed out.old out.new gathered.old gathered.new
-        (led (map (λ a. arg_text (named (name_of names.now) a)) (items args))) result }
+        (after_spaces (map (λ a. arg_text (named (name_of names.now) a)) (items args))) result }
 {
     match args {
         Args::Zero => Ok(()),
@@ -168,19 +175,20 @@ fn write_args<S: Sink>(
     }
 }
 
-fn write_led_verb<S: Sink>(
+// Writes the word of an operation's verb after a space.
+fn write_verb_after_space<S: Sink>(
     out: &mut S,
     gathered: &mut Gathered,
     verb: Verb,
 ) -> Result<(), WriteFailed>
     requires { S.failed out.old < 2 ^ 48 }
     ensures { Gathers S.taken S.failed out.old out.new gathered.old gathered.new
-        (led (word_of verb ∷ [])) result }
+        (after_spaces (word_of verb ∷ [])) result }
 {
-    write_led_text(out, gathered, row_of(verb).word)
+    write_text_after_space(out, gathered, row_of(verb).word)
 }
 
-// The words of a call, each after a space.
+// Writes the words of a call, each after a space.
 fn write_call<S: Sink>(
     out: &mut S,
     gathered: &mut Gathered,
@@ -189,12 +197,13 @@ fn write_call<S: Sink>(
 ) -> Result<(), WriteFailed>
     requires { S.failed out.old < 2 ^ 48 }
     ensures { Gathers S.taken S.failed out.old out.new gathered.old gathered.new
-        (led (call_words names.now call)) result }
+        (after_spaces (call_words names.now call)) result }
 {
     write_form(out, gathered, names, parsed_op_of(op_of_call(call)))
 }
 
-// No call is in sight here, so that no goal is split by calls.
+// Writes the words of an operation, each after a space. The function takes a form and no call, so that no goal of its
+// proof is split into a case for each call.
 fn write_form<S: Sink>(
     out: &mut S,
     gathered: &mut Gathered,
@@ -203,12 +212,13 @@ fn write_form<S: Sink>(
 ) -> Result<(), WriteFailed>
     requires { S.failed out.old < 2 ^ 48 }
     ensures { Gathers S.taken S.failed out.old out.new gathered.old gathered.new
-        (led (form_words (name_of names.now) (form_view form))) result }
+        (after_spaces (form_words (name_of names.now) (form_view form))) result }
 {
-    write_led_verb(out, gathered, form.verb)?;
+    write_verb_after_space(out, gathered, form.verb)?;
     write_args(out, gathered, names, form.args)
 }
 
+// Writes a verb, the number of a core, and the words of a call, divided by spaces.
 fn write_remote<S: Sink>(
     out: &mut S,
     gathered: &mut Gathered,
@@ -225,7 +235,7 @@ fn write_remote<S: Sink>(
     write_call(out, gathered, names, call)
 }
 
-// A served call, and the words of its answer.
+// Writes `in`, the number of the core that called, the words of the served call, and those of its answer.
 #[inline(always)]
 fn write_served<S: Sink>(
     out: &mut S,
@@ -241,10 +251,10 @@ fn write_served<S: Sink>(
         ∷ (call_words names.now call ++ map word_text answer.now))) result }
 {
     write_remote(out, gathered, names, "in", core, call)?;
-    write_led(out, gathered, answer)
+    write_after_space(out, gathered, answer)
 }
 
-// What an operation answered: the runner, the service, and the words of the answer.
+// Writes `stat`, the name of the task or ISR, the service, and the words of the service's answer.
 #[inline(always)]
 fn write_stat<S: Sink>(
     out: &mut S,
@@ -260,10 +270,11 @@ fn write_stat<S: Sink>(
         ∷ map word_text answer.now)) result }
 {
     gathered.put_pair(out, "stat", names.runner_name(runner))?;
-    write_led_text(out, gathered, service.name())?;
-    write_led(out, gathered, answer)
+    write_text_after_space(out, gathered, service.name())?;
+    write_after_space(out, gathered, answer)
 }
 
+// Writes `var`, the name of the task or ISR, the variable, and its new value, divided by spaces.
 fn write_variable<S: Sink>(
     out: &mut S,
     gathered: &mut Gathered,
@@ -287,7 +298,7 @@ fn write_variable<S: Sink>(
     )
 }
 
-// The line of a mark of what an operation answered.
+// Writes the line of a mark that says what an operation answered.
 #[inline(always)]
 fn write_result<S: Sink>(
     out: &mut S,
@@ -323,8 +334,8 @@ fn write_result<S: Sink>(
     }
 }
 
-// The same, and that of a mark of a core's start or halt, or of a call to another core. It stays a function of its own,
-// so that the short lines, which are most, have the registers.
+// Writes the line of a mark that says what an operation answered or that a core was started or halted, or is of a call
+// to another core. The function is not inlined, so that the short lines, which are most, have the registers.
 #[inline(never)]
 fn write_long_line<S: Sink>(
     out: &mut S,

@@ -1,4 +1,4 @@
-//! Parts of blocks: what a thread makes of the text of reports at once.
+//! Parts of blocks: the pieces in which threads make the text of reports.
 
 ghost use Rattle.std.specs.Prelude.{◌≡◌, ◌+◌, ◌++◌, ◌^◌, ◌<◌, ◌≤◌, IfOk, OnOk, length};
 ghost use Rattle.ostrace.specs.{Gathers.Gathers, Parts.part_text, Parts.parts_text, Parts.title_before, Taken.Writes};
@@ -12,7 +12,7 @@ use osplan::Plan;
 use ostrace_text::BlockNames;
 use std::alloc::{AllocError, Global};
 
-/// Lines of a block one after another. Its title stands before them if they are its first ones.
+/// Consecutive lines of a block. If they are the first lines of the block, its title comes before them.
 #[derive(Clone, Copy)]
 pub(crate) struct Part<'a> {
     plan: &'a Plan,
@@ -22,7 +22,7 @@ pub(crate) struct Part<'a> {
 }
 
 impl<'a> Part<'a> {
-    /// A whole block.
+    /// The block of a report as one part.
     pub(crate) fn whole(plan: &'a Plan, report: &'a Report) -> Self
         ensures { part_text result ≡ block_of plan.now report.now }
     {
@@ -34,14 +34,14 @@ impl<'a> Part<'a> {
         }
     }
 
-    /// How many lines it has, without the title.
+    /// How many lines the part has, without the title.
     pub(crate) fn line_count(&self) -> usize
         ensures { result ≡ length self.now.marks.now }
     {
         self.marks.len()
     }
 
-    // So many of its lines, and the others.
+    // The first `count` lines of the part, and the others.
     fn split_at(self, count: usize) -> (Self, Self)
         requires { count ≤ length self.marks.now }
         ensures text { part_text result.0 ++ part_text result.1 ≡ part_text self.entry }
@@ -56,6 +56,7 @@ impl<'a> Part<'a> {
         (Part { marks, ..self }, rest)
     }
 
+    // Gathers the title of the block, if the part has the block's first lines.
     fn gather_title<S: Sink>(&self, out: &mut S, gathered: &mut Gathered) -> Result<(), WriteFailed>
         requires { S.failed out.old < 2 ^ 48 }
         ensures { Gathers S.taken S.failed out.old out.new gathered.old gathered.new
@@ -67,7 +68,7 @@ impl<'a> Part<'a> {
         write_ended_title(out, gathered, self.core)
     }
 
-    /// Gathers its text.
+    /// Gathers the text of the part.
     pub(crate) fn gather<S: Sink>(
         &self,
         out: &mut S,
@@ -83,6 +84,7 @@ impl<'a> Part<'a> {
     }
 }
 
+// Gathers the texts of the parts one after another.
 fn gather_parts<S: Sink>(
     out: &mut S,
     gathered: &mut Gathered,
@@ -98,7 +100,7 @@ fn gather_parts<S: Sink>(
     Ok(())
 }
 
-/// Writes the parts one after another.
+/// Writes the texts of the parts one after another.
 pub(crate) fn write_parts<S: Sink>(out: &mut S, parts: &[Part]) -> Result<(), WriteFailed>
     requires { S.failed out.old < 2 ^ 48 }
     ensures { Writes S.taken S.failed out.old out.new (parts_text parts.now) result }
@@ -108,7 +110,7 @@ pub(crate) fn write_parts<S: Sink>(out: &mut S, parts: &[Part]) -> Result<(), Wr
     gathered.send(out)
 }
 
-// Adds the parts of a block, each of so many lines.
+// Adds the parts of a block, each of at most `size` lines.
 fn push_block<'a>(parts: &mut Vec<Part<'a>>, block: Part<'a>, size: usize) -> Result<(), AllocError>
     requires { 0 < size }
     ensures { OnOk result (parts_text parts.new.items ≡
@@ -124,7 +126,7 @@ fn push_block<'a>(parts: &mut Vec<Part<'a>>, block: Part<'a>, size: usize) -> Re
     Ok(())
 }
 
-/// The parts of all blocks, each of so many lines.
+/// The parts of all blocks, each of at most `size` lines.
 pub(crate) fn parts_of<'a>(
     alloc: Global,
     plan: &'a Plan,

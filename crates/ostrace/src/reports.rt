@@ -13,6 +13,7 @@ use osbase::{CoreId, Mark, Report};
 use osplan::{Config, Plan};
 use ostrace_text::BlockNames;
 
+/// Writes the title of a core's block, with its line end.
 pub(crate) fn write_ended_title<S: Sink>(
     out: &mut S,
     gathered: &mut Gathered,
@@ -26,6 +27,7 @@ pub(crate) fn write_ended_title<S: Sink>(
     gathered.put_text(out, "\n")
 }
 
+// Writes the line of a mark, with its line end.
 #[inline]
 fn write_ended_line<S: Sink>(
     out: &mut S,
@@ -41,6 +43,7 @@ fn write_ended_line<S: Sink>(
     gathered.put_text(out, "\n")
 }
 
+/// Writes the lines of marks, each with its line end.
 pub(crate) fn write_lines<S: Sink>(
     out: &mut S,
     gathered: &mut Gathered,
@@ -57,6 +60,7 @@ pub(crate) fn write_lines<S: Sink>(
     Ok(())
 }
 
+// Gathers the blocks of the reports in their order.
 fn gather_blocks<S: Sink>(
     out: &mut S,
     gathered: &mut Gathered,
@@ -88,7 +92,7 @@ pub(crate) fn write_blocks<S: Sink>(
 }
 
 /// Writes the blocks of the reports in their order, and stops at the first write that fails: then
-/// the sink has a prefix of the text. It takes no memory.
+/// the sink has a prefix of the text. The function takes no memory.
 pub fn write_reports<S: Sink>(
     config: &Config,
     out: &mut S,

@@ -13,16 +13,16 @@ use std::alloc::Global;
 use std::thread::Threads;
 use std::{slice, thread};
 
-// So many threads make text at once, one part each.
+// How many threads make text at once, one part each.
 const PARTS: usize = 8;
 
-// A part has at least so many lines, since fewer are written sooner than a thread is started, and at most so many, so that the
-// memory of one round serves for the next.
+// The least and the most lines of a part. Fewer lines are written sooner than a thread starts. The upper limit lets the
+// memory of one round serve for the next.
 const LEAST: usize = 4096;
 
 const MOST: usize = 131_072;
 
-// For a line so many bytes of memory are taken beforehand. Most lines have fewer.
+// How many bytes of memory are taken beforehand for each line. Most lines have fewer.
 const BYTES: usize = 16;
 
 // The parts of the round at this place.
@@ -45,7 +45,7 @@ fn text_in_memory(alloc: Global, part: &Part) -> Option<Vec<u8>>
     }
 }
 
-// Writes a part's text: as it was made, or else made now.
+// Writes a part's text. If the text was not made before, it is made now.
 fn write_part<S: Sink>(out: &mut S, part: &Part, text: Option<&[u8]>) -> Result<(), WriteFailed>
     requires failed { S.failed out.old < 2 ^ 48 }
     requires text { IfSome text (λ bytes. bytes.now ≡ part_text part.now) }
@@ -57,7 +57,7 @@ fn write_part<S: Sink>(out: &mut S, part: &Part, text: Option<&[u8]>) -> Result<
     }
 }
 
-// Writes the texts of parts, of which some were made.
+// Writes the texts of the parts, some of which were made before.
 fn write_texts<S: Sink>(
     out: &mut S,
     parts: &[Part],
@@ -74,7 +74,7 @@ fn write_texts<S: Sink>(
     Ok(())
 }
 
-// Writes the parts of a round. Threads make their texts, if the system has them.
+// Writes the parts of a round. If the system has threads, these make the texts of the parts first.
 fn write_round<R: Threads + Sync, S: Sink>(
     rt: &R,
     alloc: Global,
@@ -122,9 +122,9 @@ fn line_count(reports: &[Report]) -> usize {
     count
 }
 
-/// Writes the blocks of the reports in their order, as `write_reports` does. If they have many lines together, these are made in
-/// memory first, in parts, each by a thread of its own if the system has one. A part for which there is no memory is made when it
-/// is written.
+/// Writes the blocks of the reports in their order, as `write_reports` does. If they have many lines together, these
+/// are made in memory first, in parts, each by a thread of its own if the system has one. A part for which there is no
+/// memory is made when it is written.
 pub fn write_reports_by_threads<R: Threads + Sync, S: Sink>(
     rt: &R,
     alloc: Global,

@@ -28,8 +28,8 @@ pub trait Sink {
     // How many writes failed.
     ghost failed: { Self → ℕ };
 
-    /// Takes some of the bytes from their front, and answers how many. `None`, and 0 for a text that
-    /// is not empty, is a failed write: it takes nothing and counts one more.
+    /// Takes some of the bytes from their front, and returns how many. `None`, or 0 for a text that is
+    /// not empty, is a failed write: the sink takes nothing, and `failed` is one higher.
     fn write(&mut self, bytes: &[u8]) -> Option<usize>
         requires { failed self.old < 2 ^ 48 }
         ensures bound { IfSome result (λ n. n ≤ length bytes.now) }
@@ -37,11 +37,11 @@ pub trait Sink {
         ensures failed { failed self.new ≡ count_after (failed self.old) result bytes.now };
 }
 
-/// Writes to a stream, and says of the bytes what the stream's type says.
+/// A sink over a stream. What it has taken is what the stream's type says of its contents.
 #[derive(Drop)]
 pub struct WriteSink<W> {
     pub writer: W,
-    /// How many writes failed, which a write of nothing never does: below 2^48 as long as the sink is written to.
+    /// How many writes failed. A write of no bytes that takes 0 does not fail. Below 2^48 while the sink is written to.
     pub failed: u64,
 }
 
@@ -69,7 +69,7 @@ impl<W: Write> Sink for WriteSink<W> {
     }
 }
 
-// How many bytes the stream took; `None` at an error.
+// Writes the bytes to the stream, once, and returns how many of them the stream took; `None` at an error.
 fn taken_by<W: Write>(writer: &mut W, bytes: &[u8]) -> Option<usize>
     ensures bound { IfSome result (λ n. n ≤ length bytes.now) }
     ensures taken { Appends (W.contents writer.old) (W.contents writer.new)
@@ -81,6 +81,7 @@ fn taken_by<W: Write>(writer: &mut W, bytes: &[u8]) -> Option<usize>
     }
 }
 
+// Whether a write of these bytes failed: by an error, or since it took none of them though there are some.
 fn is_failed(taken: Option<usize>, bytes: &[u8]) -> bool
     ensures { result ≡ is_failed_write taken bytes.now }
 {
@@ -99,7 +100,7 @@ pub struct MemorySink {
 }
 
 impl MemorySink {
-    /// A sink that adds to these bytes, before any write.
+    /// A new sink that holds these bytes and adds to them what is written. No write has failed yet.
     pub fn new(bytes: Vec<u8>) -> Self
         ensures given { result.bytes.items ≡ bytes.items }
         ensures count { result.failed ≡ 0 }
@@ -124,7 +125,7 @@ impl Sink for MemorySink {
     }
 }
 
-/// Writes all of the bytes, by as many writes as it takes.
+/// Writes all of the bytes, in as many writes as are needed, and stops at the first write that fails.
 pub fn write_all<S: Sink>(out: &mut S, bytes: &[u8]) -> Result<(), WriteFailed>
     requires { S.failed out.old < 2 ^ 48 }
     ensures { Writes S.taken S.failed out.old out.new bytes.now result }

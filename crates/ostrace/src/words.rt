@@ -2,8 +2,8 @@
 
 ghost use Rattle.std.specs.Prelude.{◌^◌, ◌<◌, ◌++◌, ◌∷◌, [], codes};
 ghost use Rattle.std.specs.Fmt.{decimal, signed_decimal};
-ghost use Rattle.ostrace.specs.{Taken.Writes, Gathers.Gathers, Pieces.led_text, Pieces.word_text};
-ghost use Rattle.ostrace_text.specs.Trace.{led, line_end};
+ghost use Rattle.ostrace.specs.{Taken.Writes, Gathers.Gathers, Pieces.text_after_spaces, Pieces.word_text};
+ghost use Rattle.ostrace_text.specs.Trace.{after_spaces, line_end};
 
 use crate::gathered::Gathered;
 use crate::sinks::{Sink, WriteFailed};
@@ -12,7 +12,7 @@ use itoa::Buffer;
 /// A word of a line.
 #[derive(Clone, Copy)]
 pub enum Word<'a> {
-    /// A name, or a word of the trace's own.
+    /// A name, or one of the trace's own words.
     Text(&'a str),
     /// A number without a sign.
     Whole(u32),
@@ -24,20 +24,21 @@ pub enum Word<'a> {
 
 /// Writes a text after a space.
 #[inline(always)]
-pub fn write_led_text<S: Sink>(
+pub fn write_text_after_space<S: Sink>(
     out: &mut S,
     gathered: &mut Gathered,
     text: &str,
 ) -> Result<(), WriteFailed>
     requires { S.failed out.old < 2 ^ 48 }
     ensures { Gathers S.taken S.failed out.old out.new gathered.old gathered.new
-        (led (text.now ∷ [])) result }
+        (after_spaces (text.now ∷ [])) result }
 {
     gathered.put_pair(out, "", text)
 }
 
+// Writes a number below 10 after a space.
 #[inline(always)]
-fn write_led_digit<S: Sink>(
+fn write_digit_after_space<S: Sink>(
     out: &mut S,
     gathered: &mut Gathered,
     digit: u8,
@@ -45,54 +46,56 @@ fn write_led_digit<S: Sink>(
     requires sink { S.failed out.old < 2 ^ 48 }
     requires digit { digit < 10 }
     ensures { Gathers S.taken S.failed out.old out.new gathered.old gathered.new
-        (led (decimal digit ∷ [])) result }
+        (after_spaces (decimal digit ∷ [])) result }
 {
     gathered.put(out, &[b' ', b'0' + digit])
 }
 
 /// Writes a number after a space.
 #[inline(always)]
-pub fn write_led_whole<S: Sink>(
+pub fn write_whole_after_space<S: Sink>(
     out: &mut S,
     gathered: &mut Gathered,
     number: u32,
 ) -> Result<(), WriteFailed>
     requires { S.failed out.old < 2 ^ 48 }
     ensures { Gathers S.taken S.failed out.old out.new gathered.old gathered.new
-        (led (decimal number ∷ [])) result }
+        (after_spaces (decimal number ∷ [])) result }
 {
     if number < 10 {
-        return write_led_digit(out, gathered, number as u8);
+        return write_digit_after_space(out, gathered, number as u8);
     }
-    write_led_digits(out, gathered, number)
+    write_digits_after_space(out, gathered, number)
 }
 
+// Writes a number of any size after a space. The function is not inlined.
 #[inline(never)]
-fn write_led_digits<S: Sink>(
+fn write_digits_after_space<S: Sink>(
     out: &mut S,
     gathered: &mut Gathered,
     number: u32,
 ) -> Result<(), WriteFailed>
     requires { S.failed out.old < 2 ^ 48 }
     ensures { Gathers S.taken S.failed out.old out.new gathered.old gathered.new
-        (led (decimal number ∷ [])) result }
+        (after_spaces (decimal number ∷ [])) result }
 {
-    write_led_text(out, gathered, Buffer::new().format(number))
+    write_text_after_space(out, gathered, Buffer::new().format(number))
 }
 
-/// Writes a number with its sign after a space.
-pub fn write_led_signed<S: Sink>(
+/// Writes a number after a space, with `-` where it is below 0.
+pub fn write_signed_after_space<S: Sink>(
     out: &mut S,
     gathered: &mut Gathered,
     number: i64,
 ) -> Result<(), WriteFailed>
     requires { S.failed out.old < 2 ^ 48 }
     ensures { Gathers S.taken S.failed out.old out.new gathered.old gathered.new
-        (led (signed_decimal number ∷ [])) result }
+        (after_spaces (signed_decimal number ∷ [])) result }
 {
-    write_led_text(out, gathered, Buffer::new().format(number))
+    write_text_after_space(out, gathered, Buffer::new().format(number))
 }
 
+// Writes a number, without a space before it.
 fn write_decimal<S: Sink>(
     out: &mut S,
     gathered: &mut Gathered,
@@ -105,15 +108,15 @@ fn write_decimal<S: Sink>(
     gathered.put_text(out, Buffer::new().format(number))
 }
 
-/// Writes a variable after a space.
-pub fn write_led_variable<S: Sink>(
+/// Writes a variable after a space: `v` and its number.
+pub fn write_variable_after_space<S: Sink>(
     out: &mut S,
     gathered: &mut Gathered,
     number: u8,
 ) -> Result<(), WriteFailed>
     requires { S.failed out.old < 2 ^ 48 }
     ensures { Gathers S.taken S.failed out.old out.new gathered.old gathered.new
-        (led ((codes "v" ++ decimal number) ∷ [])) result }
+        (after_spaces ((codes "v" ++ decimal number) ∷ [])) result }
 {
     gathered.put_text(out, " v")?;
     write_decimal(out, gathered, number)
@@ -121,42 +124,42 @@ pub fn write_led_variable<S: Sink>(
 
 /// Writes a word after a space.
 #[inline(always)]
-pub fn write_led_word<S: Sink>(
+pub fn write_word_after_space<S: Sink>(
     out: &mut S,
     gathered: &mut Gathered,
     word: Word,
 ) -> Result<(), WriteFailed>
     requires { S.failed out.old < 2 ^ 48 }
     ensures { Gathers S.taken S.failed out.old out.new gathered.old gathered.new
-        (led (word_text word.entry ∷ [])) result }
+        (after_spaces (word_text word.entry ∷ [])) result }
 {
     match word {
-        Word::Text(text) => write_led_text(out, gathered, text),
-        Word::Whole(number) => write_led_whole(out, gathered, number),
-        Word::Signed(number) => write_led_signed(out, gathered, number),
-        Word::Variable(number) => write_led_variable(out, gathered, number),
+        Word::Text(text) => write_text_after_space(out, gathered, text),
+        Word::Whole(number) => write_whole_after_space(out, gathered, number),
+        Word::Signed(number) => write_signed_after_space(out, gathered, number),
+        Word::Variable(number) => write_variable_after_space(out, gathered, number),
     }
 }
 
 /// Writes words, each after a space.
 #[inline(always)]
-pub fn write_led<S: Sink>(
+pub fn write_after_space<S: Sink>(
     out: &mut S,
     gathered: &mut Gathered,
     words: &[Word],
 ) -> Result<(), WriteFailed>
     requires { S.failed out.old < 2 ^ 48 }
     ensures { Gathers S.taken S.failed out.old out.new gathered.old gathered.new
-        (led_text words.now) result }
+        (text_after_spaces words.now) result }
 {
     for word in words {
-        write_led_word(out, gathered, *word)?;
+        write_word_after_space(out, gathered, *word)?;
     }
     Ok(())
 }
 
 /// Writes a first word, and other words each after a space.
-// Put into its callers, where the words are known, it is as fast as a call for each of them.
+// Inlined into its callers, where the words are known, it is as fast as a call for each word.
 #[inline(always)]
 pub fn write_spaced<S: Sink>(
     out: &mut S,
@@ -166,12 +169,13 @@ pub fn write_spaced<S: Sink>(
 ) -> Result<(), WriteFailed>
     requires { S.failed out.old < 2 ^ 48 }
     ensures { Gathers S.taken S.failed out.old out.new gathered.old gathered.new
-        (first.now ++ led_text others.now) result }
+        (first.now ++ text_after_spaces others.now) result }
 {
     gathered.put_text(out, first)?;
-    write_led(out, gathered, others)
+    write_after_space(out, gathered, others)
 }
 
+// Writes a first word, other words each after a space, and a line end.
 fn write_words<S: Sink>(
     out: &mut S,
     gathered: &mut Gathered,
@@ -180,7 +184,7 @@ fn write_words<S: Sink>(
 ) -> Result<(), WriteFailed>
     requires { S.failed out.old < 2 ^ 48 }
     ensures { Gathers S.taken S.failed out.old out.new gathered.old gathered.new
-        ((first.now ++ led_text others.now) ++ line_end) result }
+        ((first.now ++ text_after_spaces others.now) ++ line_end) result }
 {
     write_spaced(out, gathered, first, others)?;
     gathered.put_text(out, "\n")
@@ -193,7 +197,7 @@ pub fn write_ended_words<S: Sink>(
     others: &[Word],
 ) -> Result<(), WriteFailed>
     requires { S.failed out.old < 2 ^ 48 }
-    ensures { Writes S.taken S.failed out.old out.new ((first.now ++ led_text others.now) ++ line_end) result }
+    ensures { Writes S.taken S.failed out.old out.new ((first.now ++ text_after_spaces others.now) ++ line_end) result }
 {
     let mut gathered = Gathered::new();
     write_words(out, &mut gathered, first, others)?;

@@ -1,5 +1,5 @@
--- If two configurations have the same cores among those whose objects a mark names, its line is the same by both. The check makes a case of each mark and
--- each call, so a new one needs no line here.
+-- If two configurations agree on the cores whose objects a mark names, the mark's line is the same in both. The check
+-- makes a case of each mark and each call, so a new one needs no line here.
 use native.Mathlib.Omega.{arith}
 use Rattle.std.proofs.Common.{◌≡◌, Bool, true, List, [], ◌∷◌, ◌++◌, ℕ, refl, ap, ◌∙◌}
 use Rattle.std.specs.List.{list_all}
@@ -18,7 +18,7 @@ module _ (p q : Plan) (test : CoreId → Bool) (same : (core : CoreId) → test 
   words-same : (m : Mark) → names_only test m ≡ true → words_of p m ≡ words_of q m
   words-same m n = grind (arith, call-same, runner-same)
 
-  -- So have lists of such marks.
+  -- The same holds for lists of such marks.
   pub lines-same : (marks : List Mark) → list_all (names_only test) marks ≡ true → lines_of p marks ≡ lines_of q marks
   lines-same [] all = refl
   lines-same (m ∷ ms) all =

@@ -17,7 +17,7 @@ variable_name x = codes "v" ++ decimal x.index
 abbrev pub call_words : Plan → RemoteCall → List (List ℕ)
 call_words plan call = forms.call_words (name_of plan) call
 
--- A value comes with E_OK.
+-- The words of a value, which comes with E_OK.
 abbrev pub value_words : ℤ → List (List ℕ)
 value_words n = status_name EOk ∷ signed_decimal n ∷ []
 
@@ -61,13 +61,13 @@ words_of plan (Mark.VariableSet runner variable value) =
 words_of plan (Mark.Halted core status) = codes "halt" ∷ decimal core.number ∷ status_name status ∷ []
 
 -- Words, each after a space.
-abbrev pub led : List (List ℕ) → List ℕ
-led words = flat_map (λ word. codes " " ++ word) words
+abbrev pub after_spaces : List (List ℕ) → List ℕ
+after_spaces words = flat_map (λ word. codes " " ++ word) words
 
 -- Words divided by one space.
 abbrev pub spaced : List (List ℕ) → List ℕ
 spaced [] = []
-spaced (word ∷ words) = word ++ led words
+spaced (word ∷ words) = word ++ after_spaces words
 
 -- The line of a mark, without its end. [own]
 abbrev pub line_of : Plan → Mark → List ℕ

@@ -9,7 +9,7 @@ use osbase::{AlarmRef, CoreId, IsrRef, ObjectKind, Place, Runner, TableRef, Task
 use osplan::{Core, Plan};
 use std::marker::Model;
 
-/// The names of a plan's objects, with one core at hand: its objects are named without a search for it.
+/// The names of a plan's objects. One core is at hand: its objects are named without a search for the core.
 #[derive(Drop)]
 pub struct BlockNames<'a> {
     plan: &'a Plan,
@@ -41,6 +41,7 @@ impl<'a> BlockNames<'a> {
         }
     }
 
+    // The core of this number, without a search if it is the core at hand.
     #[inline(always)]
     fn core(&self, id: CoreId) -> Option<&Core>
         ensures { option_copied result ≡ core_of self.now id }
@@ -111,6 +112,7 @@ impl<'a> BlockNames<'a> {
     }
 }
 
+// The name of the core's task of this index, or the empty text.
 #[inline(always)]
 fn task_in(core: &Core, index: u8) -> &str
     ensures { result.now ≡ name_in ObjectKind.Task core.now index }
@@ -121,6 +123,7 @@ fn task_in(core: &Core, index: u8) -> &str
     }
 }
 
+// The name of the core's ISR of this index, or the empty text.
 #[inline]
 fn isr_in(core: &Core, index: u8) -> &str
     ensures { result.now ≡ name_in ObjectKind.Isr core.now index }
@@ -131,6 +134,7 @@ fn isr_in(core: &Core, index: u8) -> &str
     }
 }
 
+// The name of the core's alarm of this index, or the empty text.
 #[inline]
 fn alarm_in(core: &Core, index: u8) -> &str
     ensures { result.now ≡ name_in ObjectKind.Alarm core.now index }
@@ -141,6 +145,7 @@ fn alarm_in(core: &Core, index: u8) -> &str
     }
 }
 
+// The name of the core's schedule table of this index, or the empty text.
 #[inline]
 fn table_in(core: &Core, index: u8) -> &str
     ensures { result.now ≡ name_in ObjectKind.Table core.now index }

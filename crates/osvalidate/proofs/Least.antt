@@ -1,4 +1,4 @@
--- Of a configuration's text the first test that fails has the least fault.
+-- The first test of a configuration's text that fails has the least fault.
 use Rattle.std.proofs.Common.{◌≡◌, Some, arith}
 use Rattle.osplan.specs.{declared.faults.ConfFault.ConfFault, Fault.IsLeast, Fault.failing, Fault.first_fault}
 use Rattle.osvalidate.specs.{Words.ConfigText, Check.tests_of}

@@ -1,4 +1,4 @@
--- The numbers of a text within its limits: how many jobs there are, how the points of tables ascend, and how many letters alarms and tables post.
+-- Within the limits, there are few jobs, and alarms and tables post few letters. Also the offsets of ascending points.
 use Rattle.std.proofs.Common.{◌≡◌, ℕ, ◌*◌, ◌≤◌, true, sum_by, List, [], ◌∷◌, length, unwrap_or, Option, arith, suc, ◌-◌, ◌<◌, map, Some, is_some, refl, ap, ◌∙◌}
 use Rattle.std.specs.List.{list_all, slice_get}
 use Rattle.std.proofs.{lemmas.Bool.Decides.nat_tests, lemmas.List.length-map, lemmas.List.Folds.fold-map, lemmas.List.Folds.list_all-map, lemmas.List.Sums.sum_by-cons, lemmas.List.Sums.count_by-le-length, lemmas.Bool.and_from, lemmas.Bool.leb-true}
@@ -25,7 +25,7 @@ few_jobs (task ∷ tasks) h =
 
 -- ---- lists of tests
 
--- the test of each element's numbers, and how many there are
+-- a test of each element's numbers, and the number of elements
 pub ruleset mapped = (list_all-map, length-map, fold-map)
 
 -- ---- the offsets of a schedule table's points, which ascend
@@ -40,7 +40,7 @@ last-at (point ∷ next ∷ points) last is =
 before : (a b : Option ℕ) → is_before a b ≡ true → (is_some a ≡ true) × (unwrap_or a 0 < unwrap_or b 0)
 before a b h = (grind (arith, nat_tests), grind (arith, nat_tests))
 
--- Each is there, and none is past the last.
+-- Each offset is given, and none is past the last.
 low : (most : ℕ) (number : Option ℕ) → is_some number ≡ true → unwrap_or number 0 ≤ most → is_between 0 most number ≡ true
 low most number there h = grind (arith, nat_tests)
 
@@ -56,7 +56,7 @@ offsets-low most (point ∷ next ∷ points) up last =
     let first = first-most point (next ∷ points) up in
     and_from _ _ (low most point.offset (before point.offset next.offset (grind arith)).0 (omega (arith, first, last))) (offsets-low most (next ∷ points) (grind arith) last)
 
--- ---- what alarms and tables post at once, which is little
+-- ---- alarms and tables post few letters at once
 
 greater-least : (a b most : ℕ) → a ≤ most → b ≤ most → greater a b ≤ most
 greater-least a b most first second = grind arith

@@ -1,4 +1,4 @@
--- What a reading finds of the operations of a script, and of an action.
+-- What a reading finds right about the operations of a script, and about an action.
 use Rattle.std.proofs.Common.{◌≡◌, ℕ, ◌&&◌, nat_le, Bool, true, false, cond, List, [], ◌∷◌, length, map, Some, None, option_map, unwrap_or, refl, sym, ap, subst, ◌∙◌, arith}
 use Rattle.std.specs.List.{list_all}
 use Rattle.osvalidate.specs.{Words.CoreId, Words.Declaration, Words.Op, declared.verdicts.Judged.Judged, declared.verdicts.Verdict.Verdict, Check.is_operation_local, Operation.is_operation, Operation.is_operation_known, Operation.op_of, Verdict.action_verdict, Verdict.judged_op}
@@ -26,7 +26,7 @@ module _ (objects : List Declaration) (id : CoreId) where
   abbrev pub judged : List (List ℕ) → List (Judged Op)
   judged texts = map (judged_op objects id) texts
 
-  -- Each text is judged, where there are few, and none where there are too many.
+  -- If there are few texts, each is judged. If there are too many, none is.
   pub judged-some : (texts : List (List ℕ)) (parts : List (Judged Op)) → each_of_few 256 (λ text. Some (judged_op objects id text)) texts ≡ Some parts → (nat_le (length texts) 256 ≡ true) × (parts ≡ judged texts)
   judged-some texts parts e = some-few (nat_le (length texts) 256) (judged texts) parts (rw (each-made (judged_op objects id) texts) at e)
 
@@ -74,7 +74,7 @@ module _ (objects : List Declaration) where
   abbrev acting : Bool → Verdict
   acting masked = record { known = true; near = true; masked = masked; formed = true }
 
-  -- What is right of a text that means an operation which is an action.
+  -- The verdict on a text whose operation is an action.
   pub action-acts : (text : List ℕ) (op : Op) → op_of_text (place_of objects) text ≡ Some op → is_action_op op ≡ true → acting (rows.has_masks op) ≡ action_verdict objects text
   action-acts text op e acts =
       let place = place_of objects in

@@ -5,10 +5,10 @@ use Rattle.osvalidate.specs.Words.{ConfigText, CoreText, ObjectKind}
 use Rattle.osplan.specs.{declared.plans.TheConstants.COMMON, declared.plans.TheConstants.KINDS, Limits.most_cores, Limits.most_of}
 use Rattle.osschema.specs.Shape.{common_in, objects_in}
 
--- Of a core no more of each kind than it may have.
+-- The core has no more objects of each kind than it may have.
 abbrev pub is_core_few : CoreText → Bool
 is_core_few core = list_all (λ (kind : ObjectKind). nat_le (length (objects_in kind core)) (most_of kind)) KINDS
 
--- And no more than there may be of what cores have in common, and of cores.
+-- The text has no more modes, spinlocks and cores than it may have, and each core no more objects of each kind.
 abbrev pub are_objects_few : ConfigText → Bool
 are_objects_few t = list_all (λ (kind : ObjectKind). nat_le (length (common_in kind t)) (most_of kind)) COMMON && nat_le (length t.cores) most_cores && list_all is_core_few t.cores

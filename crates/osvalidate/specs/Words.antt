@@ -1,4 +1,4 @@
--- The structs of a configuration and those of its text, for all that is said of both.
+-- The structs of a configuration and of its text, under one name for all definitions that use both.
 pub use Rattle.osbase.specs.declared.items.CoreMode.{CoreMode}
 pub use Rattle.osbase.specs.declared.messages.RemoteCall.{RemoteCall}
 pub use Rattle.osbase.specs.declared.objects.Object.{Object}

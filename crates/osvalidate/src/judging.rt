@@ -1,4 +1,4 @@
-//! The operations and actions of a text, and what is right of them.
+//! The operations and actions of a text, and what is right about them.
 
 ghost use Rattle.std.specs.Prelude.{◌≡◌, IfOk, Some, length, map, nat_le};
 ghost use Rattle.std.specs.List.{list_all, list_any};
@@ -21,13 +21,15 @@ use osschema::Objects;
 use ossyntax::{AnyName, Places, has_masks, is_action, is_known, op_of_text, references_of_text};
 use std::alloc::{AllocError, Global};
 
-// Whether the text is an operation in form and in range.
+// Whether the text is an operation, well-formed and in range.
 fn is_operation(text: &str) -> bool
     ensures { result ≡ is_operation text.now }
 {
     op_of_text(&AnyName, text).is_some()
 }
 
+// Whether the operation names no object of another core than `id`, if it may name only objects of its own core. An
+// operation that is not well-formed (its numbers may be out of range), or has an unknown name, passes.
 fn is_operation_local(objects: &Objects, id: CoreId, text: &str) -> bool
     ensures { result ≡ is_operation_local objects.now.declared id text.now }
 {
@@ -37,7 +39,7 @@ fn is_operation_local(objects: &Objects, id: CoreId, text: &str) -> bool
     }
 }
 
-// Whether the operation lets its job go on within a script of so many operations, or past the last.
+// Whether the operation, if it is a jump, goes to one of the script's `count` operations, or just past the last.
 fn goes_within(count: usize, op: Op) -> bool
     ensures { result ≡ goes_within count op }
 {
@@ -47,25 +49,28 @@ fn goes_within(count: usize, op: Op) -> bool
     }
 }
 
+// Whether each jump of the script goes to one of the script's operations, or just past the last.
 fn is_jumping_within(script: &[Op]) -> bool
     ensures { result ≡ is_jumping_within script.now }
 {
     script.iter().all(|op| goes_within(script.len(), *op))
 }
 
-fn are_near(id: CoreId, script: &[Op]) -> bool
+// Whether each operation of the script that may name only objects of its own core names none of another core than `id`.
+fn are_ops_local(id: CoreId, script: &[Op]) -> bool
     ensures { result ≡ list_all (limits.is_local_to id) script.now }
 {
     script.iter().all(|op| is_local_to(id, *op))
 }
 
+// Whether each mask in the script has at least one event.
 fn have_events(script: &[Op]) -> bool
     ensures { result ≡ list_all has_events script.now }
 {
     script.iter().all(|op| op.has_masks())
 }
 
-// Reads an operation that has no fault of a name or of its form.
+// Reads an operation whose form and names have no fault.
 #[derive(Clone, Copy)]
 struct OpReader<'o, 'e> {
     objects: &'o Objects<'e>,
@@ -102,6 +107,7 @@ impl PartReader<Judged<Op>> for OpJudge<'_, '_> {
     }
 }
 
+// The operations of these parts.
 fn ops_of(alloc: Global, parts: &[Judged<Op>]) -> Result<Vec<Op>, AllocError>
     ensures { IfOk result (λ ops. ops.items ≡ map (λ (part : JudgedValue OpValue). part.value) parts.now) }
 {
@@ -112,7 +118,7 @@ fn ops_of(alloc: Global, parts: &[Judged<Op>]) -> Result<Vec<Op>, AllocError>
     Ok(ops)
 }
 
-// What is right of all parts.
+// The verdict on all parts together.
 fn verdict_of_parts(parts: &[Judged<Op>]) -> Verdict
     ensures { result ≡ each (λ (part : JudgedValue OpValue). part.verdict) parts.now }
 {
@@ -123,7 +129,8 @@ fn verdict_of_parts(parts: &[Judged<Op>]) -> Verdict
     verdict
 }
 
-// The operations of a script that has too many, or not all of which mean one.
+// The operations of a script, and the verdict on the script. A part that means no operation becomes `Work`. `Limit` if
+// there are too many parts; `NoMemory` where memory runs out.
 fn judge_parts(
     alloc: Global,
     objects: &Objects,
@@ -147,8 +154,9 @@ fn judge_parts(
     }
 }
 
-/// The operations of a script, and what is right of them. `Limit` where there are too many. Where each of them means
-/// one, as in a text without a fault, it is read once, straight to the places of its names.
+/// The operations of a task's script, and the verdict on the script. A part that means no operation becomes `Work`.
+/// `Limit` if there are too many parts; `NoMemory` where memory runs out. If each part means an operation, the script
+/// is read only once.
 pub fn judge_script(
     alloc: Global,
     objects: &Objects,
@@ -161,7 +169,7 @@ pub fn judge_script(
         Ok(ops) => {
             let verdict = Verdict {
                 known: true,
-                near: are_near(core, ops.as_slice()),
+                near: are_ops_local(core, ops.as_slice()),
                 masked: have_events(ops.as_slice()),
                 formed: is_jumping_within(ops.as_slice()),
             };
@@ -175,13 +183,15 @@ pub fn judge_script(
     }
 }
 
+// Whether an operation of the script gets or releases a resource.
 fn uses_resource(script: &[Op]) -> bool
     ensures { result ≡ list_any uses_resource script.now }
 {
     script.iter().any(|op| op.uses_resource())
 }
 
-/// The same of an ISR's script, which takes and gives back no resource.
+/// The operations of an ISR's script, and the verdict on the script. The script is read and judged as a task's, but may
+/// not get or release a resource. `Limit` if there are too many parts; `NoMemory` where memory runs out.
 pub fn judge_isr_script(
     alloc: Global,
     objects: &Objects,
@@ -198,18 +208,21 @@ pub fn judge_isr_script(
     })
 }
 
+// If the text is a well-formed action: whether the name in it is that of a task. Any other text passes.
 fn is_action_known(objects: &Objects, text: &str) -> bool
     ensures { result ≡ is_action_known objects.now.declared text.now }
 {
     !is_action(text) || is_known(objects, text)
 }
 
+// If the text is a well-formed action: whether its mask (if it has one) is in its range. Any other text passes.
 fn is_action_masked(text: &str) -> bool
     ensures { result ≡ is_action_masked text.now }
 {
     !is_action(text) || has_masks(text)
 }
 
+// A filler for the action where a text means none. It is never done.
 fn any_action() -> RemoteCall
     ensures { result ≡ any_action_value }
 {
@@ -217,7 +230,7 @@ fn any_action() -> RemoteCall
     RemoteCall::ActivateTask(TaskRef::at(Place { core, index: 0 }))
 }
 
-// A text that means no action.
+// The verdict on a text that means no action, with `any_action` as the value.
 fn judge_other(objects: &Objects, text: &str) -> Judged<RemoteCall>
     ensures value { result.value ≡ any_action_value }
     ensures verdict { result.verdict ≡ action_verdict objects.now.declared text.now }
@@ -233,7 +246,8 @@ fn judge_other(objects: &Objects, text: &str) -> Judged<RemoteCall>
     }
 }
 
-/// The action that a text means, and what is right of it. An action may name any core's task.
+/// The action that a text means, `any_action` if it means none, and the verdict on the text. An action may name any
+/// core's task.
 pub fn judge_action(objects: &Objects, text: &str) -> Judged<RemoteCall>
     ensures value { result.value ≡ action_of objects.now.declared text.now }
     ensures verdict { result.verdict ≡ action_verdict objects.now.declared text.now }
@@ -255,7 +269,8 @@ pub fn judge_action(objects: &Objects, text: &str) -> Judged<RemoteCall>
     }
 }
 
-/// The counter of a name, and whether there is one, and on this core.
+/// The counter of this name, and the verdict on it: whether it exists and is on this core. If it does not exist,
+/// counter 0 of this core fills its place.
 pub fn judge_counter(objects: &Objects, core: CoreId, name: &str) -> Judged<CounterRef>
     ensures value { result.value ≡ counter_ref objects.now.declared core name.now }
     ensures verdict { result.verdict ≡ counter_verdict objects.now.declared core name.now }

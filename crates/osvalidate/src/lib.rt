@@ -1,8 +1,8 @@
-//! Which fault a configuration's text has, past its shape.
+//! Which fault a configuration's text has, if it has the shape of a configuration.
 //!
-//! A table of tests in ascending order of their faults, each defined apart from the others. So the fault that is
-//! answered is the one of smallest number. What is asked of names, masks and operations is judged where they are read,
-//! part by part (`Judged`), so that the parts of a text without a fault are there for its plan.
+//! The tests are a table in ascending order of their faults, each defined apart from the others. So the fault that is
+//! returned is the one of smallest number. Names, masks and operations are judged part by part, where they are
+//! read (`Judged`). So the parts of a text without a fault are ready for its plan.
 #![tactic(auto)]
 
 mod checks;

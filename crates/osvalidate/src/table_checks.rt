@@ -1,11 +1,11 @@
-//! What is tested of the schedule tables of a configuration's text.
+//! The tests of the schedule tables of a configuration's text.
 
 ghost use Rattle.std.specs.Prelude.{◌≡◌, ◌<◌, ◌^◌, map, nat_le, true, unwrap_or};
 ghost use Rattle.std.specs.{List.list_all, Option.option_map_or};
 ghost use Rattle.osschema.specs.{declared.table_shapes.TableText.TableText as Table, Declarations.declared_sizes, Declarations.place_alone};
 ghost use Rattle.osplan.specs.Limits.{are_alarms_within, are_ascending, are_tables_within, delays, is_before, is_delay, is_final, is_table_timed, is_table_within, is_timed_by, last_offset, most_posted};
 ghost use Rattle.osvalidate.specs.Posted.{most_posts_of_table, is_posting, posted_at, posted_by_alarms, posted_by_tables, most_posts_per_tick};
-ghost use Rattle.osvalidate.specs.Check.{alarm_sizes, is_mode_known, point_sizes, table_modes, table_sizes, table_times};
+ghost use Rattle.osvalidate.specs.Check.{alarm_sizes, is_mode_known, point_sizes, table_modes, table_sizes, bare_table_sizes};
 
 use crate::checks::are_modes_known;
 use osbase::{CoreId, ObjectKind, POSTED, Place, TABLES};
@@ -13,12 +13,14 @@ use oscript::action_of_op;
 use osschema::{AlarmText, CoreText, Declaration, Objects, PointText, TableText, number_id};
 use ossyntax::{Places, op_of_text};
 
+// The offset of a point, or 0 if it is below 0.
 fn offset_of(point: &PointText) -> u64
     ensures { result ≡ unwrap_or point.now.offset 0 }
 {
     point.offset.unwrap_or(0)
 }
 
+// The offset of the last point; 0 if there is no point, or if the offset is below 0.
 fn last_offset(points: &[PointText]) -> u64
     ensures { result ≡ last_offset (map point_sizes points.now) }
 {
@@ -28,6 +30,7 @@ fn last_offset(points: &[PointText]) -> u64
     }
 }
 
+// Whether the table is within its limits. The counter that it names limits its autostart.
 fn is_table_within(objects: &Objects, table: &TableText) -> bool
     ensures { result ≡ is_table_within (table_sizes objects.now.declared table.now) }
 {
@@ -40,7 +43,7 @@ fn is_each_table_within(objects: &Objects, tables: &[TableText]) -> bool
     tables.iter().all(|table| is_table_within(objects, table))
 }
 
-/// Whether a core's tables are within their limits.
+/// Whether each table of a core is within its limits, and there are not too many.
 #[tactic(auto, using(crate::proofs::Numbers::mapped))]
 pub fn are_tables_within(objects: &Objects, tables: &[TableText]) -> bool
     ensures { result ≡ are_tables_within (map (table_sizes objects.now.declared) tables.now) }
@@ -48,8 +51,8 @@ pub fn are_tables_within(objects: &Objects, tables: &[TableText]) -> bool
     tables.len() <= TABLES && is_each_table_within(objects, tables)
 }
 
-// The objects whose names no other object has. What a text posts is judged before it is known whether names
-// stand twice.
+// The objects whose names no other object has. What a text posts is judged before it is known whether a name
+// occurs twice.
 #[derive(Clone, Copy)]
 struct Alone<'o, 'e> {
     objects: &'o Objects<'e>,
@@ -63,6 +66,7 @@ impl Places for Alone<'_, '_> {
     }
 }
 
+// Whether the text is an action on a task of another core than `id`, and no other object has the task's name.
 fn is_posting(objects: &Objects, id: CoreId, text: &str) -> bool
     ensures { result ≡ is_posting objects.now.declared id text.now }
 {
@@ -75,6 +79,7 @@ fn is_posting(objects: &Objects, id: CoreId, text: &str) -> bool
     }
 }
 
+// How many actions of the point post a letter to another core.
 fn posted_at(objects: &Objects, id: CoreId, point: &PointText) -> usize
     ensures { result ≡ posted_at objects.now.declared id point.now }
 {
@@ -86,6 +91,7 @@ fn posted_at(objects: &Objects, id: CoreId, point: &PointText) -> usize
         .count()
 }
 
+// The greatest number of letters that a point of the table posts.
 fn most_posts_of_table(objects: &Objects, id: CoreId, table: &TableText) -> usize
     ensures { result ≡ most_posts_of_table objects.now.declared id table.now }
 {
@@ -99,6 +105,7 @@ fn most_posts_of_table(objects: &Objects, id: CoreId, table: &TableText) -> usiz
     greatest
 }
 
+// How many of these alarms post a letter to another core.
 fn posted_by_alarms(objects: &Objects, id: CoreId, alarms: &[AlarmText]) -> usize
     ensures { result ≡ posted_by_alarms objects.now.declared id alarms.now }
 {
@@ -108,6 +115,7 @@ fn posted_by_alarms(objects: &Objects, id: CoreId, alarms: &[AlarmText]) -> usiz
         .count()
 }
 
+// How many letters these tables may post at once: for each table, the most that one of its points posts.
 fn posted_by_tables(objects: &Objects, id: CoreId, tables: &[TableText]) -> usize
     requires { posted_by_tables objects.now.declared id tables.now < 2 ^ 64 }
     ensures { result ≡ posted_by_tables objects.now.declared id tables.now }
@@ -118,8 +126,8 @@ fn posted_by_tables(objects: &Objects, id: CoreId, tables: &[TableText]) -> usiz
         .sum()
 }
 
-/// Whether the core's alarms and tables add no more letters at once than its outbox has room for. Judged of alarms and
-/// tables within their limits, so that the sum is small.
+/// Whether the core's alarms and tables post no more letters at once than they may. The alarms and tables must be
+/// within their limits, so that the sum is small.
 pub fn are_posted_few(objects: &Objects, core: &CoreText) -> bool
     requires alarms { are_alarms_within (map (alarm_sizes objects.now.declared) core.now.alarms) ≡ true }
     requires tables { are_tables_within (map (table_sizes objects.now.declared) core.now.tables) ≡ true }
@@ -131,7 +139,7 @@ pub fn are_posted_few(objects: &Objects, core: &CoreText) -> bool
     by_alarms + by_tables <= POSTED
 }
 
-/// Whether the modes in which the table is autostarted are there.
+/// Whether the modes in which the table is autostarted exist.
 pub fn are_table_modes_known(objects: &Objects, table: &TableText) -> bool
     ensures { result ≡ list_all (is_mode_known objects.now.declared) (table_modes table.now) }
 {
@@ -150,6 +158,7 @@ fn is_before(point: &PointText, next: &PointText) -> bool
     }
 }
 
+// Whether no offset of these points is below 0, and each is greater than the one before.
 fn are_ascending(points: &[PointText]) -> bool
     ensures { result ≡ are_ascending (map point_sizes points.now) }
 {
@@ -167,12 +176,14 @@ fn are_ascending(points: &[PointText]) -> bool
     true
 }
 
+// Whether the counter admits the delay: it is at least the counter's least cycle, and at most its greatest value.
 fn is_delay(counter: &Declaration, delay: u64) -> bool
     ensures { result ≡ is_delay (declared_sizes counter.now) delay }
 {
     counter.min.unwrap_or(0) <= delay && delay <= counter.max.unwrap_or(0)
 }
 
+// Whether the counter admits each delay from a point to the next.
 fn are_delays(counter: &Declaration, points: &[PointText]) -> bool
     ensures { result ≡ list_all (is_delay (declared_sizes counter.now)) (delays (map point_sizes points.now)) }
 {
@@ -190,16 +201,20 @@ fn are_delays(counter: &Declaration, points: &[PointText]) -> bool
     true
 }
 
+// Whether the counter admits the delay from the last point to the end of the table's duration. If the table does not
+// repeat, this delay may be less than the counter's least cycle.
 fn is_final(counter: &Declaration, table: &TableText) -> bool
-    ensures { result ≡ is_final (table_times table.now) (declared_sizes counter.now) }
+    ensures { result ≡ is_final (bare_table_sizes table.now) (declared_sizes counter.now) }
 {
     let last = last_offset(table.points.as_slice());
     let delay = table.duration.unwrap_or(0).saturating_sub(last);
     delay <= counter.max.unwrap_or(0) && (!table.repeating || is_delay(counter, delay))
 }
 
+// Whether the counter admits the first point's offset, which may be 0, the delays between the points, and the delay
+// from the last point to the end of the table's duration.
 fn is_timed_by(counter: &Declaration, table: &TableText) -> bool
-    ensures { result ≡ is_timed_by (table_times table.now) (declared_sizes counter.now) }
+    ensures { result ≡ is_timed_by (bare_table_sizes table.now) (declared_sizes counter.now) }
 {
     let first = table.first_offset();
     (first == 0 || is_delay(counter, first))
@@ -207,8 +222,10 @@ fn is_timed_by(counter: &Declaration, table: &TableText) -> bool
         && is_final(counter, table)
 }
 
+// Whether the counter that the table names admits the delays before, between and after the table's points. Any delays
+// pass unless exactly one object has the name and is a counter.
 fn is_timed(objects: &Objects, table: &TableText) -> bool
-    ensures { result ≡ option_map_or (is_timed_by (table_times table.now)) (table_sizes objects.now.declared table.now).counter true }
+    ensures { result ≡ option_map_or (is_timed_by (bare_table_sizes table.now)) (table_sizes objects.now.declared table.now).counter true }
 {
     match objects.counter(table.counter.as_str()) {
         Some(counter) => is_timed_by(counter, table),
@@ -216,6 +233,8 @@ fn is_timed(objects: &Objects, table: &TableText) -> bool
     }
 }
 
+// Whether the table's points come in order, none past the table's duration. The table's counter, if it is known, must
+// admit the delays before, between and after them.
 fn is_table_timed(objects: &Objects, table: &TableText) -> bool
     ensures { result ≡ is_table_timed (table_sizes objects.now.declared table.now) }
 {
@@ -225,7 +244,8 @@ fn is_table_timed(objects: &Objects, table: &TableText) -> bool
         && is_timed(objects, table)
 }
 
-/// Whether the points of each table come in order, with delays that its counter admits.
+/// Whether the points of each table come in order, none past the table's duration. The table's counter, if it is known,
+/// must admit the delays before, between and after them.
 pub fn are_tables_timed(objects: &Objects, tables: &[TableText]) -> bool
     ensures { result ≡ list_all (λ (table : Table). is_table_timed (table_sizes objects.now.declared table)) tables.now }
 {

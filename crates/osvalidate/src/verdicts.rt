@@ -1,9 +1,9 @@
-//! What is right of a part of a text.
+//! What is right about a part of a text.
 
 ghost use Rattle.std.specs.Prelude.{◌≡◌};
 ghost use Rattle.osvalidate.specs.Verdict.{all_right, both, with_names};
 
-/// What is right of a part of a text, in the order of the faults.
+/// What is right about a part of a text, in the order of the faults.
 #[derive(Clone, Copy, PartialEq, Eq)]
 pub struct Verdict {
     /// Each name has its object.
@@ -12,12 +12,13 @@ pub struct Verdict {
     pub near: bool,
     /// Each mask is in its range.
     pub masked: bool,
-    /// Each operation is in form and in range, and jumps within its script; and each action is one.
+    /// Operations are well-formed and in range, and jump within their scripts. Actions are well-formed. ISRs use no
+    /// resource.
     pub formed: bool,
 }
 
 impl Verdict {
-    /// Nothing is wrong.
+    /// The verdict that nothing is wrong.
     pub fn all_right() -> Self
         ensures { result ≡ all_right }
     {
@@ -29,7 +30,7 @@ impl Verdict {
         }
     }
 
-    /// What is right of this part and of another.
+    /// The verdict on two parts together, by the verdict on each.
     pub fn and(self, other: Verdict) -> Self
         ensures { result ≡ both self other }
     {
@@ -41,7 +42,8 @@ impl Verdict {
         }
     }
 
-    /// The same, where it is judged beside it whether further names are known.
+    /// The verdict on the same part, after further names of the part are judged. `are_known` says whether these are
+    /// known.
     pub fn with_names(self, are_known: bool) -> Self
         ensures { result ≡ with_names are_known self }
     {
@@ -54,7 +56,7 @@ impl Verdict {
     }
 }
 
-/// A part of a text as it is read, and what is right of it.
+/// A part of a text as it is read, and what is right about it.
 #[derive(Drop)]
 pub struct Judged<T> {
     pub value: T,

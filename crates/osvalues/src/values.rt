@@ -16,7 +16,7 @@ use ossyntax::{Names, op_text};
 use serde_json::{Value, json};
 use std::alloc::{AllocError, Global};
 
-// Writes an element of a list.
+// Makes the JSON value of an element.
 trait Writer<T> {
     ghost written: { Self → T → Data };
 
@@ -24,6 +24,7 @@ trait Writer<T> {
         ensures { IfOk result (λ value. view value ≡ written self.now element.now) };
 }
 
+// The array of the elements' values, each made by the writer.
 fn list_value<T, W: Writer<T>>(
     alloc: Global,
     writer: &W,
@@ -38,6 +39,7 @@ fn list_value<T, W: Writer<T>>(
     Ok(Value::Array(values))
 }
 
+// The element's value, or null if there is no element.
 fn or_null_value<T, W: Writer<T>>(
     alloc: Global,
     writer: &W,
@@ -67,6 +69,7 @@ impl Names for PlanWriter<'_> {
     }
 }
 
+// The text of a script: its operations, divided by `;`.
 fn script_text(alloc: Global, writer: &PlanWriter, script: &[Op]) -> Result<String, AllocError>
     ensures { IfOk result (λ text. string_bytes text ≡ script_text writer.now.plan.now script.now) }
 {
@@ -93,7 +96,7 @@ impl Writer<Name> for PlanWriter<'_> {
     }
 }
 
-// The word for a core's mode.
+// The word for a core's mode: the mode's name, or `DONOTCARE` if any mode will do.
 fn mode_word<'p>(writer: &PlanWriter<'p>, mode: CoreMode) -> &'p str
     ensures { result.now ≡ core_mode_word writer.now.plan.now mode }
 {
@@ -274,21 +277,21 @@ impl Writer<Spinlock> for PlanWriter<'_> {
     }
 }
 
-/// The values of the plan's modes, in their order: their names. `AllocError` where memory runs out, here and below.
+/// The JSON array of the names of the plan's modes, in their order. `AllocError` where memory runs out, here and below.
 pub fn modes_value(alloc: Global, plan: &Plan) -> Result<Value, AllocError>
     ensures { IfOk result (λ value. view value ≡ list_data name_data plan.now.modes) }
 {
     list_value(alloc, &PlanWriter { plan }, plan.modes.as_slice())
 }
 
-/// The values of its spinlocks, in their order.
+/// The JSON array of the values of the plan's spinlocks, in their order.
 pub fn spinlocks_value(alloc: Global, plan: &Plan) -> Result<Value, AllocError>
     ensures { IfOk result (λ value. view value ≡ list_data (spinlock_data plan.now) plan.now.spinlocks) }
 {
     list_value(alloc, &PlanWriter { plan }, plan.spinlocks.as_slice())
 }
 
-/// The values of its cores, in their order.
+/// The JSON array of the values of the plan's cores, in their order.
 pub fn cores_value(alloc: Global, plan: &Plan) -> Result<Value, AllocError>
     ensures { IfOk result (λ value. view value ≡ list_data (core_data plan.now) plan.now.cores) }
 {

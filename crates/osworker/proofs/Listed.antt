@@ -15,7 +15,7 @@ use Rattle.osmail.specs.Rings.{AreApart, IsApart}
 use Rattle.osmail.proofs.Chosen.{chosen_cores}
 use Rattle.osrun.specs.Fits.{ids_of}
 
--- A core stands at its number among all cores.
+-- Among all cores, the place of a core is its number.
 pub at_number : (id : CoreId) → id.number < 16 → slice_get core_ids id.number ≡ Some id
 at_number id low = slice_get_read core_ids 16 id.number id refl low (sym (table-at (λ (n : ℕ). let c : CoreId = record { number = n } in c) 0 CORES id.number id.number id (omega arith) low))
 
@@ -27,12 +27,12 @@ module _ (plan : Plan) where
   ids-have : (id : CoreId) → has (ids_of plan) id ≡ (has core_ids id && is_some (core_of plan id))
   ids-have id = has-filter (λ c. is_some (core_of plan c)) core_ids id
 
-  -- a core that is not configured is none of them
+  -- a core that is not configured is not listed
   pub nobody-listed : (id : CoreId) → core_of plan id ≡ None → has (ids_of plan) id ≡ false
   nobody-listed id out = ids-have id ∙ rw out (and-false (has core_ids id))
 
   module _ (limits : IsTrue (is_within_limits plan)) (id : CoreId) where
-    -- and each configured core is one
+    -- each configured core is listed
     listed : is_some (core_of plan id) ≡ true → has (ids_of plan) id ≡ true
     listed there =
         let known = passes-at (λ (c : CoreId). has core_ids c) core_ids id.number id refl (at_number id (configured-low plan id limits there)) in
@@ -41,7 +41,7 @@ module _ (plan : Plan) where
     pub unlisted-unseen : (other : CoreId) → has (ids_of plan) id ≡ false → is_configured (view_of plan other) id ≡ false
     unlisted-unseen other out = sym (is_some-core_of id plan.cores) ∙ false_from_ne_true _ (λ there. both_ways _ out (listed there))
 
-    -- So there is one, if a core is configured.
+    -- If a core is configured, at least one core is listed.
     pub someone : IsSome (core_of plan id) → 0 < length (ids_of plan)
     someone there = by (ids_of plan) (listed there)
       where
@@ -49,7 +49,7 @@ module _ (plan : Plan) where
         by [] listed = absurd (false≢true listed)
         by (c ∷ cs) listed = omega arith
 
--- no core stands twice among them
+-- no core is listed twice
 has-apart : (c : CoreId) (cs : List CoreId) → AllByRecursion (IsApart c) cs → has cs c ≡ false
 has-apart c [] apart = refl
 has-apart c (d ∷ ds) apart = rw (ne_eqb c.number d.number apart.0) (has-apart c ds apart.1)

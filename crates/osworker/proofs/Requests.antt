@@ -1,4 +1,4 @@
--- What a worker's turns ask, and which items the answers result in.
+-- What a worker's turns request, and the items that result from the replies.
 use Rattle.std.proofs.Common.{◌≡◌, ◌⊎◌, Bool, true, false, cond, Option, Some, None, IsTrue, List, [], ◌∷◌, ◌++◌, length, refl, sym, ap, subst, ◌∙◌, arith, unwrap_or}
 use Rattle.std.proofs.{lemmas.Bool.ltb-true, lemmas.Option.same_Some}
 use Rattle.osbase.specs.{declared.statuses.Status.Status, declared.statuses.Status.TheVariants.EOk, declared.statuses.Status.TheVariants.EOsState, declared.references.CoreId.CoreId, declared.items.CoreMode.CoreMode, declared.items.CoreMode.TheVariants.Named, declared.items.CoreMode.TheVariants.DontCare, declared.items.Item.Item, declared.items.Stimulus.Stimulus, declared.turns.Choice.Choice, History.same_core, Sets.has_core}
@@ -40,7 +40,7 @@ module _ {A S C R : Type 0} (o : Object A S C R) where
       legal-last (o.first old.place.plan.about) (old.seen ++ made.between) (entry old.core call reply)
       (subst (λ (es : List (Entry C R)). IsLegal o old.place.plan.about es) made.seen made.legal)
 
--- A call that changes the board results in an item that the core takes exactly if it takes the one that was expected.
+-- A call that changes the board results in an item. The core takes it exactly if it takes the expected one.
 pub record CallResultsIn (id : CoreId) (watch : Watch) (call : BoardCall) (reply : BoardReply) : Type 0 where
   pub item : Item
   pub names : item_by id watch (OfBoard call) (Replied reply) ≡ Some item
@@ -63,15 +63,15 @@ call-results id watch old new call reply own changes made =
     let t = replied-by one_board old new call reply made in
     subst (CallResultsIn id watch call) (sym (t.1 ∙ ap (λ (c : CoreId). board_reply c call t.0) own)) (result-of id watch call t.0 changes)
 
--- So the item of its reply is.
+-- The core takes the item of the reply exactly if it takes the expected one.
 pub board-takes : (id : CoreId) (k : KernelState) (call : BoardCall) (reply : BoardReply) (item : Item) → CallResultsIn id (watch_in k) call reply → item_by id (watch_in k) (OfBoard call) (Replied reply) ≡ Some item → takes_in outbox_size k item ≡ takes_in outbox_size k (item_of_call id call)
 board-takes id k call reply item results names = rw (same_Some item results.item (sym names ∙ results.names)) (results.same k)
 
--- The one item that the answer results in is one that the core does not take.
+-- If the core does not take the item that results from the answer, the answer is fruitless.
 pub refused-item : (id : CoreId) (k : KernelState) (request : Request) (answer : Reply) (i : Item) → item_by id (watch_in k) request answer ≡ Some i → takes_in outbox_size k i ≡ false → IsFruitless id k request answer
 refused-item id k request answer i names not_this item is = rw (same_Some item i (sym is ∙ names)) not_this
 
--- A core that watches for a shutdown of all cores halts where one was requested, and takes no item where none was.
+-- A core that watches for a shutdown of all cores halts if one was requested, and takes no item if none was.
 module _ (id : CoreId) (k : KernelState) (watch : watch_in k ≡ Watch.Halt) where
   pub halts : (halt : Option (CoreId × Status)) (asked : CoreId × Status) → halt ≡ Some asked → item_by id (watch_in k) (OfBoard LookHalt) (Replied (Halting halt)) ≡ Some (Item.Halt asked.0 asked.1)
   halts halt asked is = rw (watch, is) refl
@@ -80,24 +80,25 @@ module _ (id : CoreId) (k : KernelState) (watch : watch_in k ≡ Watch.Halt) whe
   unasked (Some asked) none item names = absurd (none asked refl)
   unasked None none item names = let nothing = rw watch at names in cc
 
--- Whatever the board answers to a call that changes it, the core takes no item then, if it does not take the one that was expected.
+-- If the core does not take the expected item of a call that changes the board, it takes no item, whatever the board
+-- answers.
 pub call-fruitless : (id : CoreId) (k : KernelState) (call : BoardCall) → ChangesBoard call → takes_in outbox_size k (item_of_call id call) ≡ false → (answer : Reply) → MayAnswer id (OfBoard call) answer → IsFruitless id k (OfBoard call) answer
 call-fruitless id k call changes not_this answer may =
     let results = result-of id (watch_in k) call may.0 changes in
     rw may.1 (refused-item id k (OfBoard call) (Replied (board_reply id call may.0)) results.item results.names (results.same k ∙ not_this))
 
--- The item of a spinlock's answer is one that the core takes exactly if it takes the one that was expected.
+-- The core takes the item of a spinlock's answer exactly if it takes the expected one.
 pub spinlock-same : (s : KernelState) (wish : SpinWish) (reply : SpinReply) (i : Item) → item_of_spinlock wish reply ≡ Some i → takes_in outbox_size s i ≡ takes_in outbox_size s (item_of_wish wish)
 spinlock-same s (Wish.Get l) (Answered true) i e = is-item (λ (j : Item). takes_in outbox_size s j ≡ takes_in outbox_size s (Item.Granted l)) (Item.Granted l) i refl e
 spinlock-same s (Wish.Try l) (Answered taken) i e = is-item (λ (j : Item). takes_in outbox_size s j ≡ takes_in outbox_size s (Item.Tried l true)) (Item.Tried l taken) i refl e
 spinlock-same s (Wish.Free l) (Answered true) i e = is-item (λ (j : Item). takes_in outbox_size s j ≡ takes_in outbox_size s (Item.Freed l)) (Item.Freed l) i refl e
 spinlock-same s wish reply i e = cc
 
--- Whatever the spinlock answers, the core takes no item then, if it does not take the one that was expected.
+-- If the core does not take the expected item, it takes no item, whatever the spinlock answers.
 pub wish-fruitless : (id : CoreId) (k : KernelState) (wish : SpinWish) → takes_in outbox_size k (item_of_wish wish) ≡ false → (answer : Reply) → MayAnswer id (OfSpins wish) answer → IsFruitless id k (OfSpins wish) answer
 wish-fruitless id k wish not_this answer may = rw may.1 (λ item names. spinlock-same k wish (spin_reply id (spin_call_of wish) may.0) item names ∙ not_this)
 
--- A call of a spinlock that results in no item was refused, and it is no try.
+-- A call of a spinlock that results in no item was refused, and it was not a try.
 pub record IsUnspun (wish : SpinWish) (reply : SpinReply) : Type 0 where
   pub refused : reply ≡ Answered false
   pub waits : MayWait (OfSpins wish)
@@ -127,12 +128,12 @@ unless-weaker Took so was = tt
 unless-weaker Nothing so was = so was
 unless-weaker (Refused from e) so was = so was
 
--- The core's own turn asks this alone.
+-- The core's own turn makes only this request.
 pub one-asked : (v : View) (k : KernelState) (next : Option Stimulus) (request : Request) (turned : Turned) → request_by v (want_in k) (watch_in k) next Choice.Own ≡ Some request
     → UnlessTook turned (MayWait request ⊎ ((answer : Reply) → MayAnswer v.core request answer → IsFruitless v.core k request answer)) → UnlessTook turned (IsStuck v k next)
 one-asked v k next request turned asks = unless-weaker turned (λ none other e. rw (same_Some other request (sym e ∙ asks)) none)
 
--- No answer but that there was no call results in an item.
+-- Only the answer that there was no call can result in an item.
 pub start-fruitless : (id : CoreId) (k : KernelState) (c : CoreId) → IsFruitless id k (StartUnknown c) Unasked → (answer : Reply) → MayAnswer id (StartUnknown c) answer → IsFruitless id k (StartUnknown c) answer
 start-fruitless id k c none Unasked may = none
 start-fruitless id k c none answer may = λ item names. cc
@@ -141,7 +142,7 @@ pub stimulus-fruitless : (id : CoreId) (k : KernelState) (s : Stimulus) → IsFr
 stimulus-fruitless id k s none Unasked may = none
 stimulus-fruitless id k s none answer may = λ item names. cc
 
--- Without a call there is none.
+-- If the answer is that there was no call, the turn made no call.
 pub unasked-silent : (id : CoreId) (request : Request) → call_of_turn id request Unasked ≡ no_calls
 unasked-silent id (OfBoard call) = refl
 unasked-silent id (OfSpins wish) = refl
@@ -160,7 +161,8 @@ module _ (plan : Plan) (limits : IsTrue (is_within_limits plan)) where
       let known = find-passes (λ (c : Core). same_core c.id id) (is_core_known plan) plan.cores core (limit-parts plan limits).known found in
       mode-low core.mode (grind arith)
 
-  -- What a core's own turn asks: of the board a call that changes it and has a place there, and nothing that serves another core.
+  -- What a core's own turn may request: of the board only a call that changes it and has a place there, and not to
+  -- serve another core.
   abbrev IsOwn : Option Request → Type 0
   IsOwn (Some (OfBoard call)) = ChangesBoard call × HasPlace call
   IsOwn (Some (Oldest from)) = ⊥

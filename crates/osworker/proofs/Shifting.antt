@@ -33,11 +33,11 @@ begun plan stimuli core id made sent taken is_id is_plan is_kernel is_left no_it
   };
 }
 
--- A core serves at a place of its round, or does its own work, or looks.
+-- At each place of its round, a core serves, does its own work, or looks.
 by-place : {A : Type 0} (cores at : ℕ) → (at + 1 < cores → A) → (at + 1 ≡ cores → A) → (cores ≤ at → A) → A
 by-place cores at served worked looked = ⊎_elim served (λ late. ⊎_elim worked (λ other. looked (omega (arith, late, other))) (cases_eq (at + 1) cores)) (cases_lt (at + 1) cores)
 
--- The next place, and the turns that changed nothing, with one more.
+-- The next place, and the number of turns that changed nothing, after one more turn.
 module _ (cores at : ℕ) (turned : Turned) (next : ℕ) (is : IsNext cores at turned next) where
   went-round : at ≤ cores → next ≤ cores
   went-round place = by-place cores at (λ serves. omega (arith, (is.served serves).within)) (λ own. omega (arith, is.worked own)) (λ looks. omega (arith, is.looked looks))
@@ -48,7 +48,7 @@ module _ (cores at : ℕ) (turned : Turned) (next : ℕ) (is : IsNext cores at t
       (λ own. let end = is.worked own in grind (arith, nat_tests, own, end, count))
       (λ looks. let begin = is.looked looks in grind (arith, nat_tests, looks, begin, place, count))
 
-  -- With one turn more the core's own turn is one turn longer ago, unless that turn was it.
+  -- After a turn that changed nothing, the core's own turn is one turn longer ago, unless this was the own turn.
   pub own-next : 0 < cores → at ≤ cores → turned ≡ Nothing → (at + 1 ≡ cores → ⊥) → since_own cores next ≡ since_own cores at + 1
   own-next some place none other = by-place cores at
       (λ serves. let end = (is.served serves).all none in grind (arith, nat_tests, serves, end))
@@ -62,7 +62,7 @@ own-before cores at = grind (arith, nat_tests)
 own-within : (cores at : ℕ) → at ≤ cores → since_own cores at ≤ cores + 1
 own-within cores at place = grind (arith, nat_tests)
 
--- So many whole rounds are in the turns.
+-- Each round has one place more than there are cores, so `n` rounds have `n` times as many.
 rounds : (cores n : ℕ) → places_of cores n ≡ n * (cores + 1)
 rounds cores zero = omega arith
 rounds cores (suc n) = let rest = rounds cores n in omega arith
@@ -80,7 +80,7 @@ no-look cores at before = grind (arith, nat_tests)
 pub a-look : (cores at : ℕ) → cores ≤ at → loads_at cores at ≡ 1
 a-look cores at last = grind (arith, nat_tests)
 
--- No turn, and a turn after one that changed nothing.
+-- To do nothing is a turn that changes nothing. If the first of two turns changes nothing, both count as the second.
 module _ {M E : Type 0} (sent taken : M → Streams) (which : M → E) where
   no-more : (stimuli : List CoreStimuli) (loads : ℕ) (w : Worker M) → HasWorked sent taken stimuli None (loads + 0) w → HasWorked sent taken stimuli None loads w
   no-more stimuli loads w = subst (λ (n : ℕ). HasWorked sent taken stimuli None n w) (omega arith)

@@ -1,4 +1,5 @@
--- What an item adds to what a worker has done: to its core, to its calls of the board and the spinlocks, and to its end of the mail.
+-- What an item adds to what a worker has done: to its core, to its calls of the board and the spinlocks, and to its end
+-- of the mail.
 use Rattle.std.proofs.Common.{◌≡◌, ℕ, zero, suc, ◌+◌, ◌≤◌, Bool, true, false, Option, Some, None, List, [], ◌∷◌, ◌++◌, length, drop, inl, inr, ⊎_elim, refl, sym, ap, subst, ◌∙◌, arith, append_assoc, append-nil, length-append, cond}
 use Rattle.std.specs.List.{AllByRecursion, slice_get}
 use Rattle.std.proofs.lemmas.Option.{same_Some}
@@ -32,20 +33,20 @@ use Rattle.osworker.specs.Working.{AreCalls, AreSpinCalls, HasTaken, HasWorked, 
 
 -- ---- stimuli
 
--- What is left begins with what comes next.
+-- The first stimulus that is left is the next one.
 front-drop : {A : Type 0} (n : ℕ) (xs : List A) → slice_get (drop n xs) 0 ≡ slice_get xs n
 front-drop zero [] = refl
 front-drop zero (x ∷ xs) = refl
 front-drop (suc n) [] = refl
 front-drop (suc n) (x ∷ xs) = front-drop n xs
 
--- Mail results only from a reply of the mail.
+-- Only a reply of the mail can result in a mail item.
 abbrev pub IsMailFor : Reply → Item → Type 0
 IsMailFor (HasRoom room) i = Unit {0}
 IsMailFor (Found letter) i = Unit {0}
 IsMailFor answer i = is_mail i ≡ false
 
--- An item that a turn names is in turn, where the turn asks for what comes next.
+-- If a turn's request is the core's own (`IsOwnRequest`), the item that results from it is in turn.
 module _ (v : View) (listed : List Stimulus) (s : KernelState) (past : List Item) where
   abbrev course : Course
   course = s.progress.course
@@ -81,14 +82,14 @@ module _ (plan : Plan) (stimuli : List CoreStimuli) (old : CoreRun) (work : IsAt
   abbrev h : History
   h = history_by plan old.id old.items.items
 
-  -- its next stimulus
+  -- the core's next stimulus
   next-left : slice_get old.stimuli.now 0 ≡ slice_get (stimuli_of stimuli old.id) (length (stimuli_in old.items.items))
   next-left =
       ap (λ (ss : List Stimulus). slice_get ss 0) work.seated.left
       ∙ front-drop (stimulus_count old.items.items) (stimuli_of stimuli old.id)
       ∙ ap (slice_get (stimuli_of stimuli old.id)) (sym (length-stimuli_in old.items.items))
 
-  -- What it can do alone is said by its items.
+  -- The core's items determine whether it can do nothing alone.
   pub stuck-by-items : IsStuck v old.kernel (slice_get old.stimuli.now 0) → IsStuck v (state_of v h) (slice_get (stimuli_of stimuli old.id) (length (stimuli_in old.items.items)))
   stuck-by-items stuck = rw (next-left, work.seated.tracks.stands.is) at stuck
 
@@ -102,7 +103,7 @@ module _ (plan : Plan) (stimuli : List CoreStimuli) (old : CoreRun) (work : IsAt
       fits = rw (took.id, took.items) (core-on plan stimuli old.id old.items.items work.fits item next may);
     }
 
--- ---- its calls
+-- ---- the worker's calls
 
 all-append : {X : Type 0} (P : X → Type 0) (xs ys : List X) → AllByRecursion P xs → AllByRecursion P ys → AllByRecursion P (xs ++ ys)
 all-append P [] ys all more = more
@@ -116,7 +117,7 @@ module _ {C R : Type 0} (idle : Entry C R → Type 0) where
       (λ u. inr (u.0, thin-append xs ys ls ms u.1 thin))
       t
 
-  -- all of them may go, or none goes
+  -- all of them may be left out, or none is
   thin-all : (xs : List (Entry C R)) → AllByRecursion idle xs → Thinned idle xs []
   thin-all [] all = refl
   thin-all (x ∷ xs) all = inr (all.0, thin-all xs all.1)
@@ -125,7 +126,7 @@ module _ {C R : Type 0} (idle : Entry C R → Type 0) where
   thin-none [] = refl
   thin-none (x ∷ xs) = inl (xs, refl, thin-none xs)
 
--- A turn that asks for a spinlock is the core's own, which wants it.
+-- If a turn asks for a spinlock, the core wants it.
 own-wants : (v : View) (next : Option Stimulus) (want : Want) (wish : SpinWish) → own_request v next want ≡ Some (OfSpins wish) → want ≡ Want.Spin wish
 own-wants v next (Want.Start k) wish e = by (is_configured v k) e
   where
@@ -142,13 +143,13 @@ asked-wants v next want Watch.Halt Choice.Look wish e = cc
 asked-wants v next want watch Choice.Look wish e = cc
 
 module _ (v : View) where
-  -- more calls of the spinlocks, where they may stand behind the last item
+  -- more calls of the spinlocks, if they may come after the last item
   spins-more : (h : History) (items items' : List Item) (calls more : List SpinEntry) → AreSpinCalls v h items calls → ((es : List SpinEntry) → AllByRecursion (IsRefusedWish v (history_from v h items)) es → AreSpinCalls v (history_from v h items) items' (es ++ more))
       → AreSpinCalls v h (items ++ items') (calls ++ more)
   spins-more h [] items' calls more are on = on calls are
   spins-more h (i ∷ is) items' calls more are on = (are.0, are.1 ++ more, rw are.2 (simp append_assoc), are.3, spins-more (after v h i) is items' are.1 more are.4 on)
 
-  -- less the refused ones they are those of the items
+  -- without the refused ones, the calls are those of the items
   thin-wishes : (h : History) (xs : List SpinEntry) → AllByRecursion (IsRefusedWish v h) xs → Thinned IsRefusedCall xs []
   thin-wishes h xs wishes = thin-all IsRefusedCall xs (all-map (IsRefusedWish v h) IsRefusedCall xs (λ e wish. ap (λ (x : SpinEntry). x.reply) wish.call) wishes)
 
@@ -161,14 +162,14 @@ module _ (v : View) where
       (thin-append IsRefusedCall own are.1 own answers.3.spins (thin-none IsRefusedCall own) (thin-spins (after v h i) is are.1 answers.3 are.4 answers.5)))
 
 module _ (v : View) (items : List Item) (made : Calls) (loads : ℕ) (calls : AreCalls v items made loads) where
-  -- all of the spinlocks', less refused ones, and of the board's, less looks
+  -- all calls of the spinlocks without refused ones, and all calls of the board without looks
   pub spins-thin : Thinned IsRefusedCall made.spins calls.log.spins
   spins-thin = thin-spins v [] items made.spins calls.log calls.spins calls.answers
 
   pub thin : Thinned IsLook made.board calls.log.board
   thin = rw (calls.calls, ← append-nil calls.log.board) (thin-append IsLook calls.before calls.idle calls.log.board [] calls.logged (thin-all IsLook calls.idle (all-map (IsIdleLook v items) IsLook calls.idle (λ e idle. idle.0) calls.looks)))
 
-  -- looks and refused calls of a spinlock more, which resulted in no item
+  -- more looks and more refused calls of a spinlock, which resulted in no item
   idle-on : (made' : Calls) (looks : List BoardEntry) (refused : List SpinEntry) (less : ℕ) → AllByRecursion (IsIdleLook v items) looks → AllByRecursion (IsRefusedWish v (history_from v [] items)) refused
       → made'.board ≡ made.board ++ looks → made'.spins ≡ made.spins ++ refused → less ≤ loads + length looks → AreCalls v items made' less
   idle-on made' looks refused less idle wishes board spins le = record {
@@ -183,7 +184,7 @@ module _ (v : View) (items : List Item) (made : Calls) (loads : ℕ) (calls : Ar
     spins = rw (spins, ← append-nil items) (spins-more v [] items [] made.spins refused calls.spins (λ es are. all-append (IsRefusedWish v (history_from v [] items)) es refused are wishes));
   }
 
-  -- an item more, in which the reply to this request resulted
+  -- one more item, in which the reply to this request resulted
   item-on : (made' : Calls) (request : Request) (answer : Reply) (i : Item) → ResultsIn v (history_from v [] items) request answer i
       → made'.board ≡ made.board ++ (call_of_turn v.core request answer).board → made'.spins ≡ made.spins ++ (call_of_turn v.core request answer).spins → AreCalls v (items ++ i ∷ []) made' 0
   item-on made' request answer i leads board spins =
@@ -201,7 +202,7 @@ module _ (v : View) (items : List Item) (made : Calls) (loads : ℕ) (calls : Ar
             (spins-more v [] items (i ∷ []) made.spins (call_of_item v.core i) calls.spins (λ es are. (es, [], ap (λ (more : List SpinEntry). es ++ more) (sym (append-nil (call_of_item v.core i))), are, tt)));
       }
 
--- ---- its mail
+-- ---- the worker's mail
 
 mail-aside : (i : Item) → is_mail i ≡ false → (c : CoreId) → (is_post_to i c ≡ false) × (is_from i c ≡ false)
 mail-aside (Item.Posted to) none c = cc
@@ -261,7 +262,7 @@ module _ {M E : Type 0} (sent taken : M → Streams) (which : M → E) (more : �
               (mail-on (view old) (past old) (sent old.mail) (taken old.mail) (sent mid.mail) (taken mid.mail) item done.mail mail);
         })
 
-  -- It took an item, if the end of the mail fits it.
+  -- If the end of the mail fits the item, the turn took the item.
   pub turn-took : ((stimuli : List CoreStimuli) (loads : ℕ) → HasWorked sent taken stimuli None loads old → HasMailed item (past old) (sent old.mail) (taken old.mail) (sent mid.mail) (taken mid.mail)) → IsTurn sent taken which more TookOne old new
   turn-took mail = record {
     turns = λ stimuli loads done. done-on stimuli loads done (mail stimuli loads done);
@@ -269,7 +270,7 @@ module _ {M E : Type 0} (sent taken : M → Streams) (which : M → E) (more : �
     same = record { run = took.run ∙ run; id = took.core.id ∙ ap (λ (c : CoreRun). c.id) core; end = ap which took.mail ∙ end };
   }
 
-  -- The item came of no envelope.
+  -- The turn took the item, and no envelope was sent or taken for it.
   pub plainly-took : (IsMailFor answer item → is_mail item ≡ false) → AreUnchanged (sent old.mail) (sent mid.mail) → AreUnchanged (taken old.mail) (taken mid.mail) → IsTurn sent taken which more TookOne old new
   plainly-took plain same_sent same_taken =
       turn-took (λ stimuli loads done. let aside = mail-aside item (plain (in-turn stimuli loads done).1) in

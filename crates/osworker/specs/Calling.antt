@@ -6,7 +6,7 @@ use Rattle.osboard.specs.declared.calls.BoardCall.TheVariants.{Start, Enter, Mak
 use Rattle.oskernel.specs.declared.wants.SpinWish.{SpinWish}
 use Rattle.oskernel.specs.declared.wants.SpinWish.TheVariants as Wish
 
--- The calls that change the board and that a core's own turn makes; and those that leave it as it is.
+-- The calls by which a core's own turn changes the board.
 abbrev pub ChangesBoard : BoardCall → Type 0
 ChangesBoard (Start k) = Unit {0}
 ChangesBoard (Enter mode) = Unit {0}
@@ -15,11 +15,13 @@ ChangesBoard Drain = Unit {0}
 ChangesBoard (AskHalt status) = Unit {0}
 ChangesBoard call = ⊥
 
+-- The calls of a look. They load one word of the board, and leave the board as it is.
 abbrev pub LoadsBoard : BoardCall → Type 0
 LoadsBoard call = (call ≡ Look) ⊎ ((call ≡ LookDrained) ⊎ (call ≡ LookHalt))
 
--- The item that this core's call results in that changes the board, if a core that it starts was not started yet, and no other core
--- requested a shutdown before.
+-- The item in which a core's call that changes the board results. For a start, this is so if core `k` was not started
+-- before; for a request of a shutdown, if no other core requested one before. The other calls always result in this
+-- item.
 abbrev pub item_of_call : CoreId → BoardCall → Item
 item_of_call core (Start k) = Item.Began k EOk
 item_of_call core (AskHalt status) = Item.Halt core status
@@ -27,7 +29,7 @@ item_of_call core (Enter mode) = Item.Entered
 item_of_call core MakeReady = Item.Readied
 item_of_call core call = Item.Drained
 
--- The item that a call of a spinlock results in, where the spinlock was free or is given back.
+-- The item that results from a spinlock call that succeeds.
 abbrev pub item_of_wish : SpinWish → Item
 item_of_wish (Wish.Get l) = Item.Granted l
 item_of_wish (Wish.Try l) = Item.Tried l true

@@ -15,7 +15,7 @@ pub record Shared : Type 0 where
 abbrev pub shared : Place CoreId → Place Unit → Shared
 shared board spins = record { board = board; spins = spins }
 
--- A core's seats at what the cores share.
+-- These are the seats of this core, at the shared board and at the shared spinlocks.
 pub record AreAt (shared : Shared) (id : CoreId) (seats : Seats) : Type 0 where
   pub board : seats.board.place ≡ shared.board
   pub spins : seats.spins.place ≡ shared.spins
@@ -26,7 +26,7 @@ pub record AreAt (shared : Shared) (id : CoreId) (seats : Seats) : Type 0 where
 abbrev pub made_from : Seats → Calls
 made_from seats = record { board = seats.board.mine; spins = seats.spins.mine }
 
--- Seats at the board and seats at the spinlocks, one of each for each core.
+-- Each core's seats, paired from the cores' seats at the board and their seats at the spinlocks, in order.
 abbrev pub paired : List (Held CoreId BoardCall BoardReply) → List (Held Unit SpinCall SpinReply) → List Seats
 paired [] spins = []
 paired (b ∷ board) [] = []

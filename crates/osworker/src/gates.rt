@@ -1,4 +1,4 @@
-//! What a program has a say in while workers run.
+//! What a program decides while workers run.
 
 use osbase::CoreId;
 

@@ -1,7 +1,7 @@
 //! A core's worker: it serves the other cores, does its core's own work and looks at the board, turn by turn.
 //!
-//! Two workers share the words of the board and of the spinlocks, and a ring or a mailbox for each direction, and nothing
-//! else. Who starts a thread for each is no matter of this crate.
+//! Two workers share the words of the board and of the spinlocks, and a ring or a mailbox for each direction, and
+//! nothing else. This crate does not decide who starts a thread for each.
 #![tactic(auto)]
 
 pub mod gates;

@@ -7,8 +7,8 @@ use osplan::Config;
 use osspin::{Clocks, SpinBank};
 use std::sync::atomic::AtomicBool;
 
-/// What the workers of a run share: the configuration, the listed stimuli, the configured cores, ascending, the board,
-/// the spinlocks, the logical clocks of both, what wakes them, whether they are to stop, and how many turns in a row may change nothing.
+/// What the workers of a run share: the configuration, the listed stimuli, the configured cores (ascending), the board,
+/// the spinlocks, the clocks of both, the wakers, whether to stop, and how many turns in a row may change nothing.
 #[derive(Clone, Copy)]
 pub struct Run<'a> {
     pub config: &'a Config,

@@ -23,7 +23,7 @@ use std::sync::Wait;
 use std::sync::atomic::Ordering;
 
 impl<'a, M: Mail> Shift<'a, M> {
-    // The other core at this place of the round. The cores ascend, and the own one is left out.
+    // The other core at this place of the round. The cores ascend, and the worker's own core is left out.
     fn other(&self, at: usize) -> CoreId
         requires { at + 1 < core_count self.now }
     {
@@ -35,8 +35,9 @@ impl<'a, M: Mail> Shift<'a, M> {
         }
     }
 
-    // Whether an envelope may have come that this core can take. A core at work learns so from its sender, for one word that it
-    // loads is cheaper than to look at all mailboxes in vain; one that finds no work looks itself.
+    // Whether the core may serve, and an envelope may have come for it. At the start of a round, a core at work learns
+    // this from the sender: loading one word is cheaper than looking at all mailboxes in vain. Later in the round, or
+    // if its turns change nothing, the core looks itself.
     fn may_find_mail(&self) -> bool {
         let worker = &self.worker;
         worker.core.kernel.may_serve()
@@ -70,7 +71,7 @@ impl<'a, M: Mail> Shift<'a, M> {
         Turned::Nothing
     }
 
-    // The turn at this place of the round, which comes to the next one.
+    // Takes the turn at this place of the round, and moves on in the round.
     fn turn(&mut self) -> Turned
         requires { MayTurn M.has_room self.old.worker }
         ensures turn { IsTurn M.sent M.taken M.which (loads_at (core_count self.old) self.old.at) result self.old.worker self.new.worker }
@@ -90,7 +91,7 @@ impl<'a, M: Mail> Shift<'a, M> {
         self.serve()
     }
 
-    // At the end of a round that changed nothing, as those before it, the worker may sleep.
+    // At the end of a round, lets the worker sleep if enough rounds in a row changed nothing.
     fn rest<R: Wait>(&self, rt: &R) {
         if self.at == 0 {
             let run = self.worker.run;
@@ -99,7 +100,7 @@ impl<'a, M: Mail> Shift<'a, M> {
         }
     }
 
-    // Wakes whom the item that was taken last may concern.
+    // Wakes the cores that the last item may concern.
     fn notify(&self) {
         if let Some(item) = self.worker.core.items.last() {
             let run = self.worker.run;
@@ -107,7 +108,8 @@ impl<'a, M: Mail> Shift<'a, M> {
         }
     }
 
-    // One turn more, and why the worker stops, if it does.
+    // Takes one more turn, unless the worker has to stop before. Returns why the worker stops, if it does. If an
+    // allocation fails, all workers are told to stop.
     fn play_turn<R: Wait, G: Gate>(&mut self, rt: &R, gate: &G) -> Option<Stop>
         ensures none { IfNone result ((stimuli : List CoreStimuliValue) → IsGoing M.sent M.taken stimuli self.old → IsGoing M.sent M.taken stimuli self.new) }
         ensures some { IfSome result (λ stop. (stimuli : List CoreStimuliValue) → IsGoing M.sent M.taken stimuli self.old → IsStopped M.sent M.taken stimuli stop self.new) }
@@ -143,7 +145,8 @@ impl<'a, M: Mail> Shift<'a, M> {
         }
     }
 
-    // What is handed back.
+    // What the worker hands back: its core's report, with the clocks of the items, its seats, its end of the mail, and
+    // why it stopped.
     fn hand_back(self, stop: Stop) -> Worked<M>
         ensures report { result.report ≡ record (report_of self.entry.worker.core) { clocks = self.entry.worker.stamps.clocks.items } }
         ensures seats { result.seats ≡ self.entry.worker.seats }
@@ -169,10 +172,11 @@ impl<'a, M: Mail> Shift<'a, M> {
     }
 }
 
-/// The worker of one core. In rounds it serves the other cores by ascending number, does its core's own work and looks at
-/// the board, until its core has ended, so many turns in a row changed nothing, an allocation failed, it was to stop, or it
-/// took an envelope that its core cannot take. A turn that serves takes one envelope, of the next core that sent one, and
-/// changes nothing if none is left to serve. A worker whose allocation failed tells the others to stop.
+/// The worker of one core. In rounds it serves the other cores by ascending number, does its core's own work and looks
+/// at the board. It stops when its core has ended, when the allowed number of turns in a row has changed nothing, when
+/// an allocation failed, when it was told to stop, or when it took an envelope that its core cannot take. A turn that
+/// serves takes one envelope of the next core that sent one; if none is left, it changes nothing. A worker out of
+/// memory tells the others to stop.
 pub fn core_worker<'a, R: Wait, M: Mail, G: Gate>(
     rt: &R,
     alloc: Global,

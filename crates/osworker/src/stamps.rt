@@ -1,7 +1,7 @@
 //! The logical clocks of one core's items.
 //!
-//! Each item's clock is above those of all that the core knew of when it took the item, so that one order of all cores' items can
-//! be sought by their clocks. Nothing is promised of the numbers: an order that was found is judged by playing it.
+//! Each item's clock is greater than the clocks of all that the core knew of when it took the item. So one order of all
+//! cores' items can be sought by their clocks. Nothing is promised of the numbers: an order is checked by playing it.
 
 ghost use Rattle.std.specs.Prelude.{◌≡◌, ◌<◌, OnOk, vec_len, vec_capacity};
 ghost use Rattle.osbase.specs.declared.limits.TheConstants.{SPINLOCKS};
@@ -15,7 +15,7 @@ use osrun::roomy;
 use osspin::{ClockSeat, Clocked, Clocks};
 use std::alloc::{AllocError, Global};
 
-/// The clocks of a core's items so far. The core's number is that of its last item.
+/// The clocks of a core's items so far. `number` is the clock of its last item.
 #[derive(Drop)]
 pub struct Stamps<'a> {
     seat: ClockSeat<'a>,
@@ -26,7 +26,7 @@ pub struct Stamps<'a> {
 }
 
 impl<'a> Stamps<'a> {
-    /// No item is taken yet, and there is room for the clocks of so many, as far as memory allows.
+    /// The stamps before the first item, with room for `capacity` clocks if memory allows.
     pub fn new(alloc: Global, clocks: &'a Clocks, capacity: usize) -> Self {
         Stamps {
             seat: clocks.seat(),
@@ -44,12 +44,13 @@ impl<'a> Stamps<'a> {
         self.clocks.reserve(1)
     }
 
-    /// The clock that goes with what the core does next for others to see.
+    /// The clock of the core's next change that other cores can see: one more than that of the core's last item.
     pub fn next(&self) -> u64 {
         self.number.saturating_add(1)
     }
 
-    /// Before the core changes this: the clock of its next item stands there for whom finds the change.
+    /// Raises the clock of the board or a spinlock to at least `next`. Called before the core changes the board or the
+    /// spinlock.
     pub fn raise(&mut self, clocked: Clocked)
         requires { IsKnown clocked }
         ensures { self.new.clocks ≡ self.old.clocks }
@@ -58,7 +59,7 @@ impl<'a> Stamps<'a> {
         self.seat.raise(clocked, next);
     }
 
-    /// After the core found this as others left it.
+    /// Reads the clock of the board or a spinlock, as other cores left it. The next item's clock will be greater.
     pub fn read(&mut self, clocked: Clocked)
         requires { IsKnown clocked }
         ensures { self.new.clocks ≡ self.old.clocks }
@@ -67,14 +68,14 @@ impl<'a> Stamps<'a> {
         self.hear(clock);
     }
 
-    /// After another core's clock came.
+    /// Notes a clock that came from another core. The next item's clock will be greater.
     pub fn hear(&mut self, clock: u64)
         ensures { self.new.clocks ≡ self.old.clocks }
     {
         self.heard = self.heard.max(clock);
     }
 
-    /// The core takes an item.
+    /// Gives a clock to the item that the core takes: greater than that of the last item and all noted since then.
     pub fn stamp(&mut self)
         requires { vec_len self.old.clocks < vec_capacity self.old.clocks }
     {
@@ -83,7 +84,8 @@ impl<'a> Stamps<'a> {
         self.clocks.push_reserved(self.number);
     }
 
-    /// After a call that changed the board, by what it found there: who started a core, or requested a shutdown, before.
+    /// Reads the board's clock after a start of a core or a request of a shutdown: another core may have started the
+    /// core or requested a shutdown before.
     pub fn after_board(&mut self, call: BoardCall)
         ensures { self.new.clocks ≡ self.old.clocks }
     {
@@ -92,7 +94,7 @@ impl<'a> Stamps<'a> {
         }
     }
 
-    /// Before a call of a spinlock: one that is given back is found free by the core that takes it next.
+    /// Raises the spinlock's clock before a call that releases the spinlock, for the core that takes the spinlock next.
     pub fn before_spinlock(&mut self, wish: SpinWish)
         requires { (spin_call_of wish).lock.index < SPINLOCKS }
         ensures { self.new.clocks ≡ self.old.clocks }
@@ -102,7 +104,7 @@ impl<'a> Stamps<'a> {
         }
     }
 
-    /// After a call of a spinlock that led to this item: one that was taken was given back before.
+    /// Reads the spinlock's clock after a call that took it, since another core may have released it before.
     pub fn after_spinlock(&mut self, wish: SpinWish, item: &Item)
         requires { (spin_call_of wish).lock.index < SPINLOCKS }
         ensures { self.new.clocks ≡ self.old.clocks }

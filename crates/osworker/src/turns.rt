@@ -7,9 +7,9 @@ use osbase::{CoreId, Letter};
 pub enum Turned {
     /// The core took an item.
     Took,
-    /// Nothing changed. At most the turn looked at the board, or tried a mailbox.
+    /// Nothing changed. At most the turn looked at the board, tried a mailbox, or was refused a spinlock.
     Nothing,
-    /// This letter was taken from that core, and the own core could not take it.
+    /// The worker took this letter from that core, and its own core could not take it.
     Refused(CoreId, Letter),
 }
 
@@ -22,8 +22,8 @@ pub enum Stop {
     Stalled,
     /// An allocation failed before a turn.
     NoMemory,
-    /// It stopped before its next turn on request, since another worker had no memory or some thread could not be started.
+    /// The worker was told to stop, since another worker had no memory or some thread could not be started.
     Told,
-    /// This letter was taken from that core, and the own core could not take it.
+    /// The worker took this letter from that core, and its own core could not take it.
     Refused(CoreId, Letter),
 }

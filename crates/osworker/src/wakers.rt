@@ -1,7 +1,7 @@
 //! Sleep of a worker that finds nothing to do, what wakes it, and news of its mail.
 //!
-//! A wake that is lost costs its worker the time that it sleeps at most, and nothing else. So no clause speaks of one, and none of
-//! news, since a worker without work looks for mail itself.
+//! A lost wake costs its worker at most the time of one sleep, and nothing else. So no clause is about wakes. None is
+//! about news either, since a worker without work looks for mail itself.
 
 use crossbeam_utils::CachePadded;
 use osbase::{CORES, CoreId, Item};
@@ -11,21 +11,21 @@ use std::sync::atomic::{AtomicBool, Ordering};
 use std::thread::Parker;
 use std::time::Duration;
 
-/// The turns of a round in which a worker finds nothing to do: it serves the other cores, does its core's own work, and looks at
-/// the board.
+/// The turns of a round in which a worker finds nothing to do: one serves the other cores, one does its core's own work
+/// and one looks at the board.
 pub const ROUND: u64 = 3;
 
-/// So many rounds in a row that change nothing a worker goes round before it sleeps. What another core does for it comes
-/// within a few of them, if that core's thread runs.
+/// How many rounds in a row that change nothing a worker makes before it sleeps. If another core's thread runs, what
+/// that core does for this one comes within a few of them.
 pub const AWAKE: u64 = 64;
 
-// So many times it sleeps after each further round, and then after each so many rounds, so that a worker that waits for
-// nothing reaches the end of its turns.
+// A worker sleeps after each of `OFTEN` further rounds, and then once in `SELDOM` rounds. So even a worker that waits
+// in vain reaches the end of its turns.
 const OFTEN: u64 = 256;
 
 const SELDOM: u64 = 2048;
 
-// The first sleep in microseconds, and how often its double follows.
+// The first sleep in microseconds, and how many times it is doubled.
 const FIRST_SLEEP: u64 = 50;
 
 const DOUBLINGS: u64 = 4;
@@ -40,7 +40,7 @@ pub struct Wakers {
 #[derive(Drop)]
 struct Waker {
     waits: AtomicBool,
-    // Whether an envelope may have come since the core looked last: at first one that was there before its worker.
+    // Whether an envelope may have come since the core last looked. At first one may be there from before the worker.
     has_news: AtomicBool,
     parker: Parker,
 }
@@ -59,9 +59,9 @@ impl Wakers {
         }
     }
 
-    /// Wakes whom an item of this core may concern: the receiver of a letter, its sender, which may have waited for room, and
-    /// of a spinlock that is given back or a change of the board all that wait. The core itself waits no longer. A letter is
-    /// news for its receiver, and one that was received for its core, since more may have come with it.
+    /// Wakes the cores that an item of this core may concern: the receiver of a posted letter; the sender of a received
+    /// one, which may have waited for room; all that wait, if a spinlock is released or the board changed. This core
+    /// waits no longer. A posted letter is news for its receiver; a received one for this core, as more may have come.
     pub fn notify(&self, cores: &[CoreId], core: CoreId, item: &Item) {
         self.withdraw(core);
         match *item {
@@ -83,15 +83,15 @@ impl Wakers {
         }
     }
 
-    // An envelope may have come for this core.
+    // Notes that an envelope may have come for this core.
     fn bring_news(&self, core: CoreId) {
         if let Some(waker) = self.cores.get(usize::from(core.number)) {
             waker.has_news.store(true, Ordering::SeqCst);
         }
     }
 
-    /// Before this core looks for mail: whether an envelope may have come since it looked last. That is forgotten here, before
-    /// it looks, so that what comes meanwhile is news again. Of an envelope that no worker sent, only `notify` brings news.
+    /// Whether an envelope may have come since this core last looked for mail. The call clears the news, so an envelope
+    /// that comes later is news again. Only `notify` brings news of an envelope that no worker sent.
     #[inline(always)]
     pub(crate) fn take_news(&self, core: CoreId) -> bool {
         let Some(waker) = self.cores.get(usize::from(core.number)) else {
@@ -100,8 +100,8 @@ impl Wakers {
         waker.has_news.load(Ordering::SeqCst) && waker.has_news.swap(false, Ordering::SeqCst)
     }
 
-    /// After so many whole rounds in a row in which this core found nothing to do. At first it only continues. Then it announces
-    /// that it waits, looks for what came before in one round more, and sleeps for a bounded time after each further one.
+    /// Lets the core rest after `rounds` whole rounds in a row with nothing to do. At first it only continues. Then it
+    /// announces that it waits, looks in one more round for what came before, and then sleeps for bounded times.
     pub fn rest<R: Wait>(&self, rt: &R, core: CoreId, rounds: u64) {
         if rounds < AWAKE {
             return;
@@ -114,14 +114,14 @@ impl Wakers {
         }
     }
 
-    // From now on whoever has news for this core wakes it.
+    // Notes that this core waits. From now on, any core that has news for it wakes it.
     fn announce(&self, core: CoreId) {
         if let Some(waker) = self.cores.get(usize::from(core.number)) {
             waker.waits.store(true, Ordering::SeqCst);
         }
     }
 
-    // This core waits no longer. It alone writes that word, and seldom finds it set.
+    // Notes that this core waits no longer. Only this core writes `waits`, and seldom finds it set.
     fn withdraw(&self, core: CoreId) {
         if let Some(waker) = self.cores.get(usize::from(core.number)) {
             if waker.waits.load(Ordering::Relaxed) {
@@ -146,7 +146,7 @@ impl Wakers {
         }
     }
 
-    // Sleeps until this core is woken, or for a time that grows with the number of sleeps before.
+    // Sleeps until this core is woken, or for a time that grows with the number of sleeps before, up to a bound.
     fn sleep<R: Wait>(&self, rt: &R, core: CoreId, slept: u64) {
         if let Some(waker) = self.cores.get(usize::from(core.number)) {
             let bound = FIRST_SLEEP << slept.min(DOUBLINGS);

@@ -10,8 +10,8 @@ use crate::turns::Stop;
 use osbase::Report;
 use osrun::CoreRun;
 
-/// A core at work: what it took and printed, its seats at what the cores share, its end of the mail, and the clocks of its
-/// items.
+/// A core at work: what it took and printed, its seats at what the cores share, its end of the mail, and the clocks of
+/// its items.
 #[derive(Drop)]
 pub struct Worker<'a, M> {
     pub run: &'a Run<'a>,
@@ -27,7 +27,7 @@ pub struct Worker<'a, M> {
     ghost placed_spins: { seats.spins.place ≡ run.now.bank.now },
 }
 
-/// A worker in its rounds, at a place of the round, after so many turns in a row that changed nothing.
+/// A worker in its rounds, with its place in the round and the number of turns in a row that changed nothing.
 #[derive(Drop)]
 pub struct Shift<'a, M> {
     pub worker: Worker<'a, M>,

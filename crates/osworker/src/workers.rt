@@ -1,5 +1,5 @@
-//! A worker's turns. Each makes at most one call of the board, of one spinlock or of one mailbox, and none allocates. What others
-//! can find changed by the call has its clock raised before; what the item stands on has its clock heard after.
+//! A worker's turns. Each makes at most one call of the board, of one spinlock or of one mailbox, and none allocates.
+//! A turn raises the clock of what it changes before the call, and reads the clock of what its item depends on after.
 
 ghost use Rattle.std.specs.Prelude.{false, ◌≡◌, ◌<◌, ◌⊎◌, IsTrue, OnOk};
 ghost use Rattle.osadmit.specs.Admission.{takes_in};
@@ -33,7 +33,8 @@ impl<'a, M: Mail> Worker<'a, M> {
         self.mail.room()
     }
 
-    /// Serves another core: the oldest envelope from it, if one came and this core may serve. Where none is taken, the room stays.
+    /// Serves the core `from`: takes its oldest envelope, if this core may serve and an envelope came. If this core
+    /// cannot take the letter, the result is `Refused`. If nothing was taken, the room stays.
     pub fn serve(&mut self, from: CoreId) -> Turned
         requires { MayTurn M.has_room self.old }
         ensures turn { IsTurn M.sent M.taken M.which 0 result self.old self.new }
@@ -58,7 +59,8 @@ impl<'a, M: Mail> Worker<'a, M> {
         Turned::Took
     }
 
-    /// Does the core's own work.
+    /// Takes the core's own turn: does what the core wants, if it can be done and the core can take the item that
+    /// results.
     pub fn own(&mut self) -> Turned
         requires { MayTurn M.has_room self.old }
         ensures turn { IsTurn M.sent M.taken M.which 0 result self.old self.new }
@@ -77,7 +79,8 @@ impl<'a, M: Mail> Worker<'a, M> {
         }
     }
 
-    /// Looks at the board: it loads one of its words, also where the core waits for nothing there.
+    /// Looks at the board: loads one of its words, even if the core waits for nothing there. Takes the item that
+    /// results, if the core can.
     pub fn look(&mut self) -> Turned
         requires { MayTake self.old }
         ensures { IsTurn M.sent M.taken M.which 1 result self.old self.new }
@@ -92,7 +95,7 @@ impl<'a, M: Mail> Worker<'a, M> {
         }
     }
 
-    // Looks for a shutdown of all cores, as a core at work does. Seldom one was requested.
+    // Looks whether a shutdown of all cores was requested, which is rare, and if so takes the halt item.
     fn look_halt(&mut self) -> Turned
         requires room { MayTake self.old }
         requires watch { watch_in self.old.core.kernel ≡ Halt }
@@ -108,7 +111,7 @@ impl<'a, M: Mail> Worker<'a, M> {
         }
     }
 
-    // Loads a word of the board, and takes the item that it results in, if there is one.
+    // Loads a word of the board, and takes the item that results, if there is one that the core can take.
     fn load_board(&mut self, call: BoardCall) -> Turned
         requires room { MayTake self.old }
         requires loads { LoadsBoard call }
@@ -126,7 +129,7 @@ impl<'a, M: Mail> Worker<'a, M> {
         }
     }
 
-    // The core takes the item that it found on the board, if it can.
+    // The core takes the item that it found on the board, if it can. Returns whether it did.
     #[inline(never)]
     fn take_found(&mut self, item: Item) -> bool
         requires { MayTake self.old }
@@ -142,7 +145,8 @@ impl<'a, M: Mail> Worker<'a, M> {
         true
     }
 
-    // Makes a call that changes the board, where the core may take the item that it results in.
+    // If the core may take the item that results from this call, makes the call, which changes the board, and takes the
+    // item.
     fn write_board(&mut self, call: BoardCall) -> Turned
         requires room { MayTake self.old }
         requires changes { ChangesBoard call }
@@ -163,14 +167,15 @@ impl<'a, M: Mail> Worker<'a, M> {
         Turned::Took
     }
 
-    // Makes a call of a spinlock, where the core may take the item that it results in. GetSpinlock of one that is taken results in none.
+    // If the core may take the item of a call that succeeds, calls the spinlock and takes the item that results. A call
+    // of GetSpinlock or ReleaseSpinlock that is refused results in none.
     fn call_spinlock(&mut self, wish: SpinWish) -> Turned
         requires room { MayTake self.old }
         requires lock { (spin_call_of wish).lock.index < SPINLOCKS }
         requires asked { IsAsked self.old.run.now.config.now self.old.core (OfSpins wish) }
         ensures turn { IsTurn M.sent M.taken M.which 0 result self.old self.new }
         ensures stuck { UnlessTook result (MayWait (OfSpins wish) ⊎ ((answer : ReplyValue) → MayAnswer self.old.core.id (OfSpins wish) answer → IsFruitless self.old.core.id self.old.core.kernel (OfSpins wish) answer)) }
-        // A turn that took nothing made the call, and was refused.
+        // A turn that took nothing made no call, since the core does not take the item, or its call was refused.
         ensures called { UnlessTook result ((takes_in outbox_size self.old.core.kernel (item_of_wish wish) ≡ false) ⊎ Extends spinlocks self.old.seats.spins (entry self.old.core.id (spin_call_of wish) (Answered false)) self.new.seats.spins) }
     {
         if !self.core.kernel.may_take(&item_of_wish(wish)) {
@@ -190,7 +195,7 @@ impl<'a, M: Mail> Worker<'a, M> {
         Turned::Took
     }
 
-    // Sends the front of the outbox, if its mailbox has room.
+    // Sends the front of the outbox, if the mailbox for that core has room and the core may take the item of a post.
     fn post(&mut self, to: CoreId) -> Turned
         requires room { MayTurn M.has_room self.old }
         requires asked { IsAsked self.old.run.now.config.now self.old.core (Room to) }
@@ -224,7 +229,7 @@ impl<'a, M: Mail> Worker<'a, M> {
         self.core.take(item);
     }
 
-    // Does what takes no call: the core's next stimulus, or the start of a core that is not configured.
+    // Does what needs no call: the core's next stimulus, or the start of a core that is not configured.
     fn take_without_call(&mut self, request: Request) -> Turned
         requires room { MayTake self.old }
         requires asked { IsAsked self.old.run.now.config.now self.old.core request }
@@ -242,8 +247,9 @@ impl<'a, M: Mail> Worker<'a, M> {
     }
 }
 
-// The item that a core's call results in that changes the board. The reply to a start may also be E_OS_STATE, and another core
-// may have requested a shutdown first; a core that takes this item takes that one too.
+// The item in which a core's call that changes the board results. For a start, this is so if the core to start was not
+// started before; for a request of a shutdown, if no other core requested one before. Otherwise, the item has the other
+// status or core. A core that takes the one item takes the other, too.
 fn item_of_call(core: CoreId, call: BoardCall) -> Item
     ensures { result ≡ item_of_call core call }
 {
@@ -259,8 +265,8 @@ fn item_of_call(core: CoreId, call: BoardCall) -> Item
     }
 }
 
-// The item that a call of a spinlock results in, if the spinlock was free or is given back. The reply to a try may also be no; a core
-// that takes this item takes that one too.
+// The item that results from a spinlock call that succeeds. TryToGetSpinlock results in an item also if it fails. A
+// core that takes the item of success takes that of failure, too.
 fn item_of_wish(wish: SpinWish) -> Item
     ensures { result ≡ item_of_wish wish }
 {

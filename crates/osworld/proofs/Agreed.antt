@@ -1,4 +1,4 @@
--- What a turn names by what a run holds is what the world's definition names.
+-- What a run holds in memory gives a turn the same request and item as the world's definition.
 use Rattle.std.proofs.Common.{◌≡◌, ◌<◌, false, ◌&&◌, cond, Option, Some, None, option_map, List, [], ◌∷◌, drop, refl, sym, ap, ◌∙◌, arith, nat_lt, length-drop}
 use Rattle.std.specs.{List.slice_get}
 use Rattle.std.proofs.{lemmas.Bool.Decides.nat_tests}
@@ -17,7 +17,7 @@ use Rattle.osrun.specs.Requests.{request_of_turn, request_by, next_item, item_by
 use Rattle.osworld.specs.World.{World, reply_in, board_in, has_room, history_in, holders_in, items_in, next_in, next_stimulus}
 use Rattle.osworld.proofs.{Listed.list_of, Waiting.front-drop}
 
--- no seat is of a core that is numbered 16 or above
+-- a core numbered 16 or above has no list
 pub list_of-beyond : (id : CoreId) (core_runs : List CoreRun) → nat_lt id.number CORES ≡ false → list_of id (lists_of core_runs) ≡ None
 list_of-beyond id [] e = refl
 list_of-beyond id (s ∷ ss) e = let below : s.id.number < CORES = s.known in grind (arith, nat_tests, below, list_of-beyond id ss e)

@@ -8,19 +8,19 @@ use Rattle.osplan.specs.{declared.plans.Plan.Plan, View.view_of}
 use Rattle.osbase.proofs.Same.{same_core-true}
 use Rattle.oskernel.specs.{Step.after, Step.history_from, Wants.front_of}
 use Rattle.osrun.specs.declared.requests.Request.{Request}
-use Rattle.osworld.specs.{World.World, World.appends, World.history_in, Answering.mail_after, Answering.IsPlaced, Playing.IsMail, Playing.waiting}
+use Rattle.osworld.specs.{World.World, World.with_turn, World.history_in, Answering.mail_after, Answering.IsPlaced, Playing.IsMail, Playing.waiting}
 use Rattle.osworld.proofs.Listed.{items_by, list_of, list_of-same, list_of-other}
 use Rattle.osrun.proofs.Longer.{history_from-push}
 use Rattle.osrun.proofs.Streams.{is_post_to, is_from, posted-after, received-after}
 use Rattle.osworld.proofs.Waiting.{box-changed, box-taken}
 
--- What an item of this core may add for it is added for no other one.
+-- What an item of a core may add for that core, it adds for no other core.
 pub added-in : {A : Type 0} (now more less : CoreId → A) (b : Bool) (core c : CoreId) → now core ≡ cond b (more core) (less core) → (same_core core c ≡ false → now c ≡ less c) → now c ≡ cond (b && same_core core c) (more c) (less c)
 added-in now more less b core c here there = grind (arith, same_core-true core c)
 
 module _ (plan : Plan) (w : World) (core : CoreId) (request : Request) (item : Item) (p : CoreId × List Item) (listed : list_of core w.items ≡ Some p) where
   abbrev pub next : World
-  next = appends plan w core request item
+  next = with_turn plan w core request item
 
   pub history-same : history_in plan next core ≡ after (view_of plan core) (history_in plan w core) item
   history-same =
@@ -46,7 +46,7 @@ module _ (plan : Plan) (w : World) (core : CoreId) (request : Request) (item : I
   pub received-in : (from to : CoreId) → received_count from (history_in plan next to) ≡ cond (is_from item from && same_core core to) (suc (takes_in from to)) (takes_in from to)
   received-in from to = grind (arith, same_core-true core to, history-same, history-other to, received-after (view_of plan core) from item (history_in plan w core))
 
-  -- nothing is on its way that was not, and nothing was received
+  -- nothing was posted, and nothing was received
   pub unmoved : (mail : Mail) → IsMail plan w mail → ((from to : CoreId) → posted to (history_in plan next from) ≡ sends from to) → ((from to : CoreId) → received_count from (history_in plan next to) ≡ takes_in from to) → IsMail plan next mail
   unmoved mail m same_posted same_received = record {
     cap = m.cap;
@@ -62,7 +62,7 @@ module _ (plan : Plan) (w : World) (core : CoreId) (request : Request) (item : I
 -- a post: the outbox's front joins its stream, and its mailbox
 module _ (plan : Plan) (w : World) (core to : CoreId) (request : Request) (p : CoreId × List Item) (listed : list_of core w.items ≡ Some p) (mail : Mail) (m : IsMail plan w mail) (known : core.number < CORES) (placed : IsPlaced mail core (Item.Posted to)) where
   abbrev posts : World
-  posts = appends plan w core request (Item.Posted to)
+  posts = with_turn plan w core request (Item.Posted to)
 
   abbrev with_front : Letter → Mail
   with_front e = with_box mail core to (box_of mail core to ++ e ∷ [])
@@ -99,9 +99,9 @@ module _ (plan : Plan) (w : World) (core to : CoreId) (request : Request) (p : C
 -- a receipt: the oldest envelope leaves its mailbox
 module _ (plan : Plan) (w : World) (core from : CoreId) (request : Request) (number : ℕ) (message : Message) (p : CoreId × List Item) (listed : list_of core w.items ≡ Some p) (mail : Mail) (m : IsMail plan w mail) (known : core.number < CORES) (placed : IsPlaced mail core (Item.Received from number message)) where
   abbrev receives : World
-  receives = appends plan w core request (Item.Received from number message)
+  receives = with_turn plan w core request (Item.Received from number message)
 
-  -- what stands in front is the next one
+  -- the letter in front is the next to be received
   some : suc (received_count from (history_in plan w core)) ≤ length (posted core (history_in plan w from))
   some = grind (arith, placed.1, m.boxes from core placed.0 known, slice_get_past (box_of mail from core) 0, length-drop (received_count from (history_in plan w core)) (posted core (history_in plan w from)))
 
@@ -122,8 +122,8 @@ module _ (plan : Plan) (w : World) (core from : CoreId) (request : Request) (num
   pub receiving_on : IsMail plan receives (after_take mail from core)
   receiving_on = record { cap = m.cap; places = length-set mail.boxes _ _ ∙ m.places; boxes = box_after; order = order_after }
 
--- whatever the item is, the mailboxes hold what is on its way
-pub carries_on : (plan : Plan) (w : World) (core : CoreId) (request : Request) (item : Item) (p : CoreId × List Item) → list_of core w.items ≡ Some p → (mail : Mail) → IsMail plan w mail → core.number < CORES → IsPlaced mail core item → IsMail plan (appends plan w core request item) (mail_after core (front_of (outbox (history_in plan w core))) item mail)
+-- for each item, the mailboxes hold what is on its way
+pub carries_on : (plan : Plan) (w : World) (core : CoreId) (request : Request) (item : Item) (p : CoreId × List Item) → list_of core w.items ≡ Some p → (mail : Mail) → IsMail plan w mail → core.number < CORES → IsPlaced mail core item → IsMail plan (with_turn plan w core request item) (mail_after core (front_of (outbox (history_in plan w core))) item mail)
 carries_on plan w core request (Item.Posted to) p listed mail m known placed = posting_on plan w core to request p listed mail m known placed
 carries_on plan w core request (Item.Received from number message) p listed mail m known placed = receiving_on plan w core from request number message p listed mail m known placed
 carries_on plan w core request item p listed mail m known placed = aside plan w core request item p listed mail m (λ d. refl) (λ s. refl)

@@ -13,7 +13,7 @@ use Rattle.osworld.specs.Runs.{default_turns, has_ended, is_default, is_default_
 use Rattle.osworld.specs.Playing.{IsCutShort, IsDefaultCutShort, IsDefaultPlayed, IsPlayed, lists_of, Plays}
 use Rattle.osworld.proofs.{Played.cut-behind, Played.world_from-append, Played.world_from-grows, Reported.reported-cut, Reported.reports-played, Short.world-bounded}
 
--- Whether all have ended, read off the seats.
+-- Whether all started cores have ended, by their seats.
 abbrev pub seats_over : BoardState → List CoreRun → Bool
 seats_over board core_runs = list_all (λ (s : CoreRun). not (has_core board.view.started s.id) || is_ended_phase s.kernel.progress.phase) core_runs
 
@@ -99,7 +99,7 @@ module _ (plan : Plan) (stimuli : List CoreStimuli) (next : ℕ) (core_runs : Li
     cut = cut-behind plan stimuli (first_world plan) (default_turns plan underway.played) (round_of plan) core_runs' shared' cut;
   }
 
-  -- the rounds come to an end, since each of them appends an item
+  -- the rounds end, since each of them appends an item
   pub too_many : 2 ^ 63 ≤ next → ⊥
   too_many many = let few = world-bounded plan stimuli (default_turns plan underway.played) in let grown = underway.grown in let is = underway.is_next in omega arith
 

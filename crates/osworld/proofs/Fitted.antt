@@ -1,4 +1,4 @@
--- Every world fits: what it was before a turn did, and so does what the turn appends.
+-- Every world fits: the world before a turn fits, and so does the item that the turn appends.
 use mathlib.Core.List.{IsPrefix}
 use native.Mathlib.Omega.{arith}
 use Rattle.std.proofs.Common.{◌≡◌, Bool, true, false, ◌&&◌, cond, Option, Some, List, [], ◌∷◌, ◌++◌, refl, sym, ap, subst, ◌∙◌, append-nil}
@@ -16,7 +16,7 @@ use Rattle.osspin.specs.Spins.{no_holders, spin_reply, spinlocks}
 use Rattle.osrun.specs.{declared.requests.Request.Request, declared.requests.Request.TheVariants.OfBoard, declared.requests.Request.TheVariants.OfSpins}
 use Rattle.osrun.specs.Requests.{Calls, calls_of, joined, no_calls, spin_call_of, call_of_turn}
 use Rattle.osrun.specs.Fits.{FitsBy, ids_of, AreAnswered, Fits, FitsCore}
-use Rattle.osworld.specs.World.{World, reply_in, appends, board_in, first_world, history_in, holders_in, items_in, next_stimulus, world}
+use Rattle.osworld.specs.World.{World, reply_in, with_turn, board_in, first_world, history_in, holders_in, items_in, next_stimulus, world}
 use Rattle.osrun.proofs.{Beginnings.begins-longer, Beginnings.begins-next, Beginnings.begins-through, Longer.length-stimuli_in, Longer.IsInTurn, Longer.core-on, Asked.IsOwnRequest, Asked.asks-own}
 use Rattle.osworld.proofs.{Listed.items_by, Listed.list_of-same, Listed.list_of-other, Started.no_history, Started.nothing_of, Turns.Appends, Turns.turns-keep, Fitting.IsNext, Fitting.follows}
 use Rattle.osrun.proofs.Streams.{is_from, is_post_to, received_letter, length-received, received-is}
@@ -27,7 +27,7 @@ use Rattle.osrun.proofs.Answered.{answered-push, calls_of-joined, joined-none, t
 abbrev WorldFits : Plan → List CoreStimuli → World → Type 0
 WorldFits plan stimuli w = FitsBy plan stimuli w.items w.calls
 
--- an item from another core is what that one posted next
+-- an item received from a core is what that core posted next
 next-letter : (plan : Plan) (stimuli : List CoreStimuli) (w : World) (core from : CoreId) (i : Item) → is_from i from ≡ true → IsNext plan stimuli w core i
     → (e : Letter) × (received_letter i ≡ e ∷ []) × (slice_get (posted core (history_in plan w from)) (received_count from (history_in plan w core)) ≡ Some e) × ((d : CoreId) → is_post_to i d ≡ false)
 next-letter plan stimuli w core from (Item.Received f number m) is next =
@@ -40,7 +40,7 @@ in-turn plan stimuli w core (Item.Stim s) next = ap (slice_get (stimuli_of stimu
 in-turn plan stimuli w core Item.Drained next = λ going. ap (slice_get (stimuli_of stimuli core)) (length-stimuli_in (items_in w core)) ∙ next going
 in-turn plan stimuli w core item next = tt
 
--- what holds of this core, and of every other one
+-- what holds of this core and of each other core holds of every core
 here-or-there : (P : CoreId → Type 0) (core id : CoreId) → P core → (same_core core id ≡ false → P id) → P id
 here-or-there P core id here there = by (same_core core id) refl
   where
@@ -51,7 +51,7 @@ here-or-there P core id here there = by (same_core core id) refl
 -- a world in which a turn appended an item
 module _ (plan : Plan) (stimuli : List CoreStimuli) (w : World) (fits : WorldFits plan stimuli w) (core : CoreId) (request : Request) (item : Item) (p : CoreId × List Item) (turn : Appends plan stimuli w core request item p) where
   abbrev next : World
-  next = appends plan w core request item
+  next = with_turn plan w core request item
 
   follows-on : IsNext plan stimuli w core item
   follows-on = follows plan stimuli w core _ request item

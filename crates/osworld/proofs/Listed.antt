@@ -26,12 +26,12 @@ pub list_of-same : (id : CoreId) (item : Item) (lists : Lists) (p : CoreId × Li
 list_of-same id item [] p e = cc
 list_of-same id item (q ∷ qs) p e = grind (arith, list_of-same id item qs p)
 
--- every other one is as it was
+-- every other list is as it was
 pub list_of-other : (id other : CoreId) (item : Item) (lists : Lists) → same_core id other ≡ false → list_of other (with_item id item lists) ≡ list_of other lists
 list_of-other id other item [] e = refl
 list_of-other id other item (q ∷ qs) e = grind (arith, nat_tests, list_of-other id other item qs e)
 
--- the lists of the seats, where one seat takes an item
+-- the lists of the seats, if one seat takes an item
 pub lists_of-set : (id : CoreId) (item : Item) (core_runs : List CoreRun) (at : ℕ) (core_run d : CoreRun) → at ≡ position_or_len (is_seat_of id) core_runs → at < length core_runs → core_run.id ≡ (get_or core_runs at d).id → core_run.items.items ≡ (get_or core_runs at d).items.items ++ item ∷ [] → with_item id item (lists_of core_runs) ≡ lists_of (set core_runs at core_run)
 lists_of-set id item [] at core_run d e lt same_id taken = absurd (omega arith)
 lists_of-set id item (s ∷ ss) zero core_run d e lt same_id taken = grind arith
@@ -46,19 +46,19 @@ list_of-core_run id (s ∷ ss) (suc at) d e lt = grind (arith, list_of-core_run 
 pub seat_is_of : (id : CoreId) (core_runs : List CoreRun) (at : ℕ) (d : CoreRun) → at ≡ position_or_len (is_seat_of id) core_runs → at < length core_runs → same_core (get_or core_runs at d).id id ≡ true
 seat_is_of id core_runs at d e lt = rw e (passes_at_first (is_seat_of id) core_runs d (omega arith))
 
--- no seat of this core, no list
+-- a core without a seat has no list
 pub list_of-nobody : (id : CoreId) (core_runs : List CoreRun) → length core_runs ≤ position_or_len (is_seat_of id) core_runs → list_of id (lists_of core_runs) ≡ None
 list_of-nobody id [] le = refl
 list_of-nobody id (s ∷ ss) le = grind (arith, list_of-nobody id ss)
 
--- where a core sits
+-- the place of a core's seat
 pub core_run_place : (id : CoreId) (core_runs : List CoreRun) (at : ℕ) → position (is_seat_of id) core_runs ≡ Some at → (at ≡ position_or_len (is_seat_of id) core_runs) × (at < length core_runs)
 core_run_place id core_runs at e = grind (arith, nat_tests)
 
 pub seat_nowhere : (id : CoreId) (core_runs : List CoreRun) → position (is_seat_of id) core_runs ≡ None → length core_runs ≤ position_or_len (is_seat_of id) core_runs
 seat_nowhere id core_runs e = grind (arith, nat_tests)
 
--- one item more in all
+-- an item appended to a list adds one to the total
 pub total-push : (id : CoreId) (item : Item) (lists : Lists) (p : CoreId × List Item) → list_of id lists ≡ Some p → sum_by (λ (q : CoreId × List Item). length q.1) (with_item id item lists) ≡ suc (sum_by (λ (q : CoreId × List Item). length q.1) lists)
 total-push id item [] p e = cc
 total-push id item (q ∷ qs) p e =

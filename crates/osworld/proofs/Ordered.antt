@@ -1,4 +1,5 @@
--- Turns whose listed run has the same cores and items as these reports have exactly these reports, but for their clocks.
+-- Turns whose listed run has the same cores and items as these reports have exactly these reports, but for their
+-- clocks.
 use Rattle.std.proofs.Common.{◌≡◌, ◌<◌, ℕ, List, map, length, get_or, sym, ap, subst, ◌∙◌}
 use Rattle.std.proofs.Math.ListN as seq
 use Rattle.std.proofs.{lemmas.List.get_or-map, lemmas.Simd.map-map}
@@ -9,7 +10,7 @@ use Rattle.osrun.specs.Sound.{IsOwn, lists_in, report_by, unclocked}
 use Rattle.osworld.specs.{World.world, Runs.AreReports}
 use Rattle.osworld.proofs.Reported.{by-their-items, reports_by}
 
--- Reports of the same cores with the same items are so each by each.
+-- If two lists of reports have the same cores and items, so have the reports at each place.
 abbrev Listed : Type 0
 Listed = CoreId × List Item
 

@@ -1,4 +1,4 @@
--- Where the cores sit.
+-- The places of the cores' seats.
 use Rattle.std.proofs.Common.{◌≡◌, ℕ, zero, suc, ◌+◌, ◌<◌, ◌≤◌, false, Option, Some, None, List, [], ◌∷◌, cond, nat_lt, not, length, get_or, set, slice_get, refl, sym, ap, ◌∙◌, arith, ◌⊎◌, inl, inr, get_or-set_other, length-set}
 use Rattle.std.specs.List.{position, position_or_len}
 use Rattle.std.proofs.{lemmas.Bool.cases_eq, lemmas.Bool.Decides.nat_tests, lemmas.Grind.get_or-set_at, lemmas.Option.slice_get-get_or}
@@ -9,7 +9,7 @@ use Rattle.osworld.proofs.Listed.{is_seat_of}
 abbrev pub place_by : List CoreRun → CoreId → Option ℕ
 place_by core_runs core = position (is_seat_of core) core_runs
 
--- a seat that keeps its core leaves all places
+-- if a seat keeps its core, the places of all cores stay
 first-kept : (core_runs : List CoreRun) (at : ℕ) (core_run new : CoreRun) (core : CoreId) → core_run ≡ get_or core_runs at core_run → new.id ≡ core_run.id → position_or_len (is_seat_of core) (set core_runs at new) ≡ position_or_len (is_seat_of core) core_runs
 first-kept [] at core_run new core is same = refl
 first-kept (s ∷ ss) zero core_run new core is same = ap (λ (id : CoreId). cond (not (same_core id core)) (1 + position_or_len (is_seat_of core) ss) 0) (same ∙ ap (λ (s : CoreRun). s.id) is)
@@ -18,7 +18,7 @@ first-kept (s ∷ ss) (suc at) core_run new core is same = ap (λ (n : ℕ). con
 pub place_by-set : (core_runs : List CoreRun) (at : ℕ) (core_run new : CoreRun) (core : CoreId) → core_run ≡ get_or core_runs at core_run → new.id ≡ core_run.id → place_by (set core_runs at new) core ≡ place_by core_runs core
 place_by-set core_runs at core_run new core is same = rw (first-kept core_runs at core_run new core is same, length-set) refl
 
--- no core of a number of 16 or above has a seat
+-- no core numbered 16 or above has a seat
 pub place-nowhere : (core : CoreId) (core_runs : List CoreRun) → CORES ≤ core.number → None ≡ place_by core_runs core
 place-nowhere core core_runs big = rw (past core_runs) (rw (not_below (length core_runs)) refl)
   where
@@ -32,7 +32,7 @@ place-nowhere core core_runs big = rw (past core_runs) (rw (not_below (length co
     past [] = refl
     past (s ∷ ss) = rw (apart s.id s.known) (ap (λ (n : ℕ). 1 + n) (past ss) ∙ omega arith)
 
--- Below a number each core's place is in the table.
+-- For each core whose number is below a bound, the table has its place.
 abbrev pub ArePlaces : ℕ → List (Option ℕ) → List CoreRun → Type 0
 ArePlaces below places core_runs = (core : CoreId) → core.number < below → slice_get places core.number ≡ Some (place_by core_runs core)
 

@@ -24,7 +24,7 @@ pub world_from-append : (plan : Plan) (stimuli : List CoreStimuli) (w : World) (
 world_from-append plan stimuli w [] us = refl
 world_from-append plan stimuli w (t ∷ ts) us = world_from-append plan stimuli (turn plan stimuli w t) ts us
 
--- turns, and turns after them: what changed in the first part or in the second one has changed
+-- turns played after others: all of them changed something if the first or the second part did
 pub played-append : (plan : Plan) (stimuli : List CoreStimuli) (w : World) (ts us : Turns) (first second : Bool) (core_runs core_runs' : List CoreRun) (shared shared' : Shared) → IsPlayed plan stimuli w ts first core_runs shared
     → ((v : World) → Plays plan stimuli v core_runs shared → IsPlayed plan stimuli v us second core_runs' shared') → IsPlayed plan stimuli w (ts ++ us) (second || first) core_runs' shared'
 played-append plan stimuli w ts us first second core_runs core_runs' shared shared' before next =
@@ -35,13 +35,13 @@ played-append plan stimuli w ts us first second core_runs core_runs' shared shar
       tells = rw (world_from-append plan stimuli w ts us) (grind (arith, nat_tests, before.tells, then.tells, world_from-grows plan stimuli w ts, world_from-grows plan stimuli here us));
     }
 
--- turns that break off do so behind others, too, and whatever comes later
+-- turns that break off also do so after other turns, and before other turns
 module _ (plan : Plan) (stimuli : List CoreStimuli) (w : World) (ts us : Turns) (core_runs : List CoreRun) (shared : Shared) where
   pub cut-behind : IsCutShort plan stimuli (world_from plan stimuli w ts) us core_runs shared → IsCutShort plan stimuli w (ts ++ us) core_runs shared
   cut-behind cut = record {
     before = length ts + cut.before;
     within = let lt = cut.within in omega (arith, lt, length-append ts us);
-    appends = rw (add-assoc, along cut.before, along (cut.before + 1)) cut.appends;
+    with_turn = rw (add-assoc, along cut.before, along (cut.before + 1)) cut.with_turn;
     plays = rw (along cut.before) cut.plays;
   }
     where
@@ -58,11 +58,11 @@ module _ (plan : Plan) (stimuli : List CoreStimuli) (w : World) (ts us : Turns) 
       record {
         before = cut.before;
         within = omega (arith, lt, length-append ts us);
-        appends = rw (now, take-append-le (cut.before + 1) ts us (omega (arith, lt))) cut.appends;
+        with_turn = rw (now, take-append-le (cut.before + 1) ts us (omega (arith, lt))) cut.with_turn;
         plays = rw now cut.plays;
       }
 
--- ---- the same of a run
+-- ---- the same for a run
 
 -- a run plays turns, and then others
 module _ (old run new : Run) (same : run.config ≡ old.config) (turns more : Turns) (changed : Bool) (before : PlaysTurns turns old changed run) where
@@ -70,14 +70,14 @@ module _ (old run new : Run) (same : run.config ≡ old.config) (turns more : Tu
   plays-on changed' next stimuli w plays =
       played-append old.config.now stimuli w turns more changed changed' run.core_runs.items new.core_runs.items run.shared new.shared (before stimuli w plays) (rw same at (next stimuli))
 
-  -- or breaks off within those, whatever comes later
+  -- a run plays turns and breaks off within the next ones, whatever turns follow
   pub stops-on : (later : Turns) → StopsShort more run new → StopsShort (turns ++ (more ++ later)) old new
   stops-on later stops stimuli w plays =
       let here = world_from old.config.now stimuli w turns in
       cut-behind old.config.now stimuli w turns (more ++ later) new.core_runs.items new.shared
       (cut-ahead old.config.now stimuli here more later new.core_runs.items new.shared ((rw same at (stops stimuli)) here (before stimuli w plays).plays))
 
--- the first of them break off
+-- a run breaks off within the first turns, whatever turns follow
 pub stops-first : (old new : Run) (turns later : Turns) → StopsShort turns old new → StopsShort (turns ++ later) old new
 stops-first old new turns later stops stimuli w plays = cut-ahead old.config.now stimuli w turns later new.core_runs.items new.shared (stops stimuli w plays)
 

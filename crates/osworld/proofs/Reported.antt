@@ -12,7 +12,7 @@ use Rattle.osworld.specs.World.{World, first_world, with_item, world}
 use Rattle.osrun.proofs.{Alone.fits-alone, Grouped.fits-apart, CoreRunning.seated-own}
 use Rattle.osworld.proofs.{Fitted.world_fits, Listed.Lists, Turns.turns-keep}
 
--- a turn leaves the cores that have lists
+-- a turn does not change which cores have lists
 abbrev ids : Lists → List CoreId
 ids ls = map (λ (p : CoreId × List Item). p.0) ls
 
@@ -25,12 +25,12 @@ ids-world plan stimuli turns =
     turns-keep plan stimuli (λ (w : World). ids w.items ≡ ids_of plan) (λ w core request item p turn same. same-ids core item w.items ∙ same) (first_world plan) turns
     (map-map (λ (p : CoreId × List Item). p.0) (λ (id : CoreId). let p : CoreId × List Item = (id, []) in p) (ids_of plan) ∙ map-id (ids_of plan))
 
--- each seat's report is its items' own
+-- each seat's report says what its items say
 each-own : (plan : Plan) (stimuli : List CoreStimuli) (core_runs : List CoreRun) → All (IsCoreRun plan stimuli) core_runs → AllByRecursion (IsOwn plan) (map report_of core_runs)
 each-own plan stimuli core_runs seated =
     recursion_from_All (IsOwn plan) (map report_of core_runs) (All-map (IsOwn plan) report_of core_runs (λ k d within. seated-own plan stimuli (get_or core_runs k d) (seated k d within)))
 
--- reports that say what their items say are known by their items
+-- If reports say what their items say, their items determine them, but for their clocks.
 abbrev pub reports_by : Plan → List (CoreId × List Item) → List Report
 reports_by plan lists = map (λ (p : CoreId × List Item). report_by plan p.0 p.1) lists
 
@@ -39,7 +39,7 @@ by-their-items plan [] own = refl
 by-their-items plan (r ∷ rs) own =
     ap (λ (s : Report). s ∷ map unclocked rs) own.0 ∙ ap (λ (ss : List Report). report_by plan r.core r.items ∷ ss) (by-their-items plan rs own.1)
 
--- turns from the beginning
+-- the reports after turns that were played from the first world on
 pub reports-played : (plan : Plan) → IsTrue (is_within_limits plan) → (stimuli : List CoreStimuli) → AreKnown plan stimuli → (turns : List (CoreId × Choice)) (core_runs : List CoreRun) (shared : Shared) → Plays plan stimuli (world plan stimuli turns) core_runs shared → AreReports plan stimuli turns (map report_of core_runs)
 reports-played plan limits stimuli known turns core_runs shared plays =
     let lists : lists_in (map report_of core_runs) ≡ (world plan stimuli turns).items = map-map (λ (r : Report). (r.core, r.items)) report_of core_runs ∙ sym plays.lists in
@@ -56,8 +56,8 @@ reports-played plan limits stimuli known turns core_runs shared plays =
       };
     }
 
--- turns before which memory ran out
+-- the reports, if memory ran out before one of the turns
 pub reported-cut : (plan : Plan) → IsTrue (is_within_limits plan) → (stimuli : List CoreStimuli) → AreKnown plan stimuli → (turns : List (CoreId × Choice)) (core_runs : List CoreRun) (shared : Shared) → IsCutShort plan stimuli (first_world plan) turns core_runs shared
     → (before : ℕ) × (before < length turns) × AppendsAt plan stimuli (first_world plan) turns before × AreReports plan stimuli (take before turns) (map report_of core_runs)
 reported-cut plan limits stimuli known turns core_runs shared short =
-    (short.before, short.within, short.appends, reports-played plan limits stimuli known (take short.before turns) core_runs shared short.plays)
+    (short.before, short.within, short.with_turn, reports-played plan limits stimuli known (take short.before turns) core_runs shared short.plays)

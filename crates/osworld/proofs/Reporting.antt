@@ -8,10 +8,10 @@ module _ {A B : Type 0} (f : A → B) (all now : List A) (n : ℕ) (x : A) (as-m
   same : get_or all n x ≡ x
   same = grind (arith, so, at, get_or-drop n all 0 x, get_or-drop n now 0 x)
 
-  -- One more is reported.
+  -- One more core is reported.
   pub one-more : map f (take (n + 1) all) ≡ map f (take n all) ++ f x ∷ []
   one-more = ap (map f) (take_more all n x (omega (arith, within, as-many))) ∙ map-append f (take n all) (get_or all n x ∷ []) ∙ ap (λ (y : A). map f (take n all) ++ f y ∷ []) same
 
-  -- The others stay, whatever is left of this one.
+  -- The cores after this one stay, whatever is left of this one.
   pub others : (y : A) → drop (n + 1) (slice_set now n y) ≡ drop (n + 1) all
   others y = drop-set-lt (n + 1) now n y (omega arith) ∙ sym (drop-drop 1 n now) ∙ ap (drop 1) so ∙ drop-drop 1 n all

@@ -1,4 +1,4 @@
--- A core for which no envelope waits serves the others, and nothing changes.
+-- If no envelope waits for a core, nothing changes when it serves the others.
 use Rattle.std.proofs.Common.{◌≡◌, ◌<◌, ℕ, Bool, true, false, not, ◌&&◌, cond, nat_lt, Option, Some, None, slice_get, List, [], ◌≤◌, ◌∷◌, ◌++◌, filter, length, get_or, map, refl, sym, ap, subst, ◌∙◌, arith, ◌⊎◌, inl, inr}
 use Rattle.std.specs.List.{position}
 use Rattle.std.proofs.{lemmas.Bool.ltb-true, lemmas.Bool.Decides.nat_tests, lemmas.List.map-append, lemmas.List.Elements.filter-append, lemmas.Option.slice_get_cases}
@@ -48,10 +48,10 @@ module _ (plan : Plan) (stimuli : List CoreStimuli) (w : World) (core_runs : Lis
     tells = rw (unserved froms) (grind (arith, nat_tests));
   }
 
--- what a core serves of more cores
+-- the turns by which a core serves the cores of two lists, one after the other
 pub serves-append : (ids more : List CoreId) (id : CoreId) → serves_of (ids ++ more) id ≡ serves_of ids id ++ serves_of more id
 serves-append ids more id = ap (serves id) (filter-append (λ (from : CoreId). not (same_core from id)) ids more) ∙ map-append (λ (from : CoreId). (id, Serve from)) (filter (λ (from : CoreId). not (same_core from id)) ids) (filter (λ (from : CoreId). not (same_core from id)) more)
 
--- what it serves of one other core
+-- the turn by which a core serves one other core
 pub serves-other : (other id : CoreId) → same_core other id ≡ false → serves_of (other ∷ []) id ≡ (id, Serve other) ∷ []
 serves-other other id is = ap (λ (b : Bool). map (λ (from : CoreId). (id, Serve from)) (cond (not b) (other ∷ []) [])) is

@@ -8,7 +8,7 @@ use Rattle.osstate.specs.State.{state_of}
 use Rattle.osadmit.specs.Admission.{admits}
 use Rattle.oskernel.specs.Step.{after, history_from, outbox_size}
 use Rattle.osrun.specs.{Fits.ids_of, declared.requests.Request.Request}
-use Rattle.osworld.specs.World.{World, appends, first_world, history_in, turn, with_item, world, item_total}
+use Rattle.osworld.specs.World.{World, with_turn, first_world, history_in, turn, with_item, world, item_total}
 use Rattle.oskernel.proofs.Holding.{quiet_after}
 use Rattle.osworld.proofs.{Listed.Lists, Listed.list_of, Reported.ids-world, Turns.Appends, Turns.turns-keep}
 
@@ -38,7 +38,7 @@ short-push : (id : CoreId) (item : Item) (ls : Lists) (p : CoreId × List Item) 
 short-push id item [] p e lt short = cc
 short-push id item (q ∷ qs) p e lt short = grind (arith, short.0, short.1, length-append q.1 (item ∷ []), short-push id item qs p)
 
-short-on : (plan : Plan) (stimuli : List CoreStimuli) (w : World) (core : CoreId) (request : Request) (item : Item) (p : CoreId × List Item) → Appends plan stimuli w core request item p → are_short w.items → are_short (appends plan w core request item).items
+short-on : (plan : Plan) (stimuli : List CoreStimuli) (w : World) (core : CoreId) (request : Request) (item : Item) (p : CoreId × List Item) → Appends plan stimuli w core request item p → are_short w.items → are_short (with_turn plan w core request item).items
 short-on plan stimuli w core request item p turn short =
     let few = ltb-true (item_count (history_in plan w core)) (2 ^ 48) (and_parts (nat_lt (item_count (history_in plan w core)) (2 ^ 48)) (admits outbox_size (state_of (view_of plan core) (history_in plan w core)) item) turn.taken).0 in
     let all : item_count (history_in plan w core) ≡ item_count [] + length p.1 = rw turn.listed (counted (view_of plan core) [] p.1) in

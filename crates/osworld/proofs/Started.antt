@@ -1,4 +1,4 @@
--- The seats, and what stands between the cores, before the first turn.
+-- The seats, and what the cores share, before the first turn.
 use native.Mathlib.Omega.{arith}
 use Rattle.std.proofs.Common.{◌≡◌, ℕ, ◌+◌, ◌*◌, ◌<◌, ◌≤◌, true, false, List, [], ◌∷◌, ◌++◌, map, drop, refl, sym, ap, ◌∙◌}
 use Rattle.std.specs.{List.All, Option.option_map_or}
@@ -45,7 +45,7 @@ started-all plan stimuli core_runs n shared seated lists low high is_mail is_boa
   held = is_free;
 }
 
--- one seat more for a core that is configured, without items, and none for another
+-- a configured core gets one seat more, without items; any other core gets none
 pub started-push : (plan : Plan) (stimuli : List CoreStimuli) (core_runs : List CoreRun) (n : ℕ) (core_run : CoreRun) → n < 16 → is_there plan (id_at n) ≡ true → All (IsCoreRun plan stimuli) core_runs × (lists_of core_runs ≡ lists_below plan n)
     → core_run.id ≡ id_at n → core_run.plan.now ≡ plan → core_run.kernel ≡ state_of (view_of plan (id_at n)) [] → core_run.stimuli.now ≡ stimuli_of stimuli (id_at n) → core_run.items.items ≡ [] → core_run.marks.items ≡ []
     → All (IsCoreRun plan stimuli) (core_runs ++ core_run ∷ []) × (lists_of (core_runs ++ core_run ∷ []) ≡ lists_below plan (n + 1))

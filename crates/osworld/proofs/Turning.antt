@@ -12,8 +12,8 @@ use Rattle.osshared.proofs.Steps.{after_snoc}
 use Rattle.osboard.specs.Boards.{board_reply, first_board, one_board}
 use Rattle.osspin.specs.Spins.{no_holders, spin_reply, spinlocks}
 use Rattle.osworld.specs.{declared.answering.Shared.Shared, Playing.IsMail, Playing.lists_of, Playing.Plays}
-use Rattle.osworld.specs.World.{World, reply_in, appends, board_in, history_in, holders_in, items_in, next_in, turn, turn_by, with_item, item_total}
-use Rattle.osworld.specs.Answering.{board_by, mail_after, IsPlaced, next_by, settled, holders_by}
+use Rattle.osworld.specs.World.{World, reply_in, with_turn, board_in, history_in, holders_in, items_in, next_in, turn, turn_by, with_item, item_total}
+use Rattle.osworld.specs.Answering.{board_by, mail_after, IsPlaced, next_by, after_turn, holders_by}
 use Rattle.osworld.proofs.Listed.{is_seat_of, items_by, list_of, list_of-nobody, list_of-core_run, lists_of-set, total-push}
 use Rattle.osworld.proofs.{Carrying.carries_on, Agreed.next-agrees}
 use Rattle.osrun.proofs.CoreRunning.{seated-on}
@@ -67,30 +67,30 @@ module _ (plan : Plan) (stimuli : List CoreStimuli) (w : World) (core_runs : Lis
   turn-nothing nothing = turns ∙ ap (turn_by plan w core_run.id) nothing
 
   module _ (request : Request) (item : Item) (names : named_here ≡ Some (request, item)) where
-    by_taking : turn plan stimuli w (core_run.id, choice) ≡ cond (takes outbox_size (view_of plan core_run.id) past item) (appends plan w core_run.id request item) w
+    by_taking : turn plan stimuli w (core_run.id, choice) ≡ cond (takes outbox_size (view_of plan core_run.id) past item) (with_turn plan w core_run.id request item) w
     by_taking =
         turns ∙ ap (turn_by plan w core_run.id) names
-        ∙ ap (λ (h : History). cond (takes outbox_size (view_of plan core_run.id) h item) (appends plan w core_run.id request item) w) history
+        ∙ ap (λ (h : History). cond (takes outbox_size (view_of plan core_run.id) h item) (with_turn plan w core_run.id request item) w) history
 
     pub turn-refused : takes outbox_size (view_of plan core_run.id) past item ≡ false → turn plan stimuli w (core_run.id, choice) ≡ w
-    turn-refused refused = by_taking ∙ ap (λ (b : Bool). cond b (appends plan w core_run.id request item) w) refused
+    turn-refused refused = by_taking ∙ ap (λ (b : Bool). cond b (with_turn plan w core_run.id request item) w) refused
 
-    -- one item more
-    pub turn-appends : takes outbox_size (view_of plan core_run.id) past item ≡ true → item_total (turn plan stimuli w (core_run.id, choice)) ≡ suc (item_total w)
-    turn-appends taken =
-        ap item_total (by_taking ∙ ap (λ (b : Bool). cond b (appends plan w core_run.id request item) w) taken)
+    -- the turn appends one item
+    pub turn-with_turn : takes outbox_size (view_of plan core_run.id) past item ≡ true → item_total (turn plan stimuli w (core_run.id, choice)) ≡ suc (item_total w)
+    turn-with_turn taken =
+        ap item_total (by_taking ∙ ap (λ (b : Bool). cond b (with_turn plan w core_run.id request item) w) taken)
         ∙ total-push core_run.id item w.items (core_run.id, core_run.items.items) listed
 
     module _ (new : CoreRun) (took : Took core_run new item) (placed : IsPlaced shared.mail core_run.id item) where
-      pub turn-taken : takes outbox_size (view_of plan core_run.id) past item ≡ true → Plays plan stimuli (turn plan stimuli w (core_run.id, choice)) (set core_runs at new) (settled core_run.id request (front_of core_run.kernel.border.outbox) item shared)
+      pub turn-taken : takes outbox_size (view_of plan core_run.id) past item ≡ true → Plays plan stimuli (turn plan stimuli w (core_run.id, choice)) (set core_runs at new) (after_turn core_run.id request (front_of core_run.kernel.border.outbox) item shared)
       turn-taken taken =
-          subst (λ (next : World). Plays plan stimuli next (set core_runs at new) (settled core_run.id request (front_of core_run.kernel.border.outbox) item shared))
-          (sym (by_taking ∙ ap (λ (b : Bool). cond b (appends plan w core_run.id request item) w) taken))
+          subst (λ (next : World). Plays plan stimuli next (set core_runs at new) (after_turn core_run.id request (front_of core_run.kernel.border.outbox) item shared))
+          (sym (by_taking ∙ ap (λ (b : Bool). cond b (with_turn plan w core_run.id request item) w) taken))
           (record {
             seated = All-set (IsCoreRun plan stimuli) core_runs at new (seated-on plan stimuli core_run new item seated taken took) plays.seated;
             lists = ap (with_item core_run.id item) plays.lists
                 ∙ lists_of-set core_run.id item core_runs at new core_run here within (took.id ∙ ap (λ (s : CoreRun). s.id) (sym is)) (took.items ∙ ap (λ (s : CoreRun). s.items.items ++ item ∷ []) (sym is));
-            carries = subst (λ (s : KernelState). IsMail plan (appends plan w core_run.id request item) (mail_after core_run.id (front_of s.border.outbox) item shared.mail)) (sym kernel)
+            carries = subst (λ (s : KernelState). IsMail plan (with_turn plan w core_run.id request item) (mail_after core_run.id (front_of s.border.outbox) item shared.mail)) (sym kernel)
                 (carries_on plan w core_run.id request item (core_run.id, core_run.items.items) listed shared.mail plays.carries core_run.known placed);
             shown = ap (board_by core_run.id request) plays.shown ∙ board-told core_run.id plan w request;
             held = ap (holders_by core_run.id request) plays.held ∙ spins-told core_run.id plan w request;

@@ -1,10 +1,10 @@
--- What each item that a turn appends keeps, every world has.
+-- If each item that a turn appends keeps a property of the first world, every world has the property.
 use Rattle.std.proofs.Common.{◌≡◌, Bool, true, false, cond, Option, Some, None, option_map, is_some, List, [], ◌∷◌, refl}
 use Rattle.osbase.specs.{declared.references.CoreId.CoreId, declared.items.Item.Item, declared.turns.Choice.Choice, declared.turns.CoreStimuli.CoreStimuli, History.History}
 use Rattle.osplan.specs.{declared.plans.Plan.Plan, View.View, View.view_of}
 use Rattle.oskernel.specs.{Step.takes, Step.outbox_size, Wants.watch_of}
 use Rattle.osrun.specs.{declared.requests.Request.Request, Requests.request_of_turn, Requests.next_item, Requests.item_for_reply}
-use Rattle.osworld.specs.World.{World, reply_in, appends, history_in, next_in, next_stimulus, turn, turn_by, world_from}
+use Rattle.osworld.specs.World.{World, reply_in, with_turn, history_in, next_in, next_stimulus, turn, turn_by, world_from}
 use Rattle.osworld.proofs.Listed.{list_of}
 
 -- A turn appends this item to this list.
@@ -15,7 +15,7 @@ pub record Appends (plan : Plan) (stimuli : List CoreStimuli) (w : World) (core 
   pub names : item_for_reply (view_of plan core) (history_in plan w core) request (reply_in plan w core request) ≡ Some item
   pub taken : takes outbox_size (view_of plan core) (history_in plan w core) item ≡ true
 
-module _ (plan : Plan) (stimuli : List CoreStimuli) (P : World → Type 0) (keeps : (w : World) (core : CoreId) (request : Request) (item : Item) (p : CoreId × List Item) → Appends plan stimuli w core request item p → P w → P (appends plan w core request item)) where
+module _ (plan : Plan) (stimuli : List CoreStimuli) (P : World → Type 0) (keeps : (w : World) (core : CoreId) (request : Request) (item : Item) (p : CoreId × List Item) → Appends plan stimuli w core request item p → P w → P (with_turn plan w core request item)) where
   turn-keeps : (w : World) (t : CoreId × Choice) → P w → P (turn plan stimuli w t)
   turn-keeps w t has = by (list_of t.0 w.items) refl
     where
@@ -25,7 +25,7 @@ module _ (plan : Plan) (stimuli : List CoreStimuli) (P : World → Type 0) (keep
       past : History
       past = history_in plan w t.0
 
-      item_keeps : (p : CoreId × List Item) → list_of t.0 w.items ≡ Some p → (request : Request) → request_of_turn view past (next_stimulus stimuli w t.0) t.1 ≡ Some request → (item : Item) → item_for_reply view past request (reply_in plan w t.0 request) ≡ Some item → (b : Bool) → takes outbox_size view past item ≡ b → P (cond b (appends plan w t.0 request item) w)
+      item_keeps : (p : CoreId × List Item) → list_of t.0 w.items ≡ Some p → (request : Request) → request_of_turn view past (next_stimulus stimuli w t.0) t.1 ≡ Some request → (item : Item) → item_for_reply view past request (reply_in plan w t.0 request) ≡ Some item → (b : Bool) → takes outbox_size view past item ≡ b → P (cond b (with_turn plan w t.0 request item) w)
       item_keeps p listed request asks item names true taken = keeps w t.0 request item p (record { listed = listed; choice = t.1; asks = asks; names = names; taken = taken }) has
       item_keeps p listed request asks item names false taken = has
 

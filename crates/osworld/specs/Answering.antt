@@ -1,6 +1,6 @@
--- What a turn names and changes, said of what a listed run holds in memory: the cores' kernels, and what stands between
--- them, the mailboxes, the board and the spinlocks. It is what the world's definition names where memory holds what that
--- definition reads off the items. Who reads what a run promises needs none of it. [own]
+-- What a turn requests and changes, by what a listed run holds in memory: the cores' kernels, and what the cores share,
+-- the mailboxes, the board and the spinlocks. If memory holds what the world's definition reads off the items, both
+-- agree. A reader of what a run promises needs none of this. [own]
 use Rattle.std.specs.Prelude.{◌<◌, ◌&&◌, nat_lt, if◌then◌else◌, Bool, true, false, IsTrue, is_none, Option, None, IsSome, List, slice_get}
 use Rattle.std.specs.Option.{option_map_or}
 use Rattle.osbase.specs.{declared.references.CoreId.CoreId, declared.messages.Envelope.Envelope, declared.items.Item.Item, declared.items.Stimulus.Stimulus, declared.turns.Choice.Choice, declared.limits.TheConstants.CORES}
@@ -15,7 +15,8 @@ use Rattle.osrun.specs.declared.requests.Request.TheVariants.{OfBoard, OfSpins, 
 use Rattle.osrun.specs.declared.requests.Reply.TheVariants.{Replied, Spun, HasRoom, Found, Unasked}
 use Rattle.osworld.specs.declared.answering.Shared.{Shared}
 
--- The reply of what a run holds in memory between its cores: the mailboxes, the board and the spinlocks.
+-- The reply to a request, from the mailboxes, the board and the spinlocks that a run holds in memory. A core numbered
+-- 16 or above has no mailbox.
 abbrev pub reply_by : Shared → CoreId → Request → Reply
 reply_by shared id (OfBoard call) = Replied (board_reply id call shared.board)
 reply_by shared id (OfSpins wish) = Spun (spin_reply id (spin_call_of wish) shared.spins)
@@ -23,47 +24,50 @@ reply_by shared id (Room to) = HasRoom (nat_lt to.number CORES && has_room share
 reply_by shared id (Oldest from) = Found (if nat_lt from.number CORES then oldest_of shared.mail from id else None)
 reply_by shared id request = Unasked
 
--- A core that watches for nothing, or for a shutdown of all cores that nobody has requested, learns nothing from the board.
+-- The core watches for nothing, or for a shutdown of all cores that no core has requested. So it learns nothing from
+-- the board.
 abbrev pub is_undisturbed : Watch → BoardState → Bool
 is_undisturbed Watch.Nothing board = true
 is_undisturbed Watch.Halt board = is_none board.halt
 is_undisturbed watch board = false
 
--- Its look results in nothing.
+-- The turn is a look from which the core learns nothing (`is_undisturbed`), so no item results.
 abbrev pub is_idle_look : Choice → Watch → BoardState → Bool
 is_idle_look Choice.Look watch board = is_undisturbed watch board
 is_idle_look choice watch board = false
 
--- What the turn asks, by the state of the core's kernel, and the item to which that answer leads.
+-- What the turn requests, by the state of the core's kernel, and the item that results from the reply. None if the turn
+-- requests nothing, or no item results.
 abbrev pub next_by : Plan → Shared → CoreId → List Stimulus → KernelState → Choice → Option (Request × Item)
 next_by plan shared id stimuli s choice =
     next_item id (watch_in s) (reply_by shared id) (request_by (view_of plan id) (want_in s) (watch_in s) (slice_get stimuli 0) choice)
 
--- The mailbox that an item uses is there, with room for what is posted, and with something to be received.
+-- If the item uses a mailbox, that mailbox exists, with room for what is posted or with a letter to receive.
 abbrev pub IsPlaced : Mail → CoreId → Item → Type 0
 IsPlaced mail id (Item.Posted to) = (to.number < CORES) × IsTrue (has_room mail id to)
 IsPlaced mail id (Item.Received from number message) = (from.number < CORES) × IsSome (oldest_of mail from id)
 IsPlaced mail id item = Unit {0}
 
--- The board and the spinlocks after the turn.
+-- The board after the turn's request: its call of the board, if it made one, is done.
 abbrev pub board_by : CoreId → Request → BoardState → BoardState
 board_by core (OfBoard call) board = board_after core call board
 board_by core request board = board
 
+-- Who holds each spinlock after the turn's request: its call of a spinlock, if it made one, is done.
 abbrev pub holders_by : CoreId → Request → List (Option CoreId) → List (Option CoreId)
 holders_by core (OfSpins wish) holders = holders_after core (spin_call_of wish) holders
 holders_by core request holders = holders
 
--- The mailboxes after it: a post puts the outbox's front into one, and what is received leaves one.
+-- The mailboxes after the turn: a post puts the outbox's front into a mailbox, and what is received leaves one.
 abbrev pub mail_after : CoreId → Option (CoreId × Envelope) → Item → Mail → Mail
 mail_after core front (Item.Posted to) mail = option_map_or (λ (f : CoreId × Envelope). after_send mail core to f.1.letter) front mail
 mail_after core front (Item.Received from number message) mail = after_take mail from core
 mail_after core front item mail = mail
 
--- What the run holds between its cores after the turn's call of the board or of a spinlock, if it made one. The mailboxes stay.
+-- What the cores share after the turn's call of the board or of a spinlock, if it made one. The mailboxes stay.
 abbrev pub after_call : CoreId → Request → Shared → Shared
 after_call core request shared = record { mail = shared.mail; board = board_by core request shared.board; spins = holders_by core request shared.spins }
 
--- What it holds after the whole turn: its item changes the mailboxes, too.
-abbrev pub settled : CoreId → Request → Option (CoreId × Envelope) → Item → Shared → Shared
-settled core request front item shared = record (after_call core request shared) { mail = mail_after core front item shared.mail }
+-- What the cores share after the whole turn: the turn's item changes the mailboxes, too.
+abbrev pub after_turn : CoreId → Request → Option (CoreId × Envelope) → Item → Shared → Shared
+after_turn core request front item shared = record (after_call core request shared) { mail = mail_after core front item shared.mail }

@@ -10,18 +10,19 @@ use Rattle.osworld.specs.World.{World, board_in, first_world, is_unchanged, worl
 
 -- ---- listed turns
 
--- The reports are those of the items of the world after these turns, of each configured core its whole list; and they are sound.
+-- The reports are those of the world's items after these turns, one for each configured core's list. They are sound
+-- (`AreSound`).
 pub record AreReports (plan : Plan) (stimuli : List CoreStimuli) (turns : List (CoreId × Choice)) (reports : List Report) : Type 0 where
   pub are : reports ≡ map (λ (p : CoreId × List Item). report_by plan p.0 p.1) (world plan stimuli turns).items
   pub sound : AreSound plan stimuli reports
 
--- The turn in this place appends an item.
+-- Of these turns, played from this world on, the one at place `at` appends an item.
 abbrev pub AppendsAt : Plan → List CoreStimuli → World → List (CoreId × Choice) → ℕ → Type 0
 AppendsAt plan stimuli w turns at =
     is_unchanged (world_from plan stimuli w (take at turns)) (world_from plan stimuli w (take (at + 1) turns)) ≡ false
 
--- A run did not begin, or broke off before a turn that would have appended an item, and these are the reports of the
--- turns before it.
+-- The fault of a run of these turns: it did not begin; or it broke off before a turn that would have appended an item,
+-- and the fault has the reports of the turns before.
 abbrev pub IsBrokenOff : Plan → List CoreStimuli → List (CoreId × Choice) → RunFault → Type 0
 IsBrokenOff plan stimuli turns NotBegun = Unit {0}
 IsBrokenOff plan stimuli turns (NoMemory reports) =
@@ -30,20 +31,23 @@ IsBrokenOff plan stimuli turns (NoMemory reports) =
 
 -- ---- the default schedule
 
--- One round: each core by ascending number serves every other core by ascending number, does its own
--- work, and looks at the board. [own]
+-- The turns at which core `id` serves every other of these cores, in order. [own]
 abbrev pub serves_of : List CoreId → CoreId → List (CoreId × Choice)
 serves_of ids id = map (λ from. (id, Serve from)) (filter (λ from. not (same_core from id)) ids)
 
+-- The turns of one core in a round: it serves every other core, does its own work, and looks at the board. [own]
 abbrev pub turns_in_round : List CoreId → CoreId → List (CoreId × Choice)
 turns_in_round ids id = serves_of ids id ++ (id, Own) ∷ (id, Look) ∷ []
 
+-- One round of these cores: the turns of each core, in order. [own]
 abbrev pub round_by : List CoreId → List (CoreId × Choice)
 round_by ids = flat_map (turns_in_round ids) ids
 
+-- One round of all configured cores, by ascending number.
 abbrev pub round_of : Plan → List (CoreId × Choice)
 round_of plan = round_by (ids_of plan)
 
+-- The turns of this round, repeated so many times.
 abbrev pub rounds : ℕ → List (CoreId × Choice) → List (CoreId × Choice)
 rounds zero round = []
 rounds (suc n) round = rounds n round ++ round
@@ -56,32 +60,33 @@ has_ended plan p = is_ended_phase (phase_at (view_of plan p.0) (history_by plan 
 abbrev pub is_over : Plan → World → Bool
 is_over plan w = list_all (λ (p : CoreId × List Item). not (has_core (board_in plan w).view.started p.0) || has_ended plan p) w.items
 
--- The default schedule is n whole rounds, for the least n of at least 1 at whose end every started core has ended
--- or in whose last round nothing changed. [own]
+-- From this world on, the default schedule has n whole rounds. Here n is the least number, 1 or more, after whose
+-- rounds every started core has ended, or in whose last round nothing changed. [own]
 abbrev pub is_default_from : Plan → List CoreStimuli → World → ℕ → Bool
 is_default_from plan stimuli w zero = false
 is_default_from plan stimuli w (suc n) =
     let next = world_from plan stimuli w (round_of plan) in
     if is_over plan next || is_unchanged w next then n == 0 else is_default_from plan stimuli next n
 
+-- The default schedule, from the world before the first turn on, has n rounds.
 abbrev pub is_default : Plan → List CoreStimuli → ℕ → Bool
 is_default plan stimuli n = is_default_from plan stimuli (first_world plan) n
 
--- The turns of the default schedule, which has n rounds.
+-- The turns of n rounds of all configured cores: those of the default schedule, if it has n rounds.
 abbrev pub default_turns : Plan → ℕ → List (CoreId × Choice)
 default_turns plan n = rounds n (round_of plan)
 
--- The default schedule has no fewer rounds than these.
+-- The default schedule has at least this many rounds.
 abbrev pub HasAtLeast : Plan → List CoreStimuli → ℕ → Type 0
 HasAtLeast plan stimuli rounds = (fewer : ℕ) → fewer < rounds → is_default plan stimuli fewer ≡ false
 
--- The same of the turns of the default schedule.
+-- As `IsBrokenOff`, for the turns of the default schedule.
 abbrev pub IsDefaultBrokenOff : Plan → List CoreStimuli → RunFault → Type 0
 IsDefaultBrokenOff plan stimuli NotBegun = Unit {0}
 IsDefaultBrokenOff plan stimuli (NoMemory reports) =
     (rounds : ℕ) × HasAtLeast plan stimuli rounds × IsBrokenOff plan stimuli (default_turns plan rounds) (NoMemory reports)
 
--- The reports are those of the default schedule, whose rounds are as many as these.
+-- The reports are those of the default schedule, which has `rounds` rounds.
 pub record IsDefaultRun (plan : Plan) (stimuli : List CoreStimuli) (reports : List Report) : Type 0 where
   pub rounds : ℕ
   pub least : IsTrue (is_default plan stimuli rounds)
@@ -93,7 +98,8 @@ pub record IsDefaultSchedule (plan : Plan) (stimuli : List CoreStimuli) (turns :
   pub least : IsTrue (is_default plan stimuli rounds)
   pub is : turns ≡ default_turns plan rounds
 
--- The default schedule was not found, since its run broke off, or was not written down.
+-- The fault where the default schedule was not found, since its run did not begin or broke off, or could not be stored.
+-- The fault's reports, if it has any, are those of the turns played.
 abbrev pub HasNoSchedule : Plan → List CoreStimuli → RunFault → Type 0
 HasNoSchedule plan stimuli NotBegun = Unit {0}
 HasNoSchedule plan stimuli (NoMemory reports) =

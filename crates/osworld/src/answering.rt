@@ -1,4 +1,4 @@
-//! The reply to a turn's request, and what the turn changes beside the core that takes its item.
+//! The reply to a turn's request, and what the turn changes besides the core that takes its item.
 
 ghost use Rattle.std.specs.Prelude.{◌≡◌, ◌<◌, ◌≤◌, ◌&&◌, nat_lt, if◌then◌else◌, IfOk};
 ghost use Rattle.osbase.specs.declared.limits.TheConstants.{CORES};
@@ -30,7 +30,7 @@ pub struct Shared {
 }
 
 impl Shared {
-    /// Nothing was sent, the master alone is started, and no core holds a spinlock.
+    /// The state before the first turn: nothing was sent, the master alone is started, and no core holds a spinlock.
     pub fn new(alloc: Global, plan: &Plan) -> Result<Self, AllocError>
         requires some { 1 ≤ plan.now.cap }
         requires fits { plan.now.cap ≤ MAILBOX }
@@ -45,7 +45,7 @@ impl Shared {
         })
     }
 
-    /// Whether an envelope waits for this core. None does for a core numbered 16 or above.
+    /// Whether an envelope waits for this core. For a core numbered 16 or above, none does.
     #[inline]
     pub fn has_mail(&self, id: CoreId) -> bool
         ensures { result ≡ (nat_lt id.number CORES && has_mail self.now.mail id) }
@@ -57,8 +57,8 @@ impl Shared {
         }
     }
 
-    /// Whether a turn is a look at the board that results in nothing, as most looks do: the core watches for nothing, or for
-    /// a shutdown of all cores that nobody has requested.
+    /// Whether a turn is a look at the board that results in nothing, as most looks do: the core watches for
+    /// nothing, or for a shutdown of all cores that no core has requested.
     #[inline(always)]
     pub fn is_idle_look(&self, core_run: &CoreRun, choice: Choice) -> bool
         ensures { result ≡ is_idle_look choice (watch_in core_run.now.kernel) self.now.board }
@@ -69,6 +69,7 @@ impl Shared {
         }
     }
 
+    // Whether the core watches for nothing, or for a shutdown of all cores that no core has requested.
     fn is_undisturbed(&self, core_run: &CoreRun) -> bool
         ensures { result ≡ is_undisturbed (watch_in core_run.now.kernel) self.now.board }
     {
@@ -79,7 +80,7 @@ impl Shared {
         }
     }
 
-    /// The request of a turn of this core, with the item in which it results; `None` if the turn requests nothing, or results
+    /// The request of a turn of this core, with the item that results; `None` if the turn requests nothing, or results
     /// in nothing. Nothing changes yet.
     #[inline(always)]
     pub fn next_item(&self, core_run: &CoreRun, choice: Choice) -> Option<(Request, Item)>
@@ -90,13 +91,13 @@ impl Shared {
         Some((request, item))
     }
 
-    // The item in which a request of this core results.
+    // The item that results from a request of this core; `None` if no item results.
     #[inline(always)]
     fn item_for(&self, core_run: &CoreRun, request: Request) -> Option<Item>
         ensures { result ≡ item_by core_run.now.id (watch_in core_run.now.kernel) request (reply_by self.now core_run.now.id request) }
     {
         let id = core_run.id;
-        // Each kind of reply has its own call, so that none is stored in a place for all kinds in between.
+        // Each kind of reply has its own call here, so that no reply has to be stored in a place that fits all kinds.
         match request {
             Request::OfBoard(call) => {
                 core_run.item_for_reply(request, &Reply::Replied(self.board.reply(id, call)))
@@ -117,7 +118,7 @@ impl Shared {
         }
     }
 
-    /// Makes the call of the board or the spinlocks that a turn requested.
+    /// Makes the call of the board or the spinlocks that a turn requested, if it requested one.
     pub fn apply(&mut self, core: CoreId, request: Request)
         ensures { self.new ≡ after_call core request self.old }
     {
@@ -132,7 +133,8 @@ impl Shared {
         }
     }
 
-    /// Moves the envelope of the item that a core takes: the outbox's front into a mailbox, or out of one.
+    /// Moves the envelope of the item that the core takes, if the item has one. A posted letter goes from the front of
+    /// the core's outbox into a mailbox; a received one leaves its mailbox.
     pub fn deliver(&mut self, core_run: &CoreRun, item: &Item)
         requires { IsPlaced self.old.mail core_run.now.id item.now }
         ensures { self.new ≡ record self.old { mail = mail_after core_run.now.id (front_of core_run.now.kernel.border.outbox) item.now self.old.mail } }
@@ -151,7 +153,7 @@ impl Shared {
     }
 }
 
-// Whether the mailbox for that core has room. There is none for a core numbered 16 or above.
+// Whether the mailbox from core `id` to core `to` has room. For a core numbered 16 or above, there is no mailbox.
 fn has_room(mail: &Mailboxes, id: CoreId, to: CoreId) -> bool
     requires { id.number < CORES }
     ensures { result ≡ (nat_lt to.number CORES && has_room mail.now id to) }
@@ -163,7 +165,8 @@ fn has_room(mail: &Mailboxes, id: CoreId, to: CoreId) -> bool
     }
 }
 
-// The letter of the oldest envelope from that core.
+// The letter of the oldest envelope from core `from` to core `id`; `None` if there is none, or `from` is numbered 16 or
+// above.
 fn oldest(mail: &Mailboxes, id: CoreId, from: CoreId) -> Option<Letter>
     requires { id.number < CORES }
     ensures { result ≡ (if nat_lt from.number CORES then oldest_of mail.now from id else None) }

@@ -1,4 +1,4 @@
-//! One order of the items of a run by threads: turns by which a listed run has the same reports.
+//! One order of the items of a run by threads: the turns by which a listed run has the same reports.
 
 ghost use Rattle.std.specs.Prelude.{◌≡◌, ◌↔◌, IsTrue, IfSome, List, map};
 ghost use Rattle.std.specs.List.{AllByRecursion};
@@ -14,9 +14,9 @@ use osplan::Config;
 use ossame::are_same_items;
 use std::alloc::Global;
 
-/// Turns by which `run_world` has exactly these reports, but for the clocks of their items: so what holds of a listed run
-/// holds of the run by threads that had these reports. None where none were found, or where memory is refused. Every
-/// answer is checked by a listed run.
+/// Turns by which `run_world` has exactly these reports, except for the clocks of the items. So what holds of a listed
+/// run holds of the run by threads that had these reports. `None` if no such turns were found, or if an allocation
+/// failed. Every answer is checked by a listed run.
 pub fn order(
     alloc: Global,
     config: &Config,
@@ -54,6 +54,7 @@ fn are_same(left: &[Report], right: &[Report]) -> bool
     true
 }
 
+// Whether these reports are of the same core with the same items.
 fn is_same(left: &Report, right: &Report) -> bool
     ensures { IsTrue result ↔ (left.now.core ≡ right.now.core) × (left.now.items ≡ right.now.items) }
 {

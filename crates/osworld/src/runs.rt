@@ -13,22 +13,22 @@ use osrun::ids_of;
 use std::alloc::{AllocError, Global};
 use thiserror::Error;
 
-/// Why there is no run, or only its beginning.
+/// Why there is no run, or only the start of one.
 #[derive(Debug, Drop, Error)]
 pub enum RunFault {
-    /// No turn was played, and there is nothing to report: memory was refused for the cores' seats, the mailboxes, the reports or
-    /// a round.
+    /// No turn was played, and there is nothing to report: an allocation failed for the cores' seats, the mailboxes,
+    /// the reports or a round.
     #[error("out of memory")]
     NotBegun,
-    /// A growth was refused before the turn that needed it. The reports are those of the turns before.
+    /// An allocation failed before the turn that needed it. The reports are those of the turns before.
     #[error("out of memory")]
     NoMemory { reports: Vec<Report> },
 }
 
-/// Plays these turns: the reports are those of the world after them, one for each configured core in
-/// ascending order; its cores' items fit one another, and each separate core prints what its configuration
-/// alone prints. Want of memory comes before the turn whose growth was refused, which would have appended
-/// an item.
+/// Plays these turns. The reports are those of the world after the turns, one for each configured core in
+/// ascending order. The cores' items fit one another, and each separate core prints what its configuration
+/// alone prints. If an allocation fails before a turn that would have appended an item, the fault `NoMemory` has the
+/// reports of the turns before. The fault `NotBegun` has none.
 pub fn run_world(
     alloc: Global,
     config: &Config,
@@ -48,7 +48,8 @@ pub fn run_world(
     }
 }
 
-/// Plays the default schedule, and gives the reports that `run_world` gives of it.
+/// Plays the default schedule (`default_schedule`). Reports and faults are those of `run_world` for the schedule's
+/// turns.
 pub fn run_default(
     alloc: Global,
     config: &Config,
@@ -70,10 +71,10 @@ pub fn run_default(
     }
 }
 
-/// The default schedule: whole rounds, in each of which each core by ascending number serves every other
-/// core, does its own work and looks at the board; up to the first round at whose end every started core has
-/// ended, or in which nothing changed. If memory runs out, there are the reports of the turns that were played
-/// to find it: a prefix of it, or all of them if the schedule itself could not grow.
+/// The default schedule: whole rounds. In each round, every core by ascending number serves every other core, does its
+/// own work and looks at the board. The last round is the first at whose end every started core has ended, or in which
+/// nothing changed. The fault `NoMemory` has the reports of the turns played to find the schedule: a prefix of the
+/// schedule's turns, or all of them if the schedule itself could not grow. The fault `NotBegun` has none.
 pub fn default_schedule(
     alloc: Global,
     config: &Config,
@@ -100,7 +101,7 @@ pub fn default_schedule(
     }
 }
 
-// Plays whole rounds of these cores up to the end of the default schedule, and says how many.
+// Plays whole rounds of these cores up to the end of the default schedule, and returns how many there are.
 fn play_rounds(world: &mut World, ids: &[CoreId]) -> Result<u64, AllocError>
     requires round { IsRound world.old.config.now (round_by ids.now) }
     requires begun { IsBegun world.old.config.now world.old.core_runs.items world.old.shared }
@@ -118,7 +119,7 @@ fn play_rounds(world: &mut World, ids: &[CoreId]) -> Result<u64, AllocError>
     unreachable!()
 }
 
-// So many rounds of these cores.
+// The turns of `rounds` rounds of these cores.
 fn scheduled(alloc: Global, ids: &[CoreId], rounds: u64) -> Result<Schedule, AllocError>
     ensures { IfOk result (λ schedule. schedule ≡ rounds_of rounds (round_by ids.now)) }
 {
@@ -126,7 +127,7 @@ fn scheduled(alloc: Global, ids: &[CoreId], rounds: u64) -> Result<Schedule, All
     repeated(alloc, round.as_slice(), rounds)
 }
 
-// So many rounds.
+// The turns of this round, `rounds` times.
 fn repeated(alloc: Global, round: &[Turn], rounds: u64) -> Result<Schedule, AllocError>
     ensures { IfOk result (λ schedule. schedule ≡ rounds_of rounds round.now) }
 {
@@ -137,7 +138,7 @@ fn repeated(alloc: Global, round: &[Turn], rounds: u64) -> Result<Schedule, Allo
     Ok(schedule)
 }
 
-// The world before the first turn.
+// The world before the first turn, or the fault `NotBegun`.
 fn begin<'a>(alloc: Global, config: &'a Config, stimuli: &'a Stimuli) -> Result<World<'a>, RunFault>
     ensures config { IfOk result (λ world. world.config.now ≡ config.now) }
     ensures plays { IfOk result (λ world. Plays config.now stimuli.now (first_world config.now) world.core_runs.items world.shared) }
@@ -163,7 +164,7 @@ fn round_of(alloc: Global, ids: &[CoreId]) -> Result<Vec<Turn>, AllocError>
     Ok(round)
 }
 
-// The turns of one core in a round.
+// Appends the turns of core `id` in a round of these cores.
 fn push_turns(round: &mut Vec<Turn>, ids: &[CoreId], id: CoreId) -> Result<(), AllocError>
     ensures { OnOk result (round.new.items ≡ round.old.items ++ turns_in_round ids.now id) }
 {

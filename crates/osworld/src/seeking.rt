@@ -1,13 +1,14 @@
-//! How an order is sought, by the clocks of the items. Nothing is promised of the turns that are found: whether they are an
-//! order is seen by playing them.
+//! How an order is sought, by the clocks of the items. Nothing is promised of the turns found: playing them shows if
+//! they are an order.
 
 use crate::worlds::World;
 use osbase::{Choice, Item, List, Report, SPINLOCKS, Schedule, SpinlockId, Stimuli, Turn};
 use osplan::Config;
 use std::alloc::{AllocError, Global};
 
-/// The turns that were found until no core could go on: of the cores whose next item the world admits, the one whose item has the
-/// least clock takes it, and of several the one of the least number. None where memory is refused.
+/// The turns found until no core could go on. Each turn is of the core whose next item has the least clock among the
+/// items that the world admits; of several with that clock, it is of the first. An item that takes a spinlock is put
+/// off while some core is to take or free it by an item with a smaller clock. `None` if an allocation fails.
 pub(crate) fn turns_sought(
     alloc: Global,
     config: &Config,
@@ -19,7 +20,7 @@ pub(crate) fn turns_sought(
     played(alloc, &mut world, tracks.as_mut_slice(), count_of(reports))
 }
 
-// The turns by which at most so many items are played.
+// Plays at most `count` items, and returns the turns by which they were played. `None` if an allocation fails.
 fn played(
     alloc: Global,
     world: &mut World,
@@ -49,7 +50,7 @@ fn count_of(reports: &[Report]) -> usize {
     count
 }
 
-// The place of the core that takes its item next, with its turn.
+// The turn to play next, with the place of its core in `tracks`. `None` if no core can take its next item now.
 fn next_turn(tracks: &[Track], world: &World) -> Option<(usize, Turn)> {
     let mut least: Option<u64> = None;
     let mut found = None;
@@ -62,7 +63,8 @@ fn next_turn(tracks: &[Track], world: &World) -> Option<(usize, Turn)> {
     found
 }
 
-// The choice by which the core takes its next item now, and the item's clock, if that is less than the least one so far.
+// The choice by which the core can take its next item now, with the item's clock. `None` if the clock is not less than
+// the least so far, the item's spinlock is to be used before, or the world does not admit the item.
 fn sooner_choice(
     tracks: &[Track],
     world: &World,
@@ -70,22 +72,22 @@ fn sooner_choice(
     least: Option<u64>,
 ) -> Option<(u64, Choice)> {
     let (item, clock) = track.next()?;
-    if is_reached(least, clock) || waits(tracks, item, clock) {
+    if is_too_late(least, clock) || waits(tracks, item, clock) {
         return None;
     }
     let choice = world.choice_for(track.report.core, item)?;
     Some((clock, choice))
 }
 
-// Whether another core's item with at most this clock was found.
-fn is_reached(least: Option<u64>, clock: u64) -> bool {
+// Whether the least clock so far, if there is one, is at most this clock.
+fn is_too_late(least: Option<u64>, clock: u64) -> bool {
     match least {
         Some(least) => least <= clock,
         None => false,
     }
 }
 
-// Whether the item takes a spinlock that an item with a smaller clock is to take or free before.
+// Whether some core is to take or free the spinlock that this item takes, by an item with a smaller clock.
 fn waits(tracks: &[Track], item: &Item, clock: u64) -> bool {
     match spinlock_taken(item) {
         Some(spinlock) => tracks
@@ -104,6 +106,7 @@ struct Track<'a> {
     uses: [usize; SPINLOCKS],
 }
 
+// A track for each report. All items are still to be played.
 fn tracks_of(alloc: Global, reports: &[Report]) -> Result<Vec<Track<'_>>, AllocError> {
     let mut tracks = Vec::with_capacity(alloc, reports.len())?;
     for report in reports {
@@ -136,13 +139,14 @@ impl<'a> Track<'a> {
         }
     }
 
+    // The clock of the next item that takes or frees the spinlock, if there is one.
     fn clock_of_use(&self, spinlock: SpinlockId) -> Option<u64> {
         let place = self.uses.get(usize::from(spinlock.index))?;
         let clock = self.report.clocks.as_slice().get(*place)?;
         Some(*clock)
     }
 
-    // The next item is played.
+    // Marks the next item as played.
     fn pass(&mut self) {
         let items = self.report.items.as_slice();
         let played = self.place;
@@ -176,7 +180,7 @@ fn spinlock_used(item: &Item) -> Option<SpinlockId> {
     }
 }
 
-// For each spinlock the place of the first item that takes or frees it.
+// For each spinlock the place of the first item that takes or frees it, or the number of items if none does.
 fn first_uses(items: &[Item]) -> [usize; SPINLOCKS] {
     let mut uses = [0; SPINLOCKS];
     for index in 0..SPINLOCKS as u8 {
@@ -185,7 +189,7 @@ fn first_uses(items: &[Item]) -> [usize; SPINLOCKS] {
     uses
 }
 
-// The place of the first item from this place on that takes or frees the spinlock: behind the last where none does.
+// The place of the first item from this place on that takes or frees the spinlock, or the number of items if none does.
 fn next_use(items: &[Item], from: usize, spinlock: SpinlockId) -> usize {
     for place in from..items.len() {
         if let Some(used) = spinlock_used(&items[place]) {

@@ -1,4 +1,4 @@
-//! The world of a listed run: its cores and what stands between them, turn by turn.
+//! The world of a listed run: its cores and what they share, turn by turn.
 
 ghost use Rattle.std.specs.Prelude.{IsTrue, ◌≡◌, ◌<◌, ◌≤◌, ◌∷◌, [], Some, IfSome, IfOk, OnErr, false, vec_len, vec_capacity, length, map, not, ◌||◌, position, slice_get};
 ghost use Rattle.std.specs.List.{list_all};
@@ -16,8 +16,8 @@ use osrun::CoreRun;
 use ossame::is_same_item;
 use std::alloc::{AllocError, Global};
 
-/// The cores of a configuration in ascending order, and what stands between them. A turn finds its core's seat by the
-/// table of places, without going over the seats.
+/// The cores of a configuration in ascending order, and what they share. A turn finds its core by the table of places,
+/// without going over the cores.
 #[derive(Drop)]
 pub struct World<'a> {
     config: &'a Config,
@@ -31,7 +31,7 @@ pub struct World<'a> {
 impl<'a> World<'a> {
     ghost use Rattle.osworld.specs.Playing.{Plays, PlaysTurns, SitsAt, StopsShort};
 
-    /// The world before the first turn, with place for the reports at its end.
+    /// The world before the first turn, with room for the reports at the end.
     pub fn new(
         alloc: Global,
         config: &'a Config,
@@ -60,8 +60,8 @@ impl<'a> World<'a> {
         })
     }
 
-    /// Plays turns in order, and says whether one of them appended an item. If memory runs out, it does so before
-    /// the turn whose allocation failed, and that turn changes nothing.
+    /// Plays turns in order, and returns whether one of them appended an item. If an allocation fails, the turn that
+    /// needed it changes nothing, and no further turn is played.
     pub fn play(&mut self, turns: &[Turn]) -> Result<bool, AllocError>
         ensures config { self.new.config ≡ self.old.config }
         ensures reports { self.new.reports ≡ self.old.reports }
@@ -76,8 +76,8 @@ impl<'a> World<'a> {
         Ok(changed)
     }
 
-    /// Plays one round of these cores. The turns at which a core would serve another one while no envelope waits for it are
-    /// passed by at once.
+    /// Plays one round of these cores, and returns whether a turn appended an item. If no envelope waits for a core,
+    /// the turns at which that core would serve others are skipped, since they change nothing.
     pub fn play_round(&mut self, ids: &[CoreId]) -> Result<bool, AllocError>
         ensures config { self.new.config ≡ self.old.config }
         ensures reports { self.new.reports ≡ self.old.reports }
@@ -92,7 +92,7 @@ impl<'a> World<'a> {
         Ok(changed)
     }
 
-    // The turns of one core in a round.
+    // Plays the turns of one core in a round, and returns whether one of them appended an item.
     fn play_core(&mut self, ids: &[CoreId], id: CoreId) -> Result<bool, AllocError>
         ensures config { self.new.config ≡ self.old.config }
         ensures reports { self.new.reports ≡ self.old.reports }
@@ -106,7 +106,8 @@ impl<'a> World<'a> {
         Ok(looked | (own | served))
     }
 
-    // The core serves every other one of these, as long as an envelope waits for it.
+    // Core `id` serves each of the other cores, as long as an envelope waits for core `id`. Returns whether a turn
+    // appended an item.
     fn serve_all(&mut self, ids: &[CoreId], id: CoreId) -> Result<bool, AllocError>
         ensures config { self.new.config ≡ self.old.config }
         ensures reports { self.new.reports ≡ self.old.reports }
@@ -124,7 +125,7 @@ impl<'a> World<'a> {
         Ok(changed)
     }
 
-    // The core serves this one, unless it is the core itself.
+    // The core serves the other core, unless both are the same. Returns whether the turn appended an item.
     fn serve(&mut self, id: CoreId, other: CoreId) -> Result<bool, AllocError>
         ensures config { self.new.config ≡ self.old.config }
         ensures reports { self.new.reports ≡ self.old.reports }
@@ -139,7 +140,8 @@ impl<'a> World<'a> {
         }
     }
 
-    /// One turn of a core: appends the one item that it names, or changes nothing.
+    /// Plays one turn of a core: appends the item that results from the turn, or changes nothing. Returns whether it
+    /// appended an item.
     pub fn turn(&mut self, core: CoreId, choice: Choice) -> Result<bool, AllocError>
         ensures config { self.new.config ≡ self.old.config }
         ensures reports { self.new.reports ≡ self.old.reports }
@@ -147,7 +149,7 @@ impl<'a> World<'a> {
         ensures ok { IfOk result (λ changed. PlaysTurns ((core, choice) ∷ []) self.old changed self.new) }
         ensures err { OnErr result (StopsShort ((core, choice) ∷ []) self.old self.new) }
     {
-        if self.serves_none(core, choice) {
+        if self.serves_in_vain(core, choice) {
             return Ok(false);
         }
         let Some(at) = self.place_of(core) else {
@@ -159,8 +161,8 @@ impl<'a> World<'a> {
         self.take_turn(at, choice)
     }
 
-    // The turn of the core that sits at this place. It is a call of its own, so that a turn that serves or looks in vain, as
-    // most do, costs none of it.
+    // Plays the turn of the core at this place, and returns whether it appended an item. This function is not inlined,
+    // so that a turn that serves or looks in vain, as most do, does not pay for it.
     #[inline(never)]
     fn take_turn(&mut self, at: usize, choice: Choice) -> Result<bool, AllocError>
         requires { at < vec_len self.old.core_runs }
@@ -184,8 +186,8 @@ impl<'a> World<'a> {
         Ok(true)
     }
 
-    // Whether the turn serves another core while no envelope waits for this one, as most turns do: it changes nothing.
-    fn serves_none(&self, core: CoreId, choice: Choice) -> bool
+    // Whether the turn serves while no envelope waits for its core, as most turns do. Such a turn changes nothing.
+    fn serves_in_vain(&self, core: CoreId, choice: Choice) -> bool
         ensures { IsTrue result → PlaysTurns ((core, choice) ∷ []) self.now false self.now }
     {
         match choice {
@@ -194,8 +196,8 @@ impl<'a> World<'a> {
         }
     }
 
-    /// The choice by which a turn of the core would append this item, if one would. Nothing is played, since a turn that comes too early may
-    /// append another item.
+    /// The choice by which a turn of the core would append this item, if one would. No turn is played: a turn that
+    /// comes too early may append another item.
     pub fn choice_for(&self, core: CoreId, item: &Item) -> Option<Choice> {
         let at = self.place_of(core)?;
         let core_run = &self.core_runs[at];
@@ -231,7 +233,7 @@ impl<'a> World<'a> {
         reports
     }
 
-    // Where a core sits.
+    // The place of the core among the world's cores; `None` if it is not one of them.
     fn place_of(&self, core: CoreId) -> Option<usize>
         ensures place { result ≡ position (λ (s : CoreRunValue). same_core s.id core) self.now.core_runs.items }
         ensures within { IfSome result (λ at. at < vec_len self.now.core_runs) }
@@ -245,8 +247,8 @@ impl<'a> World<'a> {
     }
 }
 
-// The choice by which a core takes this item, if it does. It takes a halt by its own turn where it asks for one itself, and
-// else by a look.
+// The choice by which a core takes this item, if it does. A core that requests a halt itself takes the halt item by its
+// own turn, and any other core by a look.
 fn choice_of(core_run: &CoreRun, item: &Item) -> Choice {
     match item {
         Item::On | Item::Pass1(_) | Item::Pass2(_) | Item::PassEnd | Item::Last(_) => Choice::Look,
@@ -259,7 +261,7 @@ fn choice_of(core_run: &CoreRun, item: &Item) -> Choice {
     }
 }
 
-// The report of each seat, in order.
+// Appends the report of each core, in order.
 fn report_each(core_runs: &mut [CoreRun], reports: &mut Vec<Report>)
     requires none { reports.old.items ≡ [] }
     requires room { length core_runs.old ≤ vec_capacity reports.old }
@@ -270,7 +272,7 @@ fn report_each(core_runs: &mut [CoreRun], reports: &mut Vec<Report>)
     }
 }
 
-// Where each core sits.
+// Each core's place among these, by core number.
 fn places_of(core_runs: &[CoreRun]) -> [Option<usize>; CORES]
     ensures { (core : CoreIdValue) → core.number < CORES → slice_get result core.number ≡ Some (position (λ (s : CoreRunValue). same_core s.id core) core_runs.now) }
 {
@@ -281,7 +283,7 @@ fn places_of(core_runs: &[CoreRun]) -> [Option<usize>; CORES]
     places
 }
 
-// Where this core sits.
+// The place of this core among these; `None` if it is not one of them.
 fn place_in(core_runs: &[CoreRun], core: CoreId) -> Option<usize>
     ensures { result ≡ position (λ (s : CoreRunValue). same_core s.id core) core_runs.now }
 {

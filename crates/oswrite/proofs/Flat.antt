@@ -9,7 +9,7 @@ use Rattle.osload.proofs.Loops.{always}
 use Rattle.osvalues.specs.Data.{or_null_data}
 use Rattle.oswrite.specs.Writing.{config_data}
 
--- ---- data without floats that nests no deeper than a number says
+-- ---- data without floats that nests to at most a given depth
 
 abbrev mutual
   pub is_plain : ℕ → Data → Bool

@@ -1,4 +1,4 @@
--- An object's name refers to the object, since no other has it.
+-- An object's name refers to the object, since no other object has the name.
 use Rattle.std.proofs.Common.{◌≡◌, ℕ, zero, suc, ◌+◌, ◌≤◌, true, not, List, [], ◌∷◌, length, map, get_or, Option, Some, option_and_then, refl, sym, ap, ◌∙◌, subst, arith, ◌<◌, nat_lt, None, option_map, unwrap_or, IsTrue, is_some}
 use Rattle.std.specs.{List.list_any, List.enumerate_from, List.find, List.flat_map, List.slice_get, List.list_all, List.Contains, List.position_or_len, Str.bytes_eq, Option.option_map_or}
 use Rattle.std.proofs.lemmas.Bool.{and_parts, not-true, false_from_ne_true, false≢true, eqb-true, ltb-true}
@@ -18,7 +18,7 @@ use Rattle.osschema.proofs.{Indexing.among, Naming.names-text}
 use Rattle.osload.proofs.Found.{byte-small}
 use Rattle.oswrite.proofs.Said.{config_as_text, core_as_text}
 
--- Where no name stands twice, each object is found by its name.
+-- If no name occurs twice, each object is found by its name.
 stands-found : (objects : List Declaration) (d : Declaration) → are_distinct (names_of objects) ≡ true → Contains objects d → find (has_name d.name) objects ≡ Some d
 stands-found [] d distinct here = absurd (omega (arith, here.1))
 stands-found (x ∷ xs) d distinct (zero, within, is) = rw (ap (has_name d.name) is ∙ (bytes_eq-Decides d.name d.name).1 refl) (ap Some is)
@@ -28,15 +28,15 @@ stands-found (x ∷ xs) d distinct (suc k, within, is) =
     let other = false_from_ne_true (has_name d.name x) (λ same. false≢true (sym (not-true _ parts.0) ∙ among x.name xs ∙ ap (λ n. is_some (find (has_name n) xs)) ((bytes_eq-Decides x.name d.name).0 same) ∙ ap is_some rest)) in
     rw other rest
 
--- ---- what stands among all that a text declares
+-- ---- what is among all that a text declares
 
--- what an element of a list makes, among what all of them make
+-- what `f` makes of one element of a list is among what it makes of all elements
 flat-has : {X Y : Type 0} (f : X → List Y) (xs : List X) (i : ℕ) (x : X) (y : Y) → slice_get xs i ≡ Some x → Contains (f x) y → Contains (flat_map f xs) y
 flat-has f [] i x y is has = cc
 flat-has f (first ∷ xs) zero x y is has = let same : x ≡ first = cc in Contains-append_left (f first) (flat_map f xs) y (subst (λ x. Contains (f x) y) same has)
 flat-has f (first ∷ xs) (suc i) x y is has = Contains-append_right (f first) (flat_map f xs) y (flat-has f xs i x y is has)
 
--- an object, at its index among those of its kind, and among those of all kinds
+-- an object is among those of its kind at its index, and among those of all kinds
 kind-has : (id : CoreId) (objects : ObjectKind → List Named) (kinds : List ObjectKind) (kind : ObjectKind) (i : ℕ) (object : Named) → find (λ k. same_kind k kind) kinds ≡ Some kind → slice_get (objects kind) i ≡ Some object
     → Contains (flat_map (λ kind. declared_as id kind (objects kind)) kinds) (declaration id kind (i, object))
 kind-has id objects kinds kind i object there is =
@@ -74,17 +74,17 @@ module _ (plan : Plan) where
   kind-many : (core : Core) (kind : ObjectKind) → length (names_in kind core) ≡ object_count kind core
   kind-many core kind = grind (arith, length-map)
 
--- ---- what the name of an object stands for
+-- ---- what the name of an object refers to
 
 module _ (plan : Plan) (inside : IsTrue (is_within_limits plan)) (sayable : IsTrue (is_representable plan)) where
   abbrev declared : List Declaration
   declared = declarations (config_as_text plan)
 
-  -- No name stands twice.
+  -- No name occurs twice.
   pub apart : are_distinct (names_of declared) ≡ true
   apart = ap are_distinct (sym (names-said plan)) ∙ (text-parts plan sayable).names
 
-  -- The name of one of so many objects of a kind, which have these names and all stand in the text.
+  -- If the objects of a kind have these names and are all declared, the name of each is in form and refers to it.
   named-by : (object : Object) (id : CoreId) (names : List (List ℕ)) (objects : List Named) → id ≡ object.place.core → name_of plan object.kind object.place ≡ unwrap_or (slice_get names object.place.index) []
       → names ≡ map (λ (o : Named). o.name) objects → list_all is_name names ≡ true → object.place.index < length names → object.place.index ≤ 255
       → ((o : Named) → slice_get objects object.place.index ≡ Some o → Contains declared (declaration id object.kind (object.place.index, o))) → IsNamed (place_of declared) (name_of plan) object
@@ -135,6 +135,6 @@ module _ (plan : Plan) (inside : IsTrue (is_within_limits plan)) (sayable : IsTr
       (λ o here. Contains-append_right (flat_map (common_of t) COMMON) (flat_map declared_by t.cores) _ (rw (flat_map-map declared_by (core_as_text plan) plan.cores)
       (flat-has (λ core. declared_by (core_as_text plan core)) plan.cores (position_or_len test plan.cores) core _ (sym (find_at test plan.cores) ∙ is) (core-has plan core kind index o here))))
 
-  -- The name of each object of the configuration is in form, and stands for it.
+  -- The name of each object of the configuration is in form, and refers to that object.
   pub object-named : (object : Object) → is_object plan object ≡ true → IsNamed (place_of declared) (name_of plan) object
   object-named object known = named-if object (core_of plan object.place.core) refl known

@@ -1,4 +1,4 @@
--- The data of a configuration has the shape of one. So its text has no fault, and means the configuration.
+-- The data of a configuration has the shape of a configuration. Its text has no fault, and means that configuration.
 use Rattle.std.proofs.Common.{◌≡◌, ℕ, ◌&&◌, Bool, true, List, [], ◌∷◌, map, Option, Some, None, option_map, IsTrue, refl, sym, ap, ◌∙◌, arith, ◌<◌, is_some, unwrap_or, length, option_and_then}
 use Rattle.std.specs.{List.list_all, List.AllByRecursion, Option.option_map_or, Str.bytes_eq}
 use Rattle.std.proofs.lemmas.{Bool.Decides.nat_tests, Bool.and_parts, Bool.and_from, Bool.or_right, List.Folds.list_all-map, Simd.map-map, List.length-map, List.map-append, List.map-id}
@@ -20,7 +20,7 @@ use Rattle.osschema.specs.Shape.{mode_shape, task_shape, isr_shape, resource_sha
 use Rattle.osschema.specs.Declarations.{counter_ref, mode_ref, number_id, declarations, place_of, names_of, counter_declared, declared_sizes, id_of, spinlock_ref}
 use Rattle.osschema.proofs.Lists.{all-apart}
 use Rattle.osvalidate.specs.{Action.action_of, Action.any_action, Operation.is_operation, Operation.is_operation_known, Operation.operations_of, Operation.op_of}
-use Rattle.osvalidate.specs.Check.{core_scripts, counter_sizes, start_sizes, alarm_sizes, table_sizes, core_sizes, sizes_of, numbers_of, is_text_within, is_unreserved, is_each_once, is_core_mode_known, is_mode_known, is_spinlock_known, are_known, are_near, are_ordered, are_timed, tests_of}
+use Rattle.osvalidate.specs.Check.{core_scripts, counter_sizes, start_sizes, alarm_sizes, table_sizes, core_sizes, sizes_of, numbers_of, is_text_within, is_unreserved, is_each_once, is_core_mode_known, is_mode_known, is_spinlock_known, are_known, have_local_references, are_ordered, are_timed, tests_of}
 use Rattle.osvalidate.specs.Verdict.{action_verdict, alarm_verdict, core_verdict, each as each_verdict, isr_verdict, op_verdict, point_verdict, script_verdict, table_verdict, task_verdict}
 use Rattle.osload.specs.Meaning.{core_mode, task_plan, isr_plan, resource_plan, counter_plan, start_plan, alarm_plan, point_plan, spinlock_plan, table_start_plan, table_plan, core_plan, plan_of, config_of}
 use Rattle.osload.proofs.Found.{IsByte, NamedCounter, byte-small, is-byte, HasCounters, named-counter}
@@ -33,13 +33,13 @@ use Rattle.oswrite.proofs.Said.{task_as_text, isr_as_text, resource_as_text, cou
 
 -- ---- what is written and read back
 
--- What a thing is written as has the shape of its text, which means the thing and passes a test.
+-- The data that a value is written as are read as its text. The text means the value, and passes a test.
 record Back {X Y : Type 0} (write : X → Data) (text_of : X → Y) (shape : Data → Option Y) (mean : Y → X) (test : Y → Bool) (x : X) : Type 0 where
   shaped : shape (write x) ≡ Some (text_of x)
   meant : mean (text_of x) ≡ x
   passed : test (text_of x) ≡ true
 
--- An element of a list passes what all pass.
+-- An element of a list passes each test that all elements pass.
 abbrev In : {X : Type 0} → List X → X → Type 0
 In {X} xs x = (p : X → Bool) → list_all p xs ≡ true → p x ≡ true
 
@@ -49,7 +49,7 @@ first-in x xs p all = (and_parts (p x) (list_all p xs) all).0
 later-in : {X : Type 0} (x : X) (xs : List X) (y : X) → In xs y → In (x ∷ xs) y
 later-in x xs y here p all = here p (and_parts (p x) (list_all p xs) all).1
 
--- A list is read back where each of its elements is,
+-- If each element of a list is read back, so is the list.
 backs : {X Y : Type 0} {write : X → Data} {text_of : X → Y} {shape : Data → Option Y} {mean : Y → X} {test : Y → Bool} (xs : List X) → ((x : X) → In xs x → Back write text_of shape mean test x)
     → Back (list_data write) (map text_of) (each_of shape) (map mean) (list_all test) xs
 backs [] back = record { shaped = refl; meant = refl; passed = refl }
@@ -58,7 +58,7 @@ backs (x ∷ xs) back =
     let rest = backs xs (λ y here. back y (later-in x xs y here)) in
     record { shaped = rw (first.shaped, rest.shaped) refl; meant = rw (first.meant, rest.meant) refl; passed = and_from _ _ first.passed rest.passed }
 
--- and has the numbers that each has.
+-- If `f` after `g` is `h` for each element of a list, it is so for the list.
 map-in : {X Y Z : Type 0} (f : Y → Z) (g : X → Y) (h : X → Z) (xs : List X) → ((x : X) → In xs x → f (g x) ≡ h x) → map f (map g xs) ≡ map h xs
 map-in f g h [] same = refl
 map-in f g h (x ∷ xs) same = rw (same x (first-in x xs), map-in f g h xs (λ y here. same y (later-in x xs y here))) refl
@@ -69,7 +69,7 @@ option_map-map f g o = grind arith
 id-back : (id : CoreId) → IsByte (number_of id) → number_id (number_of id) ≡ id
 id-back id byte = grind arith
 
--- the word of an answer is read as the answer; the first clause is only there to make a case of each
+-- the word of a protection is read as that protection; the first clause only splits the cases
 protection-back : (p : Protection) → protection_named (protection_word p) ≡ Some p
 protection-back Protection.Ignore = refl
 protection-back p = refl
@@ -114,7 +114,7 @@ module _ (plan : Plan) (inside : IsTrue (limits.is_within_limits plan)) (sayable
   op-meant : (op : Op) → limits.is_op_known plan op ≡ true → is_in_form op ≡ true → has_masks op ≡ true → op_of_text (place_of objects) (op_text plan op) ≡ Some op
   op-meant op known form masks = text-meant (place_of objects) (name_of plan) (limits.is_object plan) named op form masks known
 
-  -- The text of an operation has no `;` besides.
+  -- An operation is read back from its text. The text has no `;`.
   op-back : (op : Op) → limits.is_op_known plan op ≡ true → is_in_form op ≡ true → has_masks op ≡ true
       → Back (λ op. string (op_text plan op)) (op_text plan) as_str (op_of objects) (λ text. is_right (op_verdict objects NOBODY text) && has_none 59 text) op
   op-back op known form masks =
@@ -125,7 +125,7 @@ module _ (plan : Plan) (inside : IsTrue (limits.is_within_limits plan)) (sayable
       let apart = text-none (place_of objects) (name_of plan) (limits.is_object plan) named 59 (record { digit = refl; part = refl; minus = refl; invalid = refl; letter = refl }) refl op form masks known in
       record { shaped = refl; meant = ap (λ o. unwrap_or o Work) e; passed = and_from _ _ (and_from _ _ (and_from _ _ means.1 masked) means.0) apart }
 
-  -- A script's text has the texts of its operations.
+  -- A script is read back from its text, since that is cut into the texts of its operations.
   script-back : (id : CoreId) (script : List Op) → limits.is_script_known plan script ≡ true → said.is_script_representable script ≡ true
       → Back (λ script. string (script_text plan script)) (script_text plan) as_str (λ text. map (op_of objects) (operations_of text)) (λ text. is_right (script_verdict objects id text)) script
   script-back id script known says =
@@ -166,7 +166,7 @@ module _ (plan : Plan) (inside : IsTrue (limits.is_within_limits plan)) (sayable
       let id = id-back core.id (is-byte 0 15 (number_of core.id) limit.number (omega arith)) in
       (record { core = core; found = ap (core_of plan) id ∙ found.0; same = sym same; within = ap are_counters_within same ∙ limit.counters }, cores-have cores tests.1 found.1)
 
-  -- The name of a counter of the configuration stands for it, and has its numbers.
+  -- The name of a configured counter refers to that counter, and gives its numbers.
   named-back : (counter : CounterRef) → limits.is_object plan (counter_object counter) ≡ true → IsNamed (place_of objects) (name_of plan) (counter_object counter) × NamedCounter plan objects (counter_name plan counter) counter
   named-back counter known =
       let names = named (counter_object counter) known in
@@ -207,7 +207,7 @@ module _ (plan : Plan) (inside : IsTrue (limits.is_within_limits plan)) (sayable
   unfolding counter_shape
   counter-back counter within says = record { shaped = rw says refl; meant = grind (arith, nat_tests); passed = refl }
 
-  -- How an alarm is autostarted, and how a table is started, where they are.
+  -- The autostarts of alarms and of schedule tables are read back from their texts, if they exist.
   start-back : (sizes : Option CounterSizes) (counter : CounterSizes) (auto : Option AlarmStart) → sizes ≡ Some counter → limits.is_counter_within counter ≡ true
       → is_alarm_within (option_map (limits.start_sizes sizes) auto) ≡ true → list_all (limits.is_mode plan) (option_map_or (λ (auto : AlarmStart). auto.modes) auto []) ≡ true
       → Back (or_null_data (start_data plan)) (option_map (start_as_text plan)) (or_null alarm_start_shape) (option_map (start_plan objects)) (λ o. list_all (is_mode_known objects) (option_map_or (λ (auto : AlarmStartText). auto.modes) o [])) auto
@@ -342,7 +342,7 @@ module _ (plan : Plan) (inside : IsTrue (limits.is_within_limits plan)) (sayable
 
   -- ---- the whole
 
-  -- The name of a spinlock's successor stands for it.
+  -- The name of a spinlock's successor refers to that successor.
   next-back : (next : Option SpinlockId) → option_map_or (limits.is_spinlock plan) next true ≡ true
       → Back (or_null_data (spinlock_name_data plan)) (option_map (spinlock_name plan)) (or_null read_name) (option_and_then (spinlock_ref objects)) (λ o. option_map_or (λ (name : List ℕ). is_some (place_of objects ObjectKind.Spinlock name)) o true) next
   next-back None h = record { shaped = refl; meant = refl; passed = refl }
@@ -382,11 +382,11 @@ module _ (plan : Plan) (inside : IsTrue (limits.is_within_limits plan)) (sayable
       let master : has_number (numbers_of t.cores) t.master ≡ true =
       ap (λ numbers. has_number numbers t.master) numbers ∙ any-mapped (λ id. same_number id t.master) (λ (c : Core). number_of c.id) plan.cores ∙ any-find (λ (c : Core). same_core c.id plan.master) plan.cores ∙ bounds.master in
       let known : are_known t ≡ true = and_from _ _ master (and_from _ _ spinlocks-back.passed right.0) in
-      let near : are_near t ≡ true = sym (near_kept objects t.cores right.2) ∙ ap (λ (p : Plan). list_all limits.has_local_references p.cores) plan-back ∙ bounds.near in
+      let near : have_local_references t ≡ true = sym (near_kept objects t.cores right.2) ∙ ap (λ (p : Plan). list_all limits.has_local_references p.cores) plan-back ∙ bounds.near in
       let ordered : are_ordered t ≡ true = ap are_links_ordered (sym (map-map (λ (spinlock : Spinlock). spinlock.next) (spinlock_plan objects) t.spinlocks)) ∙ ap (λ (p : Plan). are_links_ordered (links_of p.spinlocks)) plan-back ∙ bounds.ordered in
       let timed : are_timed t ≡ true = simp list_all-map ((simp list_all-map at (ap (list_all (λ (s : CoreSizes). list_all is_table_timed s.tables)) cores)) ∙ bounds.timed) in
       rw (within, one_each, known, near, ordered, right.1, timed, right.2) refl
 
--- so it means the configuration
+-- so the text means the configuration
 pub config-back : (plan : Plan) (text : List ℕ) → IsTrue (limits.is_within_limits plan) → IsTrue (said.is_representable plan) → read text ≡ Some (config_data plan) → config_of text ≡ Some plan
 config-back plan text inside sayable reads = rw (reads, shape-back plan inside sayable, faultless plan inside sayable, plan-back plan inside sayable) refl

@@ -5,8 +5,8 @@ use Rattle.serde_json.specs.Written.{compact_text}
 use Rattle.osplan.specs.declared.plans.Plan.{Plan}
 use Rattle.osvalues.specs.Data.{core_data, id_data, list_data, name_data, spinlock_data, whole_data}
 
--- A configuration, with every member of its text, in ascending order of names: the size of a mailbox, its cores, the master core, its
--- application modes, its spinlocks and the version of the format. [own]
+-- The JSON data of a configuration, with every member, in ascending order of the members' names: the size of a mailbox,
+-- the cores, the master core, the application modes, the spinlocks and the version of the format. [own]
 abbrev pub config_data : Plan → Data
 config_data plan = object
     (member (codes "cap") (whole_data plan.cap)
@@ -16,6 +16,6 @@ config_data plan = object
     (member (codes "spinlocks") (list_data (spinlock_data plan) plan.spinlocks)
     (member (codes "version") (whole_data plan.version) no_members))))))
 
--- Its text: compact JSON. [own]
+-- The text of a configuration: its data as compact JSON. [own]
 abbrev pub config_text : Plan → List ℕ
 config_text plan = compact_text (config_data plan)

@@ -1,4 +1,4 @@
-//! Writing configurations: the JSON text of one, which reads back to it.
+//! Writing a configuration as a JSON text, which reads back to the same configuration.
 #![tactic(auto)]
 
 mod texts;

@@ -10,6 +10,7 @@ use osvalues::{cores_value, modes_value, spinlocks_value};
 use serde_json::{Value, json};
 use std::alloc::{AllocError, Global};
 
+// The JSON value of a configuration, with every member.
 fn plan_value(alloc: Global, plan: &Plan) -> Result<Value, AllocError>
     ensures { IfOk result (λ value. view value ≡ config_data plan.now) }
 {
@@ -23,14 +24,14 @@ fn plan_value(alloc: Global, plan: &Plan) -> Result<Value, AllocError>
     })
 }
 
-/// The text of a configuration, of its version of the format: compact JSON with every member written, in
-/// ascending order of names. Reading it gives the configuration back. `NoMemory` where memory runs out,
-/// and no other fault.
+/// The text of a configuration, in the configuration's version of the format: compact JSON with every member, in
+/// ascending order of the members' names. Reading the text gives the configuration back. `NoMemory` where memory runs
+/// out, and no other fault.
 pub fn config_text(alloc: Global, config: &Config) -> Result<String, ConfFault>
     ensures text { IfOk result (λ text. string_bytes text ≡ config_text config.now) }
-    // The text's configuration is the configuration.
+    // The text means this configuration.
     ensures reads_back { IfOk result (λ text. config_of (string_bytes text) ≡ Some config.now) }
-    // Nothing but memory can be missing.
+    // The only fault is that memory runs out.
     ensures fault { IfErr result (λ fault. fault ≡ ConfFault.NoMemory) }
 {
     let plan = config.plan();

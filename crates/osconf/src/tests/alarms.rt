@@ -4,7 +4,7 @@ use super::play_configurations;
 use std::test::Fail;
 
 const TEXTS: &str = r#"
-// What is within a number's limits, at both ends, and what is not.
+// Numbers within their limits, at both ends, and numbers outside.
 text {"cores":[{"id":0,"tasks":[{"name":"A","prio":1,"script":""}],"counters":[{"name":"K","max":9,"min":3}],"alarms":[{"name":"W","counter":"K","action":"ActivateTask A","auto":{"modes":["M"],"start":@,"cycle":0}}]}]}
 fine 1|2|3|9
 Limit 0|10|-1|4294967297|18446744073709551615|-9223372036854775808
@@ -18,7 +18,7 @@ text {"cores":[{"id":0,"tasks":[{"name":"A","prio":1,"script":""}],"counters":[{
 fine 0|1000000000
 Limit 1|999999999|1000000001
 
-// A start is judged by the counter of the name, if one counter alone has it, be it another core's.
+// If exactly one counter has the name, the start is judged by that counter, even if it is another core's.
 text {"cores":[{"id":0,"tasks":[{"name":"A","prio":1,"script":""}],"alarms":[{"name":"W","counter":"Q","action":"ActivateTask A","auto":{"modes":[],"start":@,"cycle":9}}]},{"id":1,"counters":[{"name":"Q","max":9}]}]}
 WrongCore 1|9
 Limit 0|10|-1
@@ -29,7 +29,7 @@ text {"cores":[{"id":0,"tasks":[{"name":"A","prio":1,"script":""}],"alarms":[{"n
 text {"cores":[{"id":0,"tasks":[{"name":"A","prio":1,"script":""}],"alarms":[{"name":"W","counter":"M","action":"ActivateTask A","auto":{"modes":[],"start":0,"cycle":@}}]}]}
 UnknownName 0|1|-1|1000000001|18446744073709551615
 
-// A name of two counters is not one counter.
+// If two counters have the name, the start is not judged by either.
 text {"cores":[{"id":0,"tasks":[{"name":"A","prio":1,"script":""}],"counters":[{"name":"K","max":9},{"name":"K","max":9}],"alarms":[{"name":"W","counter":"K","action":"ActivateTask A","auto":{"modes":[],"start":@,"cycle":0}}]}]}
 DuplicateName 0|1|10
 
@@ -50,7 +50,7 @@ Shape ""|"?"|"M","9"|1|null|[]
 text {"cores":[{"id":0,"tasks":[{"name":"A","prio":1,"script":""}],"counters":[{"name":"K","max":1}],"alarms":[{"name":"@","counter":"K","action":"ActivateTask A"}]}]}
 Shape |_W|9|W X|?|W-X|Ä
 fine W|w9_
-// It is no other object's, on its core or on another one, and not the mode's.
+// The name must differ from the names of all other objects, on any core, and from the mode's.
 DuplicateName A|K|\u0041|M
 
 text {"cores":[{"id":0,"tasks":[{"name":"A","prio":1,"script":""}],"counters":[{"name":"K","max":1}],"alarms":[{"name":"V","counter":"K","action":"ActivateTask A"},{"name":"@","counter":"K","action":"ActivateTask A"}]}]}
@@ -59,7 +59,7 @@ text {"cores":[{"id":0,"tasks":[{"name":"V","prio":1,"script":""}]},{"id":1,"cou
 fine v|VV|m
 DuplicateName V|M
 
-// Of several faults the one with the least number is told, in whichever alarm it is.
+// Of several faults the one with the least number is reported, whichever alarm has it.
 text {"cores":[{"id":0,"tasks":[{"name":"A","prio":1,"script":"walk"}],"counters":[{"name":"K","max":9}],"alarms":[{"name":"V","counter":"K","action":""},@]},{"id":1,"counters":[{"name":"Q","max":9}]}]}
 BadScript {"name":"W","counter":"K","action":"ActivateTask A"}
 BadMask {"name":"W","counter":"K","action":"SetEvent A 0"}
@@ -88,14 +88,14 @@ fine {"name":"W","counter":"K","action":"ActivateTask A","auto":null}
 fine {"auto":{"cycle":1,"start":1,"modes":[]},"action":"ActivateTask A","counter":"K","name":"W"}
 fine {"name":"W","counter":"K","action":"ActivateTask A","auto":7,"auto":null}
 
-// A core has at most 32; other cores have 32 of their own.
+// A core has at most 32 alarms; other cores have 32 of their own.
 text {"cores":[{"id":0,"tasks":[{"name":"A","prio":1,"script":""}],"counters":[{"name":"K","max":1}],"alarms":[@]},{"id":1,"counters":[{"name":"L","max":1}],"alarms":[{"name":"W","counter":"L","action":"ActivateTask A"}]}]}
 each [,] {"name":"W@","counter":"K","action":"ActivateTask A"}
 fine 0|1|32
 Limit 33|300
 "#;
 
-// The same with an action, of an alarm of the first core.
+// Two cores; the action of the first core's alarm is to be filled in.
 pub(super) const ACTION: &str =
     r#"{"cores":[{"id":0,"tasks":[{"name":"A","prio":1,"script":""},{"name":"E","prio":2,"extended":true,"script":""}],"resources":[{"name":"R","ceiling":1}],"counters":[{"name":"K","max":9}],"alarms":[{"name":"W","counter":"K","action":"@"}]},{"id":1,"tasks":[{"name":"B","prio":1,"script":""}],"counters":[{"name":"Q","max":1}]}]}"#;
 
@@ -105,7 +105,7 @@ fine ActivateTask A|ActivateTask E|ActivateTask B|SetEvent E 1|SetEvent E 429496
 UnknownName ActivateTask Nobody|ActivateTask R|ActivateTask K|ActivateTask Q|ActivateTask W|ActivateTask M
 UnknownName SetEvent Nobody 1|SetEvent R 1|SetEvent Nobody 0|SetEvent K 4294967296
 BadMask SetEvent E 0|SetEvent A 4294967296|SetEvent B 99999999999999999999999
-// A text in another form has no other fault.
+// A text in a wrong form has no fault but BadScript.
 BadScript | |ActivateTask |ActivateTask A |SetEvent E |ActivateTask|ActivateTask ?|ActivateTask 9| ActivateTask A
 BadScript ActivateTask  A|ActivateTask A B|ActivateTask A;|ActivateTask A;TerminateTask|activatetask A|ActivateTask,A
 BadScript SetEvent|SetEvent E|SetEvent ? 1|SetEvent ? 0|SetEvent E ?|SetEvent E 01|SetEvent E 00|SetEvent E -1
@@ -129,7 +129,7 @@ UnknownName SetRelAlarm Nobody 1 0|SetAbsAlarm Nobody 1 0|CancelAlarm Nobody|Get
 UnknownName SetAbsAlarm K 1 0|CancelAlarm R|CancelAlarm Q|GetAlarm M v0|ActivateTask W|ActivateTask Z
 UnknownName IncrementCounter W|GetResource W|GetCounterValue W v0|SetRelAlarm Nobody 4294967296 0
 UnknownName SetAbsAlarm A 0 99999999999999999999999|CancelAlarm Nobody;GetAlarm W
-// What is no operation on an alarm.
+// Texts that are not operations on alarms.
 BadScript SetRelAlarm W 1 |CancelAlarm |SetRelAlarm|SetRelAlarm W|SetRelAlarm W 1|SetRelAlarm W 1 2 3
 BadScript SetRelAlarm W  1 2|SetRelAlarm W 4294967296 0|SetRelAlarm W 0 4294967296|SetRelAlarm ? 4294967296 0
 BadScript SetRelAlarm Z 0 99999999999999999999999|SetRelAlarm W -1 0|SetRelAlarm W 01 0|SetRelAlarm W 1 00
@@ -140,7 +140,7 @@ BadScript GetAlarm W v0 v1
 "#;
 
 #[test]
-fn texts_with_alarms(rt: HostRuntime) -> Result<(), Fail> {
+fn texts_with_alarms_have_their_faults_or_none(rt: HostRuntime) -> Result<(), Fail> {
     play_configurations(&rt, rt.alloc(), "@", TEXTS, 143)?;
     play_configurations(&rt, rt.alloc(), ACTION, ACTIONS, 65)?;
     play_configurations(&rt, rt.alloc(), TWO_CORES, OPERATIONS, 66)

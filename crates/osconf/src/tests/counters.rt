@@ -4,7 +4,7 @@ use super::play_configurations;
 use std::test::Fail;
 
 const TEXTS: &str = r#"
-// What is within a number's limits, at both ends, and what is not.
+// Numbers within their limits, at both ends, and numbers outside.
 text {"cores":[{"id":0,"counters":[{"name":"K","max":@}]}]}
 text {"cores":[{"id":0,"counters":[{"name":"K","max":@,"min":1}]}]}
 text {"cores":[{"id":0,"counters":[{"name":"K","max":1000000000,"min":@}]}]}
@@ -26,7 +26,7 @@ text {"cores":[{"id":0,"counters":[{"name":"@","max":1}]}]}
 Shape |_K|9|K L|?|K-L|Ä
 fine K|k9_
 
-// It is no other object's, on its core or on another one, and not the mode's.
+// The name must differ from the names of all other objects, on any core, and from the mode's.
 text {"cores":[{"id":0,"tasks":[{"name":"A","prio":1,"script":""}],"counters":[{"name":"@","max":1}]}]}
 text {"cores":[{"id":0,"resources":[{"name":"A","ceiling":1}],"counters":[{"name":"@","max":1}]}]}
 text {"cores":[{"id":0,"counters":[{"name":"A","max":1},{"name":"@","max":2}]}]}
@@ -36,12 +36,12 @@ text {"cores":[{"id":0,"counters":[{"name":"@","max":1}]},{"id":1,"resources":[{
 fine a|AA|m
 DuplicateName A|\u0041|M
 
-// On whichever core the script is, and whichever of its core's tasks has it.
+// A script is judged the same way on any core, and in any task of its core.
 text {"cores":[{"id":5,"counters":[{"name":"K","max":1}]},{"id":3,"tasks":[{"name":"A","prio":1,"script":""},{"name":"B","prio":1,"script":"@"}],"counters":[{"name":"Q","max":1}]}],"master":3}
 fine GetCounterValue Q v0|IncrementCounter Q;IncrementCounter K
 WrongCore GetCounterValue K v0
 
-// A core has at most 8; other cores have 8 of their own.
+// A core has at most 8 counters; other cores have 8 of their own.
 text {"cores":[{"id":0,"counters":[@]},{"id":1,"counters":[{"name":"K","max":1}]}]}
 each [,] {"name":"K@","max":1}
 fine 0|1|8
@@ -63,14 +63,14 @@ BadScript IncrementCounter |GetCounterValue K |IncrementCounter|IncrementCounter
 BadScript IncrementCounter  K|IncrementCounter ??|IncrementCounter 1|incrementcounter K|GetCounterValue
 BadScript GetCounterValue K|GetCounterValue K 1|GetCounterValue K v8|GetCounterValue K ?|GetCounterValue v0 K
 BadScript GetCounterValue K v0 v1|GetCounterValue Nobody|GetCounterValue Q
-// A script may advance a counter of another core, and reads its own core's alone.
+// A script may advance a counter of another core, but may read only counters of its own core.
 WrongCore GetCounterValue Q v0|IncrementCounter Q;GetCounterValue Q v0|GetCounterValue K v0;GetCounterValue Q v7;walk
 WrongCore jump 9;GetCounterValue Q v0|WaitEvent 0;GetCounterValue Q v0
 UnknownName GetCounterValue Q v0;IncrementCounter Nobody|IncrementCounter A;GetCounterValue Q v0
 "#;
 
 #[test]
-fn texts_with_counters(rt: HostRuntime) -> Result<(), Fail> {
+fn texts_with_counters_have_their_faults_or_none(rt: HostRuntime) -> Result<(), Fail> {
     play_configurations(&rt, rt.alloc(), "@", TEXTS, 111)?;
     play_configurations(&rt, rt.alloc(), TWO_CORES, OPERATIONS, 46)
 }

@@ -20,7 +20,7 @@ BadScript SetEvent Nobody|ClearEvent|ClearEvent A|ClearEvent ?|ClearEvent A 1|Cl
 BadScript GetEvent v0|GetEvent A 1|GetEvent A v8|GetEvent A v0 v1|GetEvent v0 A v0|WaitEvent|WaitEvent A|WaitEvent ?
 BadScript WaitEvent v0|WaitEvent 1 1|waitevent 1
 
-// An operation in form has the faults of its names and of its masks; the smallest fault of the text is told.
+// An operation of the right form can have faults of its names and masks. The smallest fault of the text is reported.
 UnknownName SetEvent Nobody 0|SetEvent Nobody 4294967296|WaitEvent 0;ChainTask Nobody|SetEvent A 0;GetEvent Nobody v0
 BadScript SetEvent Nobody 01
 WrongCore GetEvent C v0|GetEvent A v0;GetEvent C v0|WaitEvent 0;GetEvent C v0
@@ -39,7 +39,7 @@ fine 1|2|10|2147483648|4294967294|4294967295
 BadMask 0|4294967296|4294967297|8589934593|18446744073709551615|18446744073709551616|100000000000000000000000
 BadScript |00|01|007|04294967296|+1|-1|-0|1.0|1e0|0x1|1_0|x|A|v1|?|١
 
-// On whichever core the script is, and whichever of its core's tasks has it.
+// A script is judged the same way on any core, and in any task of its core.
 text {"cores":[{"id":0},{"id":3,"tasks":[{"name":"A","prio":1,"script":""},{"name":"B","prio":1,"script":"@"}]}]}
 fine WaitEvent 1
 BadMask WaitEvent 0
@@ -48,7 +48,7 @@ text {"cores":[{"id":0,"tasks":[{"name":"A","prio":1,"script":"WaitEvent 0"},{"n
 BadMask B
 DuplicateName A
 
-// An extended task has one job.
+// The activation limit of an extended task is 1.
 text {"cores":[{"id":0,"tasks":[{"name":"A","prio":1,"extended":true,"activations":@,"script":""}]}]}
 fine 1
 Limit 0|2|64|65|-1|18446744073709551615
@@ -57,14 +57,14 @@ text {"cores":[{"id":0,"tasks":[{"name":"A","prio":1,"extended":false,"activatio
 fine 1|2|64
 Limit 65
 
-// Each task of a core has its own limit, and the smaller fault is told.
+// Each task of a core has its own limit, and the smaller fault is reported.
 text {"cores":[{"id":0,"tasks":[{"name":"A","prio":1,"activations":2,"script":"WaitEvent 0"},{"name":"B","prio":1,"extended":@,"activations":2,"script":""}]}]}
 Limit true
 BadMask false
 "#;
 
 #[test]
-fn texts_with_events(rt: HostRuntime) -> Result<(), Fail> {
+fn texts_with_events_have_their_faults_or_none(rt: HostRuntime) -> Result<(), Fail> {
     play_configurations(&rt, rt.alloc(), "@", TEXTS, 107)?;
     play_configurations(&rt, rt.alloc(), TWO_CORES, OPERATIONS, 73)
 }

@@ -7,7 +7,7 @@ use std::test::Fail;
 pub(super) const SECOND: &str = r#"{"version":2,"cores":[{"id":0},{"id":9},{"id":15}]}"#;
 
 const NO_STIMULI: &str = r#"
-// Words that are no stimuli.
+// Words that are not stimuli.
 text {"1":"op","0":"@"}
 BadStimulus  |op |op op |tick |tick op | op|op  op|Op|OP|opop| tick|op  tick|tick  op|ticktick|optick|tickop|Tick|tic
 BadStimulus ticks|tick\top|o|op,op|op;op|op\top|op\n|op\u0000|0o|work|A|?|irq|irq=|irq=A|irq=?|irq=Nobody
@@ -51,12 +51,12 @@ text {"0":1,"x":"@"}
 each [ ] op
 Limit 100001
 
-// Of a member that stands twice the last value counts.
+// If a member occurs twice, its last value counts.
 text {"0":"@","0":"op"}
 each [ ] op
 fine 100001
 
-// What is no object has no words.
+// A text that is not an object has no words.
 text ["@"]
 each [ ] op
 BadStimulus 100001
@@ -67,11 +67,11 @@ const NO_SCHEDULES: &str = r#"
 text "@"
 BadSchedule  |0o |o|l|s0|0|0 o|0O|0L|0S1|0x|0op|0o1|0l0|0ol|0o,1o|0o\t1o|0s|0so|0s1o|0s1s1|0s 1|0s-1|0s+1|-0o|+0o|0.0o
 BadSchedule  0o|0o  1o|١o
-// Turns of the core itself.
+// Turns in which a core serves itself.
 BadSchedule 0s0|1s1|0o 1s1|0s0 1o
 // Numbers with zeros before them.
 BadSchedule 00o|01l|000o|0s01|1s00|01s0
-// Turns of no core.
+// Turns of cores that are not configured.
 BadSchedule 2o|7l|10o|256o|257l|4294967296o|0s2|2s0|1s256|1s18446744073709551616
 
 // Turns of another shape.
@@ -97,7 +97,7 @@ text "0s0 @"
 each [ ] 0o
 Limit 1000000
 
-// What is no text has no words.
+// A value that is not a text has no words.
 text ["0o @"]
 each [ ] 1l
 BadSchedule 1000000
@@ -116,7 +116,7 @@ BadSchedule 1o|8o|16o|9s9|15s15|15s1|9s16|09o|9s09|015o|150o|9s150|15|15s|9 s15
 "#;
 
 #[test]
-fn texts_that_are_no_stimuli_or_schedules(rt: HostRuntime) -> Result<(), Fail> {
+fn stimuli_and_schedules_have_their_faults_or_none(rt: HostRuntime) -> Result<(), Fail> {
     play(&rt, rt.alloc(), Reader::Stimuli, "@", NO_STIMULI, 90)?;
     play(&rt, rt.alloc(), Reader::Schedule, "@", NO_SCHEDULES, 72)?;
     play(&rt, rt.alloc(), Reader::SecondStimuli, "@", STIMULI_2, 11)?;

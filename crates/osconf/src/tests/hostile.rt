@@ -1,4 +1,4 @@
-//! Texts that are no configurations: not JSON, or of another shape.
+//! Texts that are not configurations: not JSON, or of another shape.
 
 use super::{Reader, TWO_CORES, fault_of, play_configurations, repeated};
 use crate::ConfFault;
@@ -7,7 +7,7 @@ use std::process::Abort;
 use std::test::Fail;
 
 const TEXTS: &str = r#"
-// What is not JSON.
+// Texts that are not JSON.
 text @
 NotJson | |x|nul|"cores|{"cores":[{"id":0}]}x|{"cores":[{"id":0}]}{}|{"cores":[{"id":0}],}|{"cores":[{"id":0},]}
 NotJson {'cores':[{'id':0}]}|{cores:[{"id":0}]}|{"cores":[{"id":0}]} // one core|{"cores":[{"id":01}]}
@@ -80,10 +80,10 @@ Shape null|1|0|"true"|""|[]|[true]|{}
 fine true|false
 "#;
 
-// What has a character before it or behind it that is not JSON.
+// A text that is not JSON because of a character before or after the object.
 const AROUND: &str = r#"NotJson {"cores":[{"id":0}]}"#;
 
-// What stands in a text behind a line's end.
+// A text that is not JSON because of a line's end in a string.
 const WITHIN: &str = "NotJson";
 
 const WHOLE: &[(Reader, &str)] = &[
@@ -93,49 +93,38 @@ const WHOLE: &[(Reader, &str)] = &[
 ];
 
 #[test]
-fn each_proper_beginning_is_not_json(rt: HostRuntime) -> Result<(), Fail> {
+fn each_proper_prefix_is_not_json(rt: HostRuntime) -> Result<(), Fail> {
     for (reader, whole) in WHOLE {
-        judge_beginnings(&rt, rt.alloc(), *reader, whole)?;
+        judge_prefixes(&rt, rt.alloc(), *reader, whole)?;
         judge_text(&rt, rt.alloc(), *reader, whole, None)?;
     }
     Ok(())
 }
 
-// Each proper beginning of the text is not JSON, and the last one and a character are the text.
-fn judge_beginnings(
-    rt: &impl Abort,
-    alloc: Global,
-    reader: Reader,
-    whole: &str,
-) -> Result<(), Fail> {
-    let mut beginning = String::new(alloc);
-    judge_each(rt, alloc, reader, whole, &mut beginning)?;
-    assert!(rt; beginning.as_str() == whole);
+// Checks that no proper prefix of `whole` is JSON, and that all of them were tried.
+fn judge_prefixes(rt: &impl Abort, alloc: Global, reader: Reader, whole: &str) -> Result<(), Fail> {
+    let mut prefix = String::new(alloc);
+    judge_each(rt, alloc, reader, whole, &mut prefix)?;
+    assert!(rt; prefix.as_str() == whole);
     Ok(())
 }
 
-// Appends the text to the beginning, which is not JSON before each character.
+// Appends the characters of `whole` to `prefix`, one by one, and checks before each one that `prefix` is not JSON.
 fn judge_each(
     rt: &impl Abort,
     alloc: Global,
     reader: Reader,
     whole: &str,
-    beginning: &mut String,
+    prefix: &mut String,
 ) -> Result<(), Fail> {
     for c in whole.chars() {
-        judge_text(
-            rt,
-            alloc,
-            reader,
-            beginning.as_str(),
-            Some(ConfFault::NotJson),
-        )?;
-        beginning.push(c)?;
+        judge_text(rt, alloc, reader, prefix.as_str(), Some(ConfFault::NotJson))?;
+        prefix.push(c)?;
     }
     Ok(())
 }
 
-// The text has the fault, or none.
+// Checks that the text has this fault, or none.
 fn judge_text(
     rt: &impl Abort,
     alloc: Global,
@@ -150,7 +139,7 @@ fn judge_text(
 
 // JSON may nest to a depth of 127.
 #[test]
-fn a_text_that_nests_too_deep(rt: HostRuntime) -> Result<(), Fail> {
+fn a_text_that_nests_too_deep_is_not_json(rt: HostRuntime) -> Result<(), Fail> {
     let examples = [
         (127, ConfFault::Shape),
         (128, ConfFault::NotJson),
@@ -163,12 +152,13 @@ fn a_text_that_nests_too_deep(rt: HostRuntime) -> Result<(), Fail> {
     Ok(())
 }
 
-// The fault of so many lists within one another.
+// The fault of lists that nest to this depth.
 fn fault_of_lists(alloc: Global, depth: u32) -> Result<Option<ConfFault>, Fail> {
     let text = nested(alloc, depth)?;
     fault_of(alloc, Reader::Configuration, text.as_str())
 }
 
+// The text of lists that nest to this depth.
 fn nested(alloc: Global, depth: u32) -> Result<String, Fail> {
     let mut text = repeated(alloc, "[", "", depth)?;
     let ends = repeated(alloc, "]", "", depth)?;
@@ -177,7 +167,7 @@ fn nested(alloc: Global, depth: u32) -> Result<String, Fail> {
 }
 
 #[test]
-fn texts_that_are_no_configurations(rt: HostRuntime) -> Result<(), Fail> {
+fn texts_of_other_shapes_have_their_faults_or_none(rt: HostRuntime) -> Result<(), Fail> {
     play_configurations(&rt, rt.alloc(), "@", TEXTS, 395)?;
     play_configurations(&rt, rt.alloc(), "\u{feff}@", AROUND, 1)?;
     play_configurations(&rt, rt.alloc(), "@\0", AROUND, 1)?;

@@ -8,7 +8,7 @@ pub(super) const TWO_CORES: &str =
     r#"{"cores":[{"id":0,"protection":"PRO_IGNORE","tasks":[{"name":"A","prio":1,"script":""},{"name":"W","prio":1,"extended":true,"script":""}],"isrs":[{"name":"I1","level":16,"budget":9,"script":"@"},{"name":"I2","level":1,"script":""}],"resources":[{"name":"R","ceiling":1}]},{"id":1,"tasks":[{"name":"B","prio":1,"script":""}],"isrs":[{"name":"J","level":1,"script":""}],"resources":[{"name":"Q","ceiling":1}]}]}"#;
 
 const OPERATIONS: &str = r#"
-// The script of an ISR names objects as a task's does, but takes and gives back no resource.
+// The script of an ISR names objects as a task's script does, but gets and releases no resource.
 fine |work|ActivateTask A|ActivateTask B|ActivateTask ?|TerminateTask|Schedule|WaitEvent 1|SetEvent W 1|jump 0|jump 1
 fine jump 2;work|SuspendAllInterrupts;ResumeAllInterrupts
 BadScript GetResource R|ReleaseResource R|GetResource ?|ReleaseResource ?|work;GetResource R|ReleaseResource R;work
@@ -32,7 +32,7 @@ text {"cores":[{"id":0,"tasks":[{"name":"A","prio":1,"budget":@,"script":""}]}]}
 fine 0|1|1000000000
 Limit -1|1000000001|4294967296|18446744073709551615|-9223372036854775808
 
-// What is no number.
+// Values that are not whole numbers, or do not fit 64 bits.
 text {"cores":[{"id":0,"isrs":[{"name":"I","level":@,"script":""}]}]}
 text {"cores":[{"id":0,"isrs":[{"name":"I","level":1,"budget":@,"script":""}]}]}
 text {"cores":[{"id":0,"tasks":[{"name":"A","prio":1,"budget":@,"script":""}]}]}
@@ -48,13 +48,13 @@ fine []|[{"script":"","budget":1,"name":"I","level":1}]
 text {"cores":[{"id":0}],"isrs":@}
 Shape []
 
-// Its name.
+// The name of an ISR.
 text {"cores":[{"id":0,"isrs":[{"name":"@","level":1,"script":""}]}]}
 Shape |_I|9I|I 1|?|I-1|Ä
 fine I|i9_
 DuplicateName M
 
-// It is no other object's, on its core or on another one.
+// The name must differ from the names of all other objects, on any core.
 text {"cores":[{"id":0,"tasks":[{"name":"A","prio":1,"script":""}],"isrs":[{"name":"@","level":1,"script":""}]}]}
 text {"cores":[{"id":0,"isrs":[{"name":"A","level":1,"script":""},{"name":"@","level":1,"script":""}]}]}
 text {"cores":[{"id":0,"isrs":[{"name":"@","level":1,"script":""}],"resources":[{"name":"A","ceiling":1}]}]}
@@ -71,13 +71,13 @@ Shape |PRO_|PRO_NONE|PRO_SHUTDOWN | PRO_SHUTDOWN|pro_shutdown|PRO_SHUTDOWNS|PRO_
 text {"cores":[{"id":0,"protection":@}]}
 Shape null|true|4|[]|["PRO_SHUTDOWN"]|{}
 
-// A core has at most 16; other cores have 16 of their own.
+// A core has at most 16 ISRs; other cores have 16 of their own.
 text {"cores":[{"id":0,"isrs":[@]},{"id":1,"isrs":[{"name":"I","level":1,"script":""}]}]}
 each [,] {"name":"I@","level":1,"script":""}
 fine 0|1|16
 Limit 17|300
 
-// Its script has at most 256 operations, whatever they are.
+// An ISR's script has at most 256 operations, whichever they are.
 text {"cores":[{"id":0,"isrs":[{"name":"I","level":1,"script":"@"}]}]}
 each [;] work
 fine 256
@@ -89,7 +89,7 @@ each [;] ActivateTask I
 UnknownName 256
 Limit 257
 
-// Of two faults the smaller is told.
+// Of two faults the smaller is reported.
 text @
 Limit {"cores":[{"id":0,"isrs":[{"name":"M","level":17,"script":"GetResource ?"}]}]}
 DuplicateName {"cores":[{"id":0,"isrs":[{"name":"M","level":1,"script":"GetResource Nobody"}]}]}
@@ -97,7 +97,7 @@ Shape {"cores":[{"id":0,"protection":"PRO_NONE","isrs":[{"name":"M","level":17,"
 "#;
 
 const INTERRUPTS: &str = r#"
-// An interrupt is that of one of the core's own ISRs.
+// An interrupt must belong to one of the core's own ISRs.
 text {"1":"op","0":"@"}
 fine irq=I1|irq=I2|op irq=I1 tick irq=I2|irq=I1 irq=I1|irq=I2 op
 BadStimulus irq|irq=|irq=A|irq=W|irq=R|irq=M|irq=J|irq=Nobody|irq=I|irq=I1x|irq=I12|irq=i1|IRQ=I1|Irq=I1|irq= I1
@@ -118,7 +118,7 @@ Limit 100001
 "#;
 
 #[test]
-fn texts_with_isrs(rt: HostRuntime) -> Result<(), Fail> {
+fn texts_with_isrs_have_their_faults_or_none(rt: HostRuntime) -> Result<(), Fail> {
     play_configurations(&rt, rt.alloc(), "@", TEXTS, 158)?;
     play_configurations(&rt, rt.alloc(), TWO_CORES, OPERATIONS, 41)?;
     play(&rt, rt.alloc(), Reader::Interrupts, "@", INTERRUPTS, 46)

@@ -42,7 +42,7 @@ text {"cores":[{"id":0,"resources":[{"name":"R","ceiling":1,"lock":@}]}]}
 fine 0|1000000000
 Limit -1|1000000001
 
-// What is far outside.
+// Numbers far outside their limits.
 text {"version":@,"cores":[{"id":0}]}
 text {"cap":@,"cores":[{"id":0}]}
 text {"master":1,"cores":[{"id":1},{"id":@}]}
@@ -53,7 +53,7 @@ text {"cores":[{"id":0,"tasks":[{"name":"A","prio":1,"activations":@,"script":""
 text {"cores":[{"id":0,"resources":[{"name":"R","ceiling":@}]}]}
 Limit 18446744073709551615|-1|-9223372036854775808|257|4294967297
 
-// A master that is no configured core is unknown, however far from every core's number it is.
+// A master that is not a configured core is unknown, however far its number is from those of the cores.
 text {"master":@,"cores":[{"id":0},{"id":7}]}
 fine 0|7
 UnknownName 1|8|256|263|-1|18446744073709551615|-9223372036854775808
@@ -88,12 +88,12 @@ text {"version":3,"cores":[@]}
 each [,] {"id":@}
 Limit 0|1|9|16|17
 
-// The jobs of all a core's tasks are at most 64 at once.
+// The activation limits of a core's tasks add up to at most 64.
 text {"cores":[{"id":0,"tasks":[{"name":"A","prio":1,"activations":63,"script":""},{"name":"B","prio":1,"activations":@,"script":""}]}]}
 fine 1
 Limit 0|2|-1|65|18446744073709551553
 
-// By default a task has one job at once.
+// By default, the activation limit of a task is 1.
 text {"cores":[{"id":0,"tasks":[{"name":"A","prio":1,"script":""},{"name":"B","prio":1,"activations":@,"script":""}]}]}
 fine 63
 Limit 64
@@ -112,7 +112,7 @@ BadScript {"cores":[{"id":0,"tasks":[{"name":"A","prio":1,"script":"jump 2"}]}]}
 BadScript {"cores":[{"id":0,"tasks":[{"name":"A","prio":1,"script":"work;"}]}]}
 Limit {"cores":[{"id":0,"tasks":[{"name":"A","prio":32,"script":"jump 2"}]}]}
 
-// Of two faults the smaller is told. For each two neighbours: the larger stands first, then the smaller.
+// Of two faults the smaller is reported, whichever comes first in the text. Each two neighbouring faults are tried.
 Shape {"version":3,"cores":[{"id":0}],"x":1}|{"cap":1.0,"cores":[{"id":8}]}
 Limit {"cores":[{"id":0},{"id":0}],"cap":17}|{"cores":[{"id":0},{"id":0}],"version":3}|{"cores":[{"id":8},{"id":8}]}
 Limit {"cores":[{"id":0,"tasks":[{"name":"A","prio":32,"script":""}]},{"id":1,"tasks":[{"name":"A","prio":1,"script":""}]}]}
@@ -128,7 +128,7 @@ each [,] {"name":"T@","prio":1,"activations":1,"script":""}
 fine 0|1|2|32
 Limit 33|300
 
-// The jobs of all a core's tasks are at most 64 at once; other cores have 64 of their own.
+// The activation limits of a core's tasks add up to at most 64; other cores have 64 of their own.
 text {"cores":[{"id":0,"tasks":[@]},{"id":1,"tasks":[{"name":"A","prio":1,"activations":64,"script":""}]}]}
 each [,] {"name":"T@","prio":1,"activations":64,"script":""}
 fine 1
@@ -157,6 +157,6 @@ Limit 256
 "#;
 
 #[test]
-fn texts_at_limits(rt: HostRuntime) -> Result<(), Fail> {
+fn texts_at_limits_have_their_faults_or_none(rt: HostRuntime) -> Result<(), Fail> {
     play_configurations(&rt, rt.alloc(), "@", TEXTS, 194)
 }

@@ -1,4 +1,4 @@
-//! Which cores are separate, and so may be cut.
+//! Which cores are separate, and so may be cut out of a configuration.
 
 use super::{Reader, alarms, counters, events, isrs, play, spinlocks, tables};
 use std::test::Fail;
@@ -8,36 +8,36 @@ const FIRST: &str = r#"
 text @
 NotSeparate {"cap":2,"cores":[{"id":0,"start":[1,9],"tasks":[{"name":"A","prio":2,"script":"ActivateTask B;ActivateTask ?"}]},{"id":1,"start":[2],"tasks":[{"name":"B","prio":1,"script":""}]},{"id":2,"tasks":[{"name":"V","prio":1,"auto":["M"],"script":"work;ActivateTask V;ActivateTask ?;TerminateTask"}]},{"id":3}]}
 
-// Core 0 activates a task of core 1, and the other way round; core 1 is not started.
+// Core 0 activates a task of core 1, or core 1 a task of core 0. Core 1 is not started.
 NotSeparate {"cores":[{"id":0,"tasks":[{"name":"A","prio":1,"script":"ActivateTask B"}]},{"id":1,"tasks":[{"name":"B","prio":1,"script":""}]}]}
 NotSeparate {"cores":[{"id":0,"tasks":[{"name":"A","prio":1,"script":""}]},{"id":1,"tasks":[{"name":"B","prio":1,"script":"ActivateTask A"}]}]}
 
-// A core that starts itself, and one that there is not.
+// A core that starts itself, and a core that is not configured.
 NotSeparate {"cores":[{"id":0,"start":[0]}]}
 NotSeparate {"master":5,"cores":[{"id":5}]}
 
-// The other core's alarm, though that core is never started.
+// The other core's alarm counts, though that core is never started.
 text {"cores":[{"id":0,"tasks":[{"name":"A","prio":1,"script":""}]},{"id":1,"tasks":[{"name":"B","prio":1,"script":""}],"counters":[{"name":"K","max":9}],"alarms":[{"name":"W","counter":"K","action":"ActivateTask @"}]}]}
 fine B
 NotSeparate A
 
-// The other core's ISR, though that core is never started.
+// The other core's ISR counts, though that core is never started.
 text {"cores":[{"id":0,"tasks":[{"name":"A","prio":1,"script":""}]},{"id":1,"tasks":[{"name":"B","prio":1,"script":""}],"isrs":[{"name":"I","level":1,"script":"ActivateTask @"}]}]}
 fine B
 NotSeparate A
 
-// A script that starts cores, also none that there is, or counts them binds its own core; one that shuts all down binds
-// every core. A task's script,
+// A script that starts cores (even cores that are not configured) or counts them binds its own core. A script that
+// shuts all cores down binds every core. First, the script of a task.
 text {"cores":[{"id":0,"tasks":[{"name":"A","prio":1,"script":"@"}]},{"id":1}]}
 fine ShutdownOS 0;ShutdownOS 15
 NotSeparate StartCore 0|StartCore 255|StartCore ?|work;GetNumberOfActivatedCores v7|work;ShutdownAllCores 15
 
-// an ISR's,
+// The script of an ISR.
 text {"cores":[{"id":0,"isrs":[{"name":"I","level":1,"script":"@"}]},{"id":1}]}
 fine ShutdownOS 0
 NotSeparate StartCore ?|GetNumberOfActivatedCores v0|ShutdownAllCores 0
 
-// and those of another core, which is never started.
+// Scripts of another core count, though that core is never started.
 text {"cores":[{"id":0},{"id":1,"tasks":[{"name":"B","prio":1,"script":"@"}]}]}
 fine StartCore 0;StartCore ?;GetNumberOfActivatedCores v0;ShutdownOS 0
 NotSeparate ShutdownAllCores 0
@@ -65,7 +65,7 @@ fine CancelAlarm W
 NotSeparate CancelAlarm Z
 "#;
 
-// A core whose alarm acts on another core's task is bound to it, and so is the other core.
+// An alarm that acts on another core's task binds both cores.
 const ACTIONS: &str = r#"
 fine ActivateTask A|SetEvent E 1
 NotSeparate ActivateTask B|SetEvent B 1
@@ -98,7 +98,7 @@ const THIRD: &str = r#"
 fine {"cap":2,"cores":[{"id":0,"start":[1,9],"tasks":[{"name":"A","prio":2,"script":"ActivateTask B;ActivateTask ?"}]},{"id":1,"start":[2],"tasks":[{"name":"B","prio":1,"script":""}]},{"id":2,"tasks":[{"name":"V","prio":1,"auto":["M"],"script":"work;ActivateTask V;ActivateTask ?;TerminateTask"}]},{"id":3}]}
 "#;
 
-// A core that nobody starts, and one that there is not.
+// A core that nobody starts, and a core that does not exist.
 const FOURTH: &str = r#"
 NotSeparate {"cap":2,"cores":[{"id":0,"start":[1,9],"tasks":[{"name":"A","prio":2,"script":"ActivateTask B;ActivateTask ?"}]},{"id":1,"start":[2],"tasks":[{"name":"B","prio":1,"script":""}]},{"id":2,"tasks":[{"name":"V","prio":1,"auto":["M"],"script":"work;ActivateTask V;ActivateTask ?;TerminateTask"}]},{"id":3}]}
 "#;
@@ -108,7 +108,7 @@ fine {"master":5,"cores":[{"id":5}]}
 "#;
 
 #[test]
-fn separate_and_bound_cores(rt: HostRuntime) -> Result<(), Fail> {
+fn only_a_separate_core_is_cut_out(rt: HostRuntime) -> Result<(), Fail> {
     play(&rt, rt.alloc(), Reader::Alone(0), "@", FIRST, 23)?;
     play(&rt, rt.alloc(), Reader::Alone(1), "@", SECOND, 2)?;
     play(&rt, rt.alloc(), Reader::Alone(2), "@", THIRD, 1)?;
@@ -117,9 +117,9 @@ fn separate_and_bound_cores(rt: HostRuntime) -> Result<(), Fail> {
     play(&rt, rt.alloc(), Reader::Alone(9), "@", FOURTH, 1)
 }
 
-// The other files' texts of two cores are filled in.
+// The frames of these tables are those of the tests of events, counters, alarms, ISRs, spinlocks and schedule tables.
 #[test]
-fn cores_that_name_objects_of_another(rt: HostRuntime) -> Result<(), Fail> {
+fn cores_that_name_objects_of_another_are_not_separate(rt: HostRuntime) -> Result<(), Fail> {
     play(
         &rt,
         rt.alloc(),

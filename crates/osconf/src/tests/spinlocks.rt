@@ -8,7 +8,7 @@ use std::process::Abort;
 use std::test::Fail;
 
 const TEXTS: &str = r#"
-// The spinlocks of a configuration, none by default: of each a name, and the name of its successor, which it may lack.
+// The spinlocks of a configuration, none by default. Each has a name, and may have the name of its successor.
 text {"spinlocks":@,"cores":[{"id":0}]}
 fine []|[{"name":"S"}]|[{"name":"S","next":null}]|[{"name":"S","next":"R"},{"name":"R"}]|[{"next":null,"name":"S"},{"name":"R","next":"S"}]
 fine [{"name":"none"},{"name":"conflict"},{"name":"DONOTCARE"}]|[{"name":"R","next":"T"},{"name":"S","next":"T"},{"name":"T"}]
@@ -18,7 +18,7 @@ Shape [{"name":null}]|[{"name":1}]|[{"name":["S"]}]|[{"name":"S","prio":1}]|[{"n
 text @
 Shape {"cores":[{"id":0,"spinlocks":[]}]}|{"cores":[{"id":0}],"Spinlocks":[]}
 
-// A name has the form of a name.
+// The names of spinlocks and of successors must have the form of a name.
 text {"spinlocks":[{"name":"@"}],"cores":[{"id":0}]}
 text {"spinlocks":[{"name":"T"},{"name":"S","next":"@"}],"cores":[{"id":0}]}
 fine T|\u0054
@@ -34,7 +34,7 @@ each [] n
 UnknownName 1|128
 Shape 129
 
-// There are at most 16.
+// There are at most 16 spinlocks.
 text {"spinlocks":[@],"cores":[{"id":0}]}
 each [,] {"name":"S@"}
 fine 0|1|15|16
@@ -46,7 +46,7 @@ SpinOrder 16
 UnknownName 15
 Limit 17
 
-// No name stands twice.
+// No name is used twice.
 text {"modes":["A","B"],"spinlocks":[{"name":"S"},{"name":"@"}],"cores":[{"id":0,"tasks":[{"name":"T","prio":1,"script":""}]},{"id":1,"isrs":[{"name":"I","level":1,"script":""}],"counters":[{"name":"K","max":9}]}]}
 fine M|s|SS|AB
 DuplicateName S|A|B|T|I|K|\u0053
@@ -58,14 +58,14 @@ Shape 0|1|true|[]|["R"]|{}|{"name":"R"}|""
 UnknownName "X"|"r"|"T"|"Q"|"K"|"M"|"DONOTCARE"|"none"
 SpinOrder "S"
 
-// Successors have no cycle: a chain of all 16, and one that comes back to any of them.
+// Successors form no cycle: a chain of all 16 is accepted, and one that leads back to any of them is not.
 text {"spinlocks":[{"name":"A","next":"B"},{"name":"B","next":"C"},{"name":"C","next":"D"},{"name":"D","next":"E"},{"name":"E","next":"F"},{"name":"F","next":"G"},{"name":"G","next":"H"},{"name":"H","next":"I"},{"name":"I","next":"J"},{"name":"J","next":"K"},{"name":"K","next":"L"},{"name":"L","next":"N"},{"name":"N","next":"O"},{"name":"O","next":"P"},{"name":"P","next":"Q"},{"name":"Q","next":@}],"cores":[{"id":0}]}
 text {"spinlocks":[{"name":"Q","next":@},{"name":"P","next":"Q"},{"name":"O","next":"P"},{"name":"N","next":"O"},{"name":"L","next":"N"},{"name":"K","next":"L"},{"name":"J","next":"K"},{"name":"I","next":"J"},{"name":"H","next":"I"},{"name":"G","next":"H"},{"name":"F","next":"G"},{"name":"E","next":"F"},{"name":"D","next":"E"},{"name":"C","next":"D"},{"name":"B","next":"C"},{"name":"A","next":"B"}],"cores":[{"id":0}]}
 fine null
 SpinOrder "A"|"B"|"H"|"I"|"P"|"Q"
 UnknownName "R"|"M"
 
-// Three in a circle, two beside others, one behind a chain, and chains into a cycle.
+// A cycle of three; one of two beside other spinlocks; one of one at the end of a chain; and chains into a cycle.
 text {"spinlocks":[@],"cores":[{"id":0}]}
 fine {"name":"S","next":"T"},{"name":"R","next":"S"},{"name":"T"},{"name":"Q","next":"S"}
 SpinOrder {"name":"S","next":"R"},{"name":"R","next":"T"},{"name":"T","next":"S"}
@@ -73,7 +73,7 @@ SpinOrder {"name":"S"},{"name":"Q","next":"S"},{"name":"R","next":"T"},{"name":"
 SpinOrder {"name":"S","next":"R"},{"name":"R","next":"T"},{"name":"T","next":"T"}
 SpinOrder {"name":"S","next":"R"},{"name":"Q","next":"R"},{"name":"R","next":"T"},{"name":"T","next":"R"}
 
-// Of two faults the smaller is told.
+// Of two faults the smaller is reported.
 text @
 Shape {"spinlocks":[{"name":"S","next":"S"},{"name":"R","next":1}],"cores":[{"id":0}]}
 Limit {"cap":0,"spinlocks":[{"name":"S","next":"S"}],"cores":[{"id":0}]}|{"spinlocks":[{"name":"S","next":"S"},{"name":"S"}],"cores":[]}
@@ -107,7 +107,7 @@ BadScript TryToGetSpinlock|TryToGetSpinlock S|TryToGetSpinlock v0|TryToGetSpinlo
 BadScript TryToGetSpinlock ? ?|TryToGetSpinlock v0 S|TryToGetSpinlock S v0 v1|TryToGetSpinlock X v8|TryToGetSpinlock S v00
 BadScript ReleaseSpinlock|ReleaseSpinlock ? ?|ReleaseSpinlock S R|ReleaseSpinlock S v0|ReleaseSpinlock -1|ReleaseSpinlock X Y
 
-// A spinlock is named, and nothing else.
+// An operation on a spinlock names a spinlock, and nothing else.
 text GetSpinlock @
 text ReleaseSpinlock @
 text TryToGetSpinlock @ v0
@@ -116,7 +116,7 @@ fine S|R|?
 UnknownName X|s|v0|A|B|I|Q|K|W|P|M|DONOTCARE
 BadScript |1|_S|S,R|S-R
 
-// And not in another object's place.
+// A spinlock may not be named in place of another object.
 text ActivateTask @
 text SetEvent @ 1
 text GetResource @
@@ -125,7 +125,7 @@ text CancelAlarm @
 text StopScheduleTable @
 UnknownName S|R
 
-// The smallest fault is told.
+// The smallest fault is reported.
 text @
 UnknownName GetSpinlock X;walk|TryToGetSpinlock X v0;SetEvent A 0
 BadMask GetSpinlock ?;SetEvent A 0;TryToGetSpinlock S v8
@@ -140,15 +140,17 @@ BadScript GetSpinlock S|GetSpinlock ?|GetSpinlock X|TryToGetSpinlock S v0|Releas
 UnknownName ActivateTask S|SetEvent S 1
 "#;
 
-// S, then Q, then R; T comes before R alone, and there are four.
+// S comes before Q, and Q before R. T comes before R alone. No other spinlocks exist.
 #[test]
-fn spinlocks_in_their_order(rt: HostRuntime) -> Result<(), Fail> {
+fn spinlocks_may_be_got_in_their_order_alone(rt: HostRuntime) -> Result<(), Fail> {
     let text =
         r#"{"spinlocks":[{"name":"S","next":"Q"},{"name":"R"},{"name":"Q","next":"R"},{"name":"T","next":"R"}],"cores":[{"id":0}]}"#;
     let config = configured(rt.alloc(), "@", text)?;
     judge_order(&rt, rt.alloc(), &config)
 }
 
+// Checks, for each spinlock that was got last, which spinlocks may be got next. The expected text has a word for each
+// spinlock that was got last, and in it a digit for each spinlock: 1 if it may be got next.
 fn judge_order(rt: &impl Abort, alloc: Global, config: &Config) -> Result<(), Fail> {
     let mut after = String::new(alloc);
     push_order(config, &mut after)?;
@@ -159,7 +161,7 @@ fn judge_order(rt: &impl Abort, alloc: Global, config: &Config) -> Result<(), Fa
     Ok(())
 }
 
-// For each newest spinlock which ones may be asked for.
+// Appends, for each spinlock, which spinlocks may be got next if it was got last.
 fn push_order(config: &Config, after: &mut String) -> Result<(), Fail> {
     for index in 0u8..6 {
         push_after(config, SpinlockId { index }, after)?;
@@ -168,7 +170,7 @@ fn push_order(config: &Config, after: &mut String) -> Result<(), Fail> {
     Ok(())
 }
 
-// For each spinlock 1 if it may be asked for after the newest, and 0 if it may not.
+// Appends, for each spinlock, 1 if it may be got after `newest`, and 0 if it may not.
 fn push_after(config: &Config, newest: SpinlockId, after: &mut String) -> Result<(), Fail> {
     for index in 0u8..6 {
         let comes = order_ok(config, newest, SpinlockId { index });
@@ -178,7 +180,7 @@ fn push_after(config: &Config, newest: SpinlockId, after: &mut String) -> Result
 }
 
 #[test]
-fn texts_with_spinlocks(rt: HostRuntime) -> Result<(), Fail> {
+fn texts_with_spinlocks_have_their_faults_or_none(rt: HostRuntime) -> Result<(), Fail> {
     play_configurations(&rt, rt.alloc(), "@", TEXTS, 140)?;
     play_configurations(&rt, rt.alloc(), TWO_CORES, OPERATIONS, 131)?;
     play_configurations(&rt, rt.alloc(), "@", ACTIONS, 16)

@@ -87,19 +87,19 @@ UnknownName 8
 Limit 9|300
 "#;
 
-// A core whose alarms are to be filled in, and then its tables, and a core with a task.
+// A core whose alarms and then tables are to be filled in, and a core with a task.
 const POSTING: &str =
     r#"{"cores":[{"id":0,"tasks":[{"name":"A","prio":1,"script":""}],"counters":[{"name":"K","max":9}],"alarms":[@],"tables":[@]},{"id":1,"tasks":[{"name":"B","prio":1,"script":""}]}]}"#;
 
 const ALARM: &str = r#"{"name":"W@","counter":"K","action":"ActivateTask B"}"#;
 
-// A table that posts four envelopes at one point and one at the other.
+// A table that posts four letters at one point and one at the other.
 const FOUR_AND_ONE: &str =
     r#"{"name":"T@","counter":"K","duration":9,"points":[{"offset":0,"actions":["ActivateTask A","ActivateTask B","SetEvent B 1","SetEvent B 2","SetEvent B 4"]},{"offset":3,"actions":["ActivateTask B"]}]}"#;
 
-// The alarms of a core, and of each of its tables the point that posts most, post at most 56 envelopes at once.
+// A core's alarms and the busiest point of each of its tables may together post at most 56 envelopes at once.
 #[test]
-fn how_many_envelopes_at_once(rt: HostRuntime) -> Result<(), Fail> {
+fn a_core_may_post_at_most_56_envelopes_at_once(rt: HostRuntime) -> Result<(), Fail> {
     for (count, fault) in [(24, None), (25, Some(ConfFault::Limit))] {
         let refused = fault_of_alarms(rt.alloc(), count)?;
         assert_eq!(rt; refused, fault, "{count}");
@@ -107,24 +107,26 @@ fn how_many_envelopes_at_once(rt: HostRuntime) -> Result<(), Fail> {
     Ok(())
 }
 
-// The fault of so many alarms beside eight tables.
+// The fault of `count` alarms beside eight tables, or none.
 fn fault_of_alarms(alloc: Global, count: u32) -> Result<Option<ConfFault>, Fail> {
     let text = with_alarms(alloc, count)?;
     fault_with_tables(alloc, text.as_str())
 }
 
+// The text of `POSTING` with `count` alarms. It has an `@` in place of the tables.
 fn with_alarms(alloc: Global, count: u32) -> Result<String, Fail> {
     let alarms = listed(alloc, ALARM, ",", count)?;
     filled(alloc, POSTING, alarms.as_str())
 }
 
+// The fault of the text with eight tables in place of its `@`, or none.
 fn fault_with_tables(alloc: Global, text: &str) -> Result<Option<ConfFault>, Fail> {
     let tables = listed(alloc, FOUR_AND_ONE, ",", 8)?;
     fault_with(alloc, Reader::Configuration, text, tables.as_str())
 }
 
 #[test]
-fn texts_with_tables(rt: HostRuntime) -> Result<(), Fail> {
+fn texts_with_tables_have_their_faults_or_none(rt: HostRuntime) -> Result<(), Fail> {
     play_configurations(&rt, rt.alloc(), "@", TEXTS, 6)?;
     play_configurations(&rt, rt.alloc(), TABLE, TABLES, 14)?;
     play_configurations(&rt, rt.alloc(), TIMES, TABLE_TIMES, 25)?;

@@ -14,8 +14,8 @@ use osclock::AlarmList;
 use osplan::{Alarm, Counter, own};
 
 impl<'a, const P: usize, const J: usize, const OUT: usize> CoreState<'a, P, J, OUT> {
-    /// One of the core's counters is incremented, and with it each of its alarms and schedule tables moves on (OSEK/VDX OS 2.2.3,
-    /// section 9.1 and 9.2; AUTOSAR SWS OS 4.x, section 7.3).
+    /// One of the core's counters is incremented, and its alarms and schedule tables advance by one count (OSEK/VDX OS
+    /// 2.2.3, section 9.1 and 9.2; AUTOSAR SWS OS 4.x, section 7.3).
     pub fn count(&mut self, counter: CounterRef)
         requires own { IsTrue (is_own_object self.old.view.own (counter_object counter)) }
         requires count { self.old.progress.entries < 2 ^ 63 }
@@ -26,8 +26,9 @@ impl<'a, const P: usize, const J: usize, const OUT: usize> CoreState<'a, P, J, O
         self.progress.entries += 1;
     }
 
-    /// One of the core's alarms is due after so many counts of its counter, at most a full turn, and again after each
-    /// cycle (OSEK/VDX OS 2.2.3, section 13.6.3.3 and 13.6.3.4).
+    /// One of the core's alarms is set to expire after `first` counts of its counter, at least 1 and at most a full
+    /// turn. It expires again after each cycle, unless the cycle is 0 (OSEK/VDX OS 2.2.3, section 13.6.3.3 and
+    /// 13.6.3.4).
     pub fn set_alarm(&mut self, alarm: AlarmRef, first: u32, cycle: u32)
         requires own { IsTrue (is_own_object self.old.view.own (alarm_object alarm)) }
         requires later { 0 < first }
@@ -50,7 +51,7 @@ impl<'a, const P: usize, const J: usize, const OUT: usize> CoreState<'a, P, J, O
         self.progress.entries += 1;
     }
 
-    /// A counter of the core that a script names; none for the invalid identifier, and for one of another core.
+    /// The core's own counter that a script names; `None` for the invalid identifier and for a counter of another core.
     pub fn counter(&self, target: Option<CounterRef>) -> Option<&'a Counter>
         ensures value { option_copied result ≡ counter_named self.now.view.own target }
         ensures within { IsTrue (are_clocks_within self.now.view.own) }
@@ -59,7 +60,7 @@ impl<'a, const P: usize, const J: usize, const OUT: usize> CoreState<'a, P, J, O
         own::counter_of(core, target?)
     }
 
-    /// An alarm of the core that a script names; none for the invalid identifier, and for one of another core.
+    /// The core's own alarm that a script names; `None` for the invalid identifier and for an alarm of another core.
     pub fn alarm(&self, target: Option<AlarmRef>) -> Option<&'a Alarm>
         ensures { option_copied result ≡ alarm_named self.now.view.own target }
     {
@@ -103,8 +104,8 @@ impl<'a, const P: usize, const J: usize, const OUT: usize> CoreState<'a, P, J, O
         self.clocks.is_in_use(alarm)
     }
 
-    /// How many counts are left until one of the core's alarms is due; none for one that is not in use
-    /// (OSEK/VDX OS 2.2.3, section 13.6.3.2).
+    /// How many counts are left until one of the core's alarms expires; none for an alarm that is not in use (OSEK/VDX
+    /// OS 2.2.3, section 13.6.3.2).
     pub fn counts_left(&self, alarm: AlarmRef) -> Option<u32>
         requires own { IsTrue (is_own_object self.now.view.own (alarm_object alarm)) }
         ensures { result ≡ left_in self.now.view.own alarm self.now.clocks }
@@ -112,8 +113,8 @@ impl<'a, const P: usize, const J: usize, const OUT: usize> CoreState<'a, P, J, O
         self.clocks.left(self.core, alarm)
     }
 
-    /// After how many counts the counter of one of the core's alarms has this value; the value that it has is a full turn
-    /// away (OSEK/VDX OS 2.2.3, section 13.6.3.4).
+    /// After how many counts the counter of one of the core's alarms has the value `start`. If the counter has it now,
+    /// a full turn (OSEK/VDX OS 2.2.3, section 13.6.3.4).
     pub fn counts_to(&self, alarm: AlarmRef, start: u32) -> u32
         requires own { IsTrue (is_own_object self.now.view.own (alarm_object alarm)) }
         requires turn { start ≤ max_for self.now.view.own alarm }
@@ -124,7 +125,7 @@ impl<'a, const P: usize, const J: usize, const OUT: usize> CoreState<'a, P, J, O
         self.clocks.counts_to(self.core, alarm, start)
     }
 
-    /// What one of the core's alarms does when it is due (AUTOSAR SWS OS 4.x, OsAlarmAction).
+    /// What one of the core's alarms does when it expires (AUTOSAR SWS OS 4.x, OsAlarmAction).
     pub fn alarm_action(&self, alarm: AlarmRef) -> RemoteCall
         requires own { IsTrue (is_own_object self.now.view.own (alarm_object alarm)) }
         ensures value { option_map (λ (x : AlarmValue). x.action) (own_alarm self.now.view.own alarm) ≡ Some result }
@@ -136,7 +137,7 @@ impl<'a, const P: usize, const J: usize, const OUT: usize> CoreState<'a, P, J, O
         }
     }
 
-    /// The alarms of one of the core's counters that are due at its next count, in index order (OSEK/VDX OS 2.2.3,
+    /// The alarms of one of the core's counters that expire at its next count, in index order (OSEK/VDX OS 2.2.3,
     /// section 9.2).
     pub fn due_next(&self, counter: CounterRef) -> AlarmList
         requires own { IsTrue (is_own_object self.now.view.own (counter_object counter)) }

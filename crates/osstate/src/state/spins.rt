@@ -19,8 +19,8 @@ impl<'a, const P: usize, const J: usize, const OUT: usize> CoreState<'a, P, J, O
         usize::from(lock.index) < self.config.plan().spinlocks.len()
     }
 
-    /// Whether one spinlock comes after another, so that a job may ask for it whose newest is that other (AUTOSAR SWS OS 4.x,
-    /// SWS_Os_00661).
+    /// Whether `lock` comes after `newest` in the configured order, so that a job whose newest spinlock is `newest` may
+    /// ask for `lock` (AUTOSAR SWS OS 4.x, SWS_Os_00661).
     pub fn comes_after(&self, newest: SpinlockId, lock: SpinlockId) -> bool
         ensures { result ≡ comes_after self.now.view.around.links (length self.now.view.around.links) newest lock }
     {
@@ -41,14 +41,15 @@ impl<'a, const P: usize, const J: usize, const OUT: usize> CoreState<'a, P, J, O
         self.border.spins.is_held(runner, lock)
     }
 
-    /// The newest spinlock that the job of one of the core's tasks or ISRs has (AUTOSAR SWS OS 4.x, ReleaseSpinlock).
+    /// The newest spinlock that the job of one of the core's tasks or ISRs has, if any (AUTOSAR SWS OS 4.x,
+    /// ReleaseSpinlock).
     pub fn newest_spinlock(&self, runner: Runner) -> Option<SpinlockId>
         ensures { result ≡ newest_of runner self.now.border.spins }
     {
         self.border.spins.newest_of(runner)
     }
 
-    /// The spinlock whose release is owed first.
+    /// The newest of the spinlocks whose release is owed, which is given back next; none if no release is owed.
     pub fn owed_spinlock(&self) -> Option<SpinlockId>
         ensures value { result ≡ newest_owed self.now.border.spins }
         ensures lock { IfSome result (λ lock. IsTrue (is_lock_known lock)) }

@@ -16,8 +16,8 @@ use osplan::{Table, own};
 use ostable::{DueTables, TableStatus};
 
 impl<'a, const P: usize, const J: usize, const OUT: usize> CoreState<'a, P, J, OUT> {
-    /// One of the core's tables runs, and its first period begins after so many counts, at most a full turn of its counter
-    /// (AUTOSAR SWS OS 4.x, SWS_Os_00278 and SWS_Os_00351).
+    /// One of the core's tables is started: its first period begins after `wait` counts, at most a full turn of its
+    /// counter (AUTOSAR SWS OS 4.x, SWS_Os_00278 and SWS_Os_00351).
     pub fn start_table(&mut self, table: TableRef, wait: u32)
         requires own { IsTrue (is_own_object self.old.view.own (table_object table)) }
         requires turn { wait ≤ 1000000001 }
@@ -38,8 +38,8 @@ impl<'a, const P: usize, const J: usize, const OUT: usize> CoreState<'a, P, J, O
         self.progress.entries += 1;
     }
 
-    /// The second of two of the core's tables of one counter waits for the end of a period of the first (AUTOSAR SWS OS 4.x,
-    /// SWS_Os_00284).
+    /// Of two of the core's tables with the same counter, `next` waits for the end of a period of `table` (AUTOSAR SWS
+    /// OS 4.x, SWS_Os_00284).
     pub fn set_next_table(&mut self, table: TableRef, next: TableRef)
         requires own { IsTrue (is_own_object self.old.view.own (table_object next)) }
         requires counter { IsTrue (are_of_one_counter self.old.view.own table next) }
@@ -50,7 +50,7 @@ impl<'a, const P: usize, const J: usize, const OUT: usize> CoreState<'a, P, J, O
         self.progress.entries += 1;
     }
 
-    /// A schedule table of the core that a script names; none for the invalid identifier, and for one of another core.
+    /// The core's own schedule table that a script names; `None` for the invalid identifier, and for another core's.
     pub fn table(&self, target: Option<TableRef>) -> Option<&'a Table>
         ensures value { option_copied result ≡ table_named self.now.view.own target }
         ensures within { IsTrue (are_clocks_within self.now.view.own) }
@@ -78,7 +78,7 @@ impl<'a, const P: usize, const J: usize, const OUT: usize> CoreState<'a, P, J, O
         self.tables.status(table)
     }
 
-    /// The table of the core that waits for the end of a period of this one (AUTOSAR SWS OS 4.x, SWS_Os_00284).
+    /// The table of the core that waits for the end of a period of this one, if any (AUTOSAR SWS OS 4.x, SWS_Os_00284).
     pub fn next_table(&self, table: TableRef) -> Option<TableRef>
         ensures value { result ≡ next_in self.now.view.own table self.now.tables }
         ensures own { IfSome result (λ next. IsTrue (is_own_object self.now.view.own (table_object next))) }
@@ -86,7 +86,8 @@ impl<'a, const P: usize, const J: usize, const OUT: usize> CoreState<'a, P, J, O
         self.tables.next(self.core, table)
     }
 
-    /// What the tables of one of the core's counters do at its next count, in index order (AUTOSAR SWS OS 4.x, section 7.3.3).
+    /// What the tables of one of the core's counters do at its next count, in index order (AUTOSAR SWS OS 4.x, section
+    /// 7.3.3).
     pub fn due_tables(&self, counter: CounterRef) -> DueTables
         requires own { IsTrue (is_own_object self.now.view.own (counter_object counter)) }
         ensures value { result.items ≡ due_tables_in self.now.view.own counter self.now.tables }
@@ -98,8 +99,8 @@ impl<'a, const P: usize, const J: usize, const OUT: usize> CoreState<'a, P, J, O
         self.tables.due_next(self.core, counter)
     }
 
-    /// After how many counts one of the core's counters has this value; the value that it has is a full turn away (AUTOSAR
-    /// SWS OS 4.x, SWS_Os_00351).
+    /// After how many counts one of the core's counters has the value `start`. If the counter has it now, a full turn
+    /// (AUTOSAR SWS OS 4.x, SWS_Os_00351).
     pub fn counts_to_value(&self, counter: CounterRef, start: u32) -> u32
         requires own { IsTrue (is_own_object self.now.view.own (counter_object counter)) }
         requires turn { start ≤ max_of self.now.view.own counter }

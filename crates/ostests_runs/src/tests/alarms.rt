@@ -28,7 +28,7 @@ end A
 core 1
 ended
 
-// An alarm that is to be due at the value that its counter has is due a full turn later.
+// If an alarm is set to the present value of its counter, it expires a full turn later.
 config {"cores":[{"id":0,"tasks":[{"name":"A","prio":1,"auto":["M"],"script":"SetAbsAlarm L 0 0;SetRelAlarm K 0 0;TerminateTask"},{"name":"B","prio":2,"script":"TerminateTask"}],"counters":[{"name":"C","max":3}],"alarms":[{"name":"L","counter":"C","action":"ActivateTask B"},{"name":"K","counter":"C","action":"ActivateTask B"}]}]}
 stimuli {"0":"op op op tick tick tick tick op"}
 run
@@ -69,7 +69,7 @@ post B
 end B
 ended
 
-// An alarm of another core is set, asked for and cancelled.
+// An alarm of another core is set, read and cancelled.
 config {"cores":[{"id":0,"start":[1],"tasks":[{"name":"A","prio":1,"auto":["M"],"script":"SetRelAlarm L 5 0;GetAlarm L v0;CancelAlarm L;TerminateTask"}]},{"id":1,"tasks":[{"name":"B","prio":1,"script":"TerminateTask"}],"counters":[{"name":"C","max":9}],"alarms":[{"name":"L","counter":"C","action":"ActivateTask B"}]}]}
 stimuli {"0":"op op op op"}
 run
@@ -88,7 +88,7 @@ in 0 GetAlarm L v0 E_OK 5
 in 0 CancelAlarm L E_OK
 ended
 
-// Each check of the services of alarms, and that an alarm that was set is in use until it is cancelled.
+// Each check of the services of alarms. An alarm that is set stays in use until it is cancelled.
 config {"cores":[{"id":0,"counters":[{"name":"C","max":5,"min":2}],"alarms":[{"name":"L","counter":"C","action":"ActivateTask A"}],"tasks":[{"name":"A","prio":1,"auto":["M"],"script":"SetRelAlarm ? 1 0;SetAbsAlarm F 1 0;CancelAlarm L;GetAlarm L v0;SetRelAlarm L 0 0;SetRelAlarm L 6 0;SetRelAlarm L 1 1;SetRelAlarm L 1 6;SetAbsAlarm L 6 0;SetAbsAlarm L 0 1;SetRelAlarm L 5 5;SetAbsAlarm L 0 0;SetRelAlarm L 0 0;GetAlarm L v0;CancelAlarm L;CancelAlarm L;SetAbsAlarm ? 0 0;GetAlarm ? v0;CancelAlarm ?;TerminateTask"}]},{"id":1,"counters":[{"name":"D","max":5}],"alarms":[{"name":"F","counter":"D","action":"ActivateTask A"}]}]}
 stimuli {"0":"op op op op op op op op op op op op op op op op op op op op"}
 run
@@ -127,7 +127,7 @@ end A
 core 1
 ended
 
-// What alarms do on their own core: it is refused, or releases a job that waits; and a counter that a task advances.
+// Alarm actions on their own core: some are refused, and one releases a waiting job. A task also advances a counter.
 config {"cores":[{"id":0,"counters":[{"name":"C","max":9},{"name":"S","max":9,"software":true}],"alarms":[{"name":"L1","counter":"C","action":"ActivateTask A","auto":{"modes":["M"],"start":1,"cycle":0}},{"name":"L2","counter":"C","action":"SetEvent W 4","auto":{"modes":["M"],"start":1,"cycle":0}},{"name":"L3","counter":"C","action":"SetEvent A 1","auto":{"modes":["M"],"start":1,"cycle":0}},{"name":"L4","counter":"S","action":"ActivateTask B","auto":{"modes":["M"],"start":1,"cycle":0}},{"name":"L5","counter":"C","action":"SetEvent V 1","auto":{"modes":["M"],"start":1,"cycle":0}}],"tasks":[{"name":"A","prio":1,"auto":["M"],"script":"IncrementCounter S;TerminateTask"},{"name":"W","prio":2,"extended":true,"auto":["M"],"script":"WaitEvent 4;ClearEvent 4;TerminateTask"},{"name":"B","prio":3,"script":"TerminateTask"},{"name":"V","prio":4,"extended":true,"script":"TerminateTask"}]}]}
 stimuli {"0":"op tick op op op op op"}
 run
@@ -160,7 +160,7 @@ pre B .. end B
 pre A .. end A
 ended
 
-// What an alarm does on another core is refused there; on a core that was never started it is refused here.
+// If an alarm's action on another core is refused, that happens there; if that core was never started, it happens here.
 config {"cores":[{"id":0,"start":[1],"counters":[{"name":"C","max":3}],"alarms":[{"name":"L1","counter":"C","action":"ActivateTask T","auto":{"modes":["M"],"start":1,"cycle":1}},{"name":"L2","counter":"C","action":"ActivateTask N","auto":{"modes":["M"],"start":1,"cycle":0}},{"name":"L3","counter":"C","action":"SetEvent W 2","auto":{"modes":["M"],"start":2,"cycle":0}}]},{"id":1,"tasks":[{"name":"T","prio":1,"script":"TerminateTask"},{"name":"W","prio":2,"extended":true,"auto":["M"],"script":"WaitEvent 2;TerminateTask"}]},{"id":2,"tasks":[{"name":"N","prio":1,"script":"TerminateTask"}]}]}
 stimuli {"0":"tick tick","1":"op"}
 run
@@ -193,6 +193,6 @@ ended
 "#;
 
 #[test]
-fn counters_and_alarms_come_to_their_texts(rt: HostRuntime) -> Result<(), Difference> {
+fn counters_and_alarms_print_their_texts(rt: HostRuntime) -> Result<(), Difference> {
     play_table(&rt, rt.alloc(), RUNS, 7)
 }

@@ -1,10 +1,10 @@
-//! Runs with cores that version 2 of the configuration alone has.
+//! Runs with cores that only version 2 of the configuration may have.
 
 use osplay::sixteen::RING;
 use osplay::{Difference, play_table};
 
 const RUNS: &str = r#"
-// A core of a number above 7, by another version than 2.
+// A core with a number above 7, in a version other than 2.
 config {@"cores":[{"id":0,"start":[9],"tasks":[{"name":"A","prio":1,"auto":["M"],"script":"ActivateTask B;TerminateTask"}]},{"id":9,"tasks":[{"name":"B","prio":1,"script":"TerminateTask"}]}]}
 stimuli {"0":"op op"}
 with |"version":1,|"version":3,
@@ -52,7 +52,7 @@ turns "0o 15l 15o 0o 0l 15l 0o 15o 0l 15l 0o 0o 15s0 15o 0s15 15l 0o 15o 0o 15o 
 run
 as run
 
-// A core alone is of the same version.
+// The configuration of a core alone has the same version.
 config {"version":2,"cores":[{"id":0,"start":[12]},{"id":12,"tasks":[{"name":"V","prio":1,"auto":["M"],"script":"add v0 3;TerminateTask"}]}]}
 check
 ok
@@ -73,7 +73,7 @@ ended
 "#;
 
 #[test]
-fn cores_of_version_2_come_to_their_texts(rt: HostRuntime) -> Result<(), Difference> {
+fn cores_of_version_2_print_their_texts(rt: HostRuntime) -> Result<(), Difference> {
     play_table(&rt, rt.alloc(), RUNS, 12)?;
     play_table(&rt, rt.alloc(), RING, 1)
 }

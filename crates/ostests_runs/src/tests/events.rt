@@ -3,7 +3,7 @@
 use osplay::{Difference, play_table};
 
 const RUNS: &str = r#"
-// A job that is released comes behind those of its priority.
+// A job that is released is placed after the other jobs of its priority.
 config {"cores":[{"id":0,"tasks":[{"name":"W","prio":2,"extended":true,"auto":["M"],"script":"WaitEvent 1;TerminateTask"},{"name":"F","prio":2,"script":"TerminateTask"},{"name":"D","prio":1,"preemptable":false,"auto":["M"],"script":"ActivateTask F;SetEvent W 1;TerminateTask"}]}]}
 stimuli {"0":"op op op op op op"}
 run
@@ -86,7 +86,7 @@ in 0 SetEvent W 4 E_OK
 pre W .. end W
 ended
 
-// Events of another core's tasks, one of which has none and one of which is suspended.
+// Events for tasks of another core: one task has no events, and one is suspended.
 config {"cores":[{"id":0,"start":[1],"tasks":[{"name":"A","prio":1,"auto":["M"],"script":"SetEvent B 1;SetEvent E 1;TerminateTask"}]},{"id":1,"tasks":[{"name":"B","prio":1,"script":"TerminateTask"},{"name":"E","prio":1,"extended":true,"script":"TerminateTask"}]}]}
 stimuli {"0":"op op op"}
 run
@@ -164,6 +164,6 @@ ended
 "#;
 
 #[test]
-fn events_and_chains_come_to_their_texts(rt: HostRuntime) -> Result<(), Difference> {
+fn events_and_chains_print_their_texts(rt: HostRuntime) -> Result<(), Difference> {
     play_table(&rt, rt.alloc(), RUNS, 7)
 }

@@ -16,7 +16,7 @@ use std::sync::Wait;
 use std::test::Fail;
 use std::thread::Threads;
 
-// The job over these files has this fault.
+// Checks that the job over these files prints nothing and reports this fault's line.
 fn compare_fault(
     rt: &(impl Threads + Wait + Sync),
     alloc: Global,
@@ -29,7 +29,7 @@ fn compare_fault(
     same(alloc, fault, result.as_str(), due.as_str())
 }
 
-// The job over three files, of which this one is another, has this fault.
+// Checks that the job over three files, with this file in the place `at`, prints nothing and reports this fault's line.
 fn compare_with(
     rt: &(impl Threads + Wait + Sync),
     alloc: Global,
@@ -46,7 +46,7 @@ fn compare_with(
     compare_fault(rt, alloc, job, files.as_slice(), fault)
 }
 
-// Of each file of a job the fault where it is no text. Where it cannot be read, the fault is one for all.
+// If a file of a job is no text, the fault depends on the file. If it cannot be read, the fault is the same for all.
 #[test]
 fn files_that_are_no_text_or_unreadable_are_faults(rt: HostRuntime) -> Result<(), Fail> {
     let alloc = rt.alloc();

@@ -1,4 +1,4 @@
-//! Hostile texts, and the line that is told of each fault.
+//! Hostile texts, and the line that reports each fault.
 
 use osconf::ConfFault;
 use osjob::{Fault, report_ending};
@@ -15,17 +15,17 @@ fault 1 NotJson
 
 config @
 
-// A beginning of a configuration.
+// Prefixes of a configuration.
 with {"cores":[|{"cores":[{"id":0,"start":[1],"tasks":[{"name":"A|{"cores":[{"id":0}]
 check
 fault 1 NotJson
 
-// A member that there is not.
+// An unknown member.
 with {"cores":[{"id":0}],"x":1}
 check
 fault 2 Shape
 
-// No core, and one beyond the last.
+// A configuration without cores, and a core number beyond the last.
 with {"cores":[]}|{"cores":[{"id":8}]}
 check
 fault 3 Limit
@@ -35,7 +35,7 @@ with {"cores":[{"id":0},{"id":0}]}
 check
 fault 4 DuplicateName
 
-// A master that is no core.
+// A master that is not a configured core.
 with {"master":1,"cores":[{"id":0}]}
 check
 fault 5 UnknownName
@@ -55,7 +55,7 @@ with {"cores":[{"id":0,"tasks":[{"name":"W","prio":1,"extended":true,"script":"S
 check
 fault 8 BadMask
 
-// A table that repeats, and whose last point stands where the next period begins.
+// A repeating table whose last point comes where the next period begins.
 with {"cores":[{"id":0,"tasks":[{"name":"A","prio":1,"script":""}],"counters":[{"name":"C","max":9}],"tables":[{"name":"S","counter":"C","duration":3,"repeating":true,"points":[{"offset":3,"actions":["ActivateTask A"]}]}]}]}
 check
 fault 9 BadTable
@@ -65,7 +65,7 @@ with {"cores":[{"id":0,"tasks":[{"name":"A","prio":1,"script":"jump 2"}]}]}
 check
 fault 10 BadScript
 
-// Texts beside a configuration that is right.
+// Faults of the other files, beside a configuration without faults.
 config {"cores":[{"id":0,"start":[1],"tasks":[{"name":"A","prio":1,"auto":["M"],"script":"ActivateTask B;TerminateTask"}]},{"id":1,"tasks":[{"name":"B","prio":1,"script":"TerminateTask"}]}]}
 check
 ok
@@ -100,11 +100,11 @@ fault 15 ItemRefused 1
 "#;
 
 #[test]
-fn hostile_texts_come_to_their_faults(rt: HostRuntime) -> Result<(), Difference> {
+fn hostile_texts_have_their_faults(rt: HostRuntime) -> Result<(), Difference> {
     play_table(&rt, rt.alloc(), TEXTS, 19)
 }
 
-// Each fault, also those to which no text leads, and its line.
+// Each fault, also those that no text has, and its line.
 const FAULTS: [(Fault, &str); 22] = [
     (Fault::Text(ConfFault::NotJson), "fault 1 NotJson\n"),
     (Fault::Text(ConfFault::Shape), "fault 2 Shape\n"),
@@ -154,9 +154,9 @@ fn each_fault_has_its_line(rt: HostRuntime) {
     }
 }
 
-// Before a run want of memory is one fault, and in a run another.
+// Memory that runs out before a run is one fault; memory that runs out in a run is another.
 #[test]
-fn want_of_memory_and_a_refused_write_have_their_faults(rt: HostRuntime) {
+fn out_of_memory_and_a_refused_write_have_their_faults(rt: HostRuntime) {
     assert_eq!(rt; Fault::from(AllocError).number(), 11);
     assert_eq!(rt; Fault::from(RunFault::NotBegun).number(), 16);
     assert_eq!(rt; Fault::from(WriteFailed).number(), 19);

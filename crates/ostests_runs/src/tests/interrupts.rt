@@ -3,8 +3,8 @@
 use osplay::{Difference, play_table};
 
 const RUNS: &str = r#"
-// A job that waits has its whole budget again; one that has used it up ends without PostTaskHook and gives its
-// resource back.
+// A job that waits has its whole budget again afterwards. A job that has used up its budget ends without PostTaskHook,
+// and gives its resource back.
 config {"cores":[{"id":0,"resources":[{"name":"R","ceiling":2}],"protection":"PRO_TERMINATETASKISR","tasks":[{"name":"W","prio":2,"extended":true,"auto":["M"],"budget":2,"script":"WaitEvent 1;GetResource R;TerminateTask"},{"name":"D","prio":1,"auto":["M"],"script":"SetEvent W 1;TerminateTask"}]}]}
 stimuli {"0":"tick op op op tick tick op"}
 run
@@ -28,7 +28,7 @@ end W
 pre D .. end D
 ended
 
-// The same, where the core shuts down.
+// The run above, but the core shuts down.
 config {"cores":[{"id":0,"resources":[{"name":"R","ceiling":2}],"protection":"PRO_IGNORE","tasks":[{"name":"W","prio":2,"extended":true,"auto":["M"],"budget":2,"script":"WaitEvent 1;GetResource R;TerminateTask"},{"name":"D","prio":1,"auto":["M"],"script":"SetEvent W 1;TerminateTask"}]}]}
 stimuli {"0":"tick op op op tick tick op"}
 run
@@ -67,7 +67,7 @@ post A
 end A
 ended
 
-// ISRs nest by their levels, and never interrupt an equal; the task under them stays in the running state.
+// ISRs nest by their levels, and never interrupt an equal level. The task under them stays in the running state.
 config {"cores":[{"id":0,"tasks":[{"name":"A","prio":1,"auto":["M"],"script":"work;TerminateTask"}],"isrs":[{"name":"I1","level":1,"script":"work;add v0 1"},{"name":"I2","level":2,"script":"work"},{"name":"J2","level":2,"script":"work"}]}]}
 stimuli {"0":"irq=I1 op irq=I2 irq=J2 op op op op op op op op"}
 run
@@ -86,8 +86,8 @@ post A
 end A
 ended
 
-// What only tasks may call; a task that an ISR activates runs once no ISR does; a job is pending beside one that was
-// entered.
+// Services that only tasks may call. A task that an ISR activates runs once no ISR runs. While the ISR runs, one more
+// interrupt is pending, and a further one is lost.
 config {"cores":[{"id":0,"tasks":[{"name":"A","prio":1,"auto":["M"],"script":"TerminateTask"},{"name":"E","prio":3,"extended":true,"script":"WaitEvent 1;TerminateTask"}],"isrs":[{"name":"I","level":1,"script":"TerminateTask;ChainTask A;Schedule;ClearEvent 1;WaitEvent 1;ActivateTask E"}]}]}
 stimuli {"0":"irq=I op irq=I irq=I op op op op op op op op op op op op op op op op"}
 run
@@ -128,8 +128,8 @@ pre E .. wait E 1
 pre A .. end A
 ended
 
-// A task at its script's end with interrupts suspended: only E_OS_MISSINGEND, and the pending ISR starts in the same
-// item.
+// A task reaches its script's end with interrupts suspended: the only error is E_OS_MISSINGEND, and the pending ISR
+// starts in the same item.
 config {"cores":[{"id":0,"tasks":[{"name":"A","prio":1,"auto":["M"],"script":"SuspendAllInterrupts;TerminateTask"}],"isrs":[{"name":"I","level":1,"script":"work"}]}]}
 stimuli {"0":"op irq=I op op op op"}
 run
@@ -144,7 +144,7 @@ enter I
 leave I
 ended
 
-// A time fault of an ISR that has interrupts suspended; its task is not charged; the alarm of that tick comes.
+// A time fault of an ISR that has interrupts suspended: the task under it is not charged, and that tick's alarm acts.
 config {"cores":[{"id":0,"protection":"PRO_TERMINATETASKISR","counters":[{"name":"C","max":9}],"alarms":[{"name":"L","counter":"C","action":"ActivateTask B","auto":{"modes":["M"],"start":3,"cycle":0}}],"tasks":[{"name":"A","prio":1,"auto":["M"],"budget":2,"script":"jump 0"},{"name":"B","prio":2,"script":"TerminateTask"}],"isrs":[{"name":"I","level":1,"budget":2,"script":"SuspendAllInterrupts;jump 1"}]}]}
 stimuli {"0":"tick irq=I op tick tick op op tick op"}
 run
@@ -166,7 +166,7 @@ hook Protection E_OS_PROTECTION_TIME
 end A
 ended
 
-// A time fault keeps further activations, whose job has its whole budget.
+// After a time fault, further activations stay, and the next job has its whole budget.
 config {"cores":[{"id":0,"protection":"PRO_TERMINATETASKISR","tasks":[{"name":"A","prio":1,"auto":["M"],"activations":2,"budget":1,"script":"ActivateTask A;jump 1"}]}]}
 stimuli {"0":"op tick op op tick tick op"}
 run
@@ -210,7 +210,7 @@ stimuli {"0":"op tick op tick op"}
 run
 as before
 
-// A core that is down answers requests with E_OS_CORE and drops actions, without a line, and ends with the others.
+// A core that is down answers requests with E_OS_CORE, drops actions without a line, and ends with the others.
 config {"cores":[{"id":0,"start":[1],"counters":[{"name":"C","max":9}],"alarms":[{"name":"L","counter":"C","action":"ActivateTask B","auto":{"modes":["M"],"start":1,"cycle":0}}],"tasks":[{"name":"A","prio":1,"auto":["M"],"script":"work;work;work;SetRelAlarm K 1 0;ActivateTask B;TerminateTask"}]},{"id":1,"counters":[{"name":"D","max":9}],"alarms":[{"name":"K","counter":"D","action":"ActivateTask B"}],"tasks":[{"name":"X","prio":1,"auto":["M"],"budget":1,"script":"jump 0"},{"name":"B","prio":2,"script":"TerminateTask"}]}]}
 stimuli {"0":"op op op tick op op op","1":"op tick op op"}
 run
@@ -233,7 +233,7 @@ hook Protection E_OS_PROTECTION_TIME
 hook Shutdown E_OS_PROTECTION_TIME
 ended
 
-// A separate core that goes down,
+// A separate core that shuts down.
 config {"cores":[{"id":0,"start":[1],"tasks":[{"name":"A","prio":1,"auto":["M"],"script":"TerminateTask"}]},{"id":1,"protection":"PRO_SHUTDOWN","tasks":[{"name":"X","prio":1,"auto":["M"],"budget":2,"script":"jump 0"}],"isrs":[{"name":"I","level":1,"script":"work"}]}]}
 stimuli {"0":"op","1":"irq=I tick op op tick tick op irq=I"}
 run
@@ -252,7 +252,7 @@ hook Protection E_OS_PROTECTION_TIME
 hook Shutdown E_OS_PROTECTION_TIME
 ended
 
-// prints the same by its own configuration.
+// With its own configuration that core prints the same.
 config {"master":1,"cores":[{"id":1,"protection":"PRO_SHUTDOWN","tasks":[{"name":"X","prio":1,"auto":["M"],"budget":2,"script":"jump 0"}],"isrs":[{"name":"I","level":1,"script":"work"}]}]}
 stimuli {"1":"irq=I tick op op tick tick op irq=I"}
 run
@@ -289,6 +289,6 @@ ended
 "#;
 
 #[test]
-fn interrupts_and_budgets_come_to_their_texts(rt: HostRuntime) -> Result<(), Difference> {
+fn interrupts_and_budgets_print_their_texts(rt: HostRuntime) -> Result<(), Difference> {
     play_table(&rt, rt.alloc(), RUNS, 16)
 }

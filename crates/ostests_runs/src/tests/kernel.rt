@@ -56,7 +56,7 @@ const ITEMS: [Item; 12] = [
 const BLOCK: &str =
     "core 0\nstart 1 E_OK\nhook Startup\nact A\npre A\nout 1 ActivateTask B\nstat A ActivateTask E_OK\npost A\nend A\n";
 
-// The kernel of core 0 once it took these items, whose marks it printed.
+// The kernel of core 0 after it took these items and added their marks. Checks that it may take each of them.
 fn kernel_after<'a>(
     rt: &impl Abort,
     config: &'a Config,
@@ -73,7 +73,7 @@ fn kernel_after<'a>(
     Ok(kernel)
 }
 
-// The block of these marks.
+// The block of core 0 with these marks.
 fn block_of(alloc: Global, config: &Config, marks: Vec<Mark>) -> Result<String, Difference> {
     let report = Report {
         core: CORE_0,
@@ -86,7 +86,7 @@ fn block_of(alloc: Global, config: &Config, marks: Vec<Mark>) -> Result<String, 
 }
 
 #[test]
-fn a_core_takes_its_items(rt: HostRuntime) -> Result<(), Fail> {
+fn a_core_takes_its_items_and_prints_its_block(rt: HostRuntime) -> Result<(), Fail> {
     let alloc = rt.alloc();
     let config = read_config(alloc, TWO_CORES)?;
     let mut marks = Vec::with_capacity(alloc, 8192)?;
@@ -96,7 +96,7 @@ fn a_core_takes_its_items(rt: HostRuntime) -> Result<(), Fail> {
     Ok(())
 }
 
-// Whether the kernel goes on by itself, with nothing in its outbox.
+// Whether the kernel may serve other cores, goes on by itself, and has nothing in its outbox.
 fn goes_on(kernel: &CoreKernel) -> bool {
     kernel.may_serve() && matches!(kernel.want(), Want::GoOn) && kernel.front().is_none()
 }
@@ -106,7 +106,7 @@ fn a_second_reply_is_refused(rt: HostRuntime) -> Result<(), Fail> {
     let alloc = rt.alloc();
     let config = read_config(alloc, TWO_CORES)?;
     let mut marks = Vec::with_capacity(alloc, 8192)?;
-    // The first eight end with the reply.
+    // The first eight items end with the reply.
     let kernel = kernel_after(&rt, &config, &ITEMS[..8], &mut marks)?;
     assert!(rt; !kernel.may_take(&REPLY));
     assert!(rt; goes_on(&kernel));

@@ -39,7 +39,7 @@ hook Protection E_OS_PROTECTION_TIME
 end A
 ended
 
-// The tick before the resource was taken counts for the execution budget alone, so one tick reaches both,
+// The tick before the resource was taken counts for the execution budget alone, so one tick reaches both budgets.
 config {"cores":[{"id":0,"tasks":[{"name":"A","prio":1,"auto":["M"],"budget":3,"script":"GetResource R;work;ReleaseResource R;TerminateTask"}],"protection":"PRO_TERMINATETASKISR","resources":[{"name":"R","ceiling":1,"lock":2}]}]}
 stimuli {"0":"tick op tick tick op"}
 run
@@ -52,7 +52,7 @@ hook Protection E_OS_PROTECTION_TIME
 end A
 ended
 
-// and without it the lock budget is reached first.
+// Without that earlier tick, the lock budget is reached first.
 stimuli {"0":"op tick tick tick op"}
 run
 core 0 .. pre A
@@ -64,7 +64,7 @@ end A
 tick
 ended
 
-// The counters and alarms of that tick follow, if the job ends,
+// If the job ends, the counters and alarms of that tick follow.
 config {"cores":[{"id":0,"protection":"PRO_TERMINATETASKISR","counters":[{"name":"C","max":9}],"alarms":[{"name":"L","counter":"C","action":"ActivateTask B","auto":{"modes":["M"],"start":2,"cycle":0}}],"resources":[{"name":"R","ceiling":1,"lock":2}],"tasks":[{"name":"A","prio":1,"auto":["M"],"script":"GetResource R;work;ReleaseResource R;TerminateTask"},{"name":"B","prio":2,"script":"TerminateTask"}]}]}
 stimuli {"0":"op tick op tick op tick"}
 run
@@ -75,7 +75,7 @@ pre B .. end B
 tick
 ended
 
-// and are dropped with the stimuli that are left, if the core shuts down: so with each other answer, and without one.
+// With any other answer, or none, the core shuts down: the rest of that tick and the stimuli left are dropped.
 config {"cores":[{"id":0,@"counters":[{"name":"C","max":9}],"alarms":[{"name":"L","counter":"C","action":"ActivateTask B","auto":{"modes":["M"],"start":2,"cycle":0}}],"resources":[{"name":"R","ceiling":1,"lock":2}],"tasks":[{"name":"A","prio":1,"auto":["M"],"script":"GetResource R;work;ReleaseResource R;TerminateTask"},{"name":"B","prio":2,"script":"TerminateTask"}]}]}
 stimuli {"0":"op tick op tick op tick"}
 with |"protection":"PRO_SHUTDOWN",|"protection":"PRO_IGNORE",|"protection":"PRO_TERMINATEAPPL",|"protection":"PRO_TERMINATEAPPL_RESTART",
@@ -88,7 +88,7 @@ hook Protection E_OS_PROTECTION_LOCKED
 hook Shutdown E_OS_PROTECTION_LOCKED
 ended
 
-// Nested resources, of which the outer one is reached. Both are given back.
+// Nested resources: the lock budget of the outer one is reached. Both are given back.
 config {"cores":[{"id":0,"protection":"PRO_TERMINATETASKISR","resources":[{"name":"R","ceiling":1,"lock":3},{"name":"S","ceiling":1,"lock":3}],"tasks":[{"name":"A","prio":1,"auto":["M"],"script":"GetResource R;GetResource S;jump 2"},{"name":"B","prio":1,"auto":["M"],"script":"GetResource S;GetResource R;ReleaseResource R;ReleaseResource S;TerminateTask"}]}]}
 stimuli {"0":"op tick op tick tick op op op op op"}
 run
@@ -111,7 +111,7 @@ post B
 end B
 ended
 
-// The inner one is reached; the outer one has no budget.
+// The lock budget of the inner resource is reached; the outer one has no budget.
 config {"cores":[{"id":0,"protection":"PRO_TERMINATETASKISR","resources":[{"name":"R","ceiling":1},{"name":"S","ceiling":1,"lock":1}],"tasks":[{"name":"A","prio":1,"auto":["M"],"script":"GetResource R;GetResource S;jump 2"}]}]}
 stimuli {"0":"op tick tick op tick op"}
 run
@@ -125,7 +125,7 @@ hook Protection E_OS_PROTECTION_LOCKED
 end A
 ended
 
-// Both are reached in one tick: the hook is called once,
+// One tick reaches both lock budgets: the hook is called once.
 config {"cores":[{"id":0,"protection":"@","resources":[{"name":"R","ceiling":1,"lock":2},{"name":"S","ceiling":1,"lock":1}],"tasks":[{"name":"A","prio":1,"auto":["M"],"script":"GetResource R;GetResource S;jump 2"}]}]}
 stimuli {"0":"op tick op tick op"}
 with PRO_TERMINATETASKISR
@@ -139,7 +139,7 @@ hook Protection E_OS_PROTECTION_LOCKED
 end A
 ended
 
-// also where the core shuts down.
+// The hook is called once, too, if the core shuts down.
 with PRO_SHUTDOWN
 run
 as before up to hook Protection E_OS_PROTECTION_LOCKED
@@ -179,7 +179,7 @@ enter I
 leave I
 ended
 
-// The ticks of a job that preempts the holder do not count,
+// The ticks of a job that preempts the holder do not count.
 config {"cores":[{"id":0,"protection":"PRO_TERMINATETASKISR","resources":[{"name":"R","ceiling":1,"lock":2}],"tasks":[{"name":"A","prio":1,"auto":["M"],"script":"GetResource R;ActivateTask H;jump 2"},{"name":"H","prio":2,"script":"TerminateTask"}]}]}
 stimuli {"0":"op tick op tick tick op tick op"}
 run
@@ -200,7 +200,7 @@ hook Protection E_OS_PROTECTION_LOCKED
 end A
 ended
 
-// and that job has a resource and a budget of its own.
+// The job that preempts the holder has a resource and a lock budget of its own.
 config {"cores":[{"id":0,"protection":"PRO_TERMINATETASKISR","resources":[{"name":"R","ceiling":1,"lock":3},{"name":"S","ceiling":2,"lock":1}],"tasks":[{"name":"A","prio":1,"auto":["M"],"script":"GetResource R;ActivateTask H;jump 2"},{"name":"H","prio":2,"script":"GetResource S;jump 1"}]}]}
 stimuli {"0":"op tick op op tick tick tick op"}
 run
@@ -216,7 +216,7 @@ hook Protection E_OS_PROTECTION_LOCKED
 end A
 ended
 
-// The tick at which the holder is preempted is its own.
+// The tick at which the holder is preempted counts for the holder.
 config {"cores":[{"id":0,"protection":"PRO_TERMINATETASKISR","counters":[{"name":"C","max":9}],"alarms":[{"name":"L","counter":"C","action":"ActivateTask H","auto":{"modes":["M"],"start":1,"cycle":0}}],"resources":[{"name":"R","ceiling":1,"lock":2}],"tasks":[{"name":"A","prio":1,"auto":["M"],"script":"GetResource R;jump 1"},{"name":"H","prio":2,"script":"TerminateTask"}]}]}
 stimuli {"0":"op tick tick op tick op"}
 run
@@ -236,7 +236,7 @@ hook Protection E_OS_PROTECTION_LOCKED
 end A
 ended
 
-// Given back, a resource reaches nothing, and taken again it counts from zero.
+// A resource that was given back reaches no budget. If it is taken again, it counts from zero.
 config {"cores":[{"id":0,"protection":"PRO_TERMINATETASKISR","resources":[{"name":"R","ceiling":1,"lock":2}],"tasks":[{"name":"A","prio":1,"auto":["M"],"script":"GetResource R;ReleaseResource R;GetResource R;jump 3"}]}]}
 stimuli {"0":"op tick op tick tick tick op tick tick op"}
 run
@@ -268,7 +268,7 @@ hook Protection E_OS_PROTECTION_LOCKED
 end A
 ended
 
-// The inner resource is taken again, and the outer one counts on.
+// The inner resource is taken again; the count of the outer one goes on.
 config {"cores":[{"id":0,"protection":"PRO_TERMINATETASKISR","resources":[{"name":"R","ceiling":1,"lock":3},{"name":"S","ceiling":1,"lock":2}],"tasks":[{"name":"A","prio":1,"auto":["M"],"script":"GetResource R;GetResource S;ReleaseResource S;GetResource S;ReleaseResource S;jump 5"}]}]}
 stimuli {"0":"op op tick op op tick op tick op"}
 run
@@ -285,7 +285,7 @@ hook Protection E_OS_PROTECTION_LOCKED
 end A
 ended
 
-// The budget is the resource's: each holder has it, and begins with it anew. Further activations stay.
+// The budget belongs to the resource: each holder has all of it anew. Further activations stay.
 config {"cores":[{"id":0,"protection":"PRO_TERMINATETASKISR","resources":[{"name":"R","ceiling":1,"lock":2}],"tasks":[{"name":"A","prio":1,"auto":["M"],"activations":2,"script":"ActivateTask A;GetResource R;jump 2"},{"name":"B","prio":1,"auto":["M"],"script":"GetResource R;jump 1"}]}]}
 stimuli {"0":"op op tick tick op tick tick op op tick tick"}
 run
@@ -316,7 +316,7 @@ end A
 pre A
 ended
 
-// A job that ends with a resource, by its script, has given it back: the next one may hold it as long.
+// A job that reaches its script's end with a resource gives it back: the next job may hold it as long.
 config {"cores":[{"id":0,"protection":"PRO_TERMINATETASKISR","resources":[{"name":"R","ceiling":1,"lock":2}],"tasks":[{"name":"A","prio":1,"auto":["M"],"activations":2,"script":"ActivateTask A;GetResource R"}]}]}
 stimuli {"0":"op op tick op op op tick tick op"}
 run
@@ -341,7 +341,7 @@ act A
 stat A ActivateTask E_OK
 ended
 
-// A budget of 0 is none.
+// A lock budget of 0 means no budget.
 config {"cores":[{"id":0,"resources":[{"name":"R","ceiling":1,"lock":0},{"name":"S","ceiling":1,"lock":1000000000}],"tasks":[{"name":"A","prio":1,"auto":["M"],"script":"GetResource R;GetResource S;ReleaseResource S;ReleaseResource R;TerminateTask"}]}]}
 stimuli {"0":"op op tick tick tick op op op"}
 run
@@ -357,7 +357,7 @@ post A
 end A
 ended
 
-// A core that is halted takes no tick: its job would have reached the lock budget by the next one.
+// A core that is halted takes no tick: at the next tick its job would have reached the lock budget.
 config {"cores":[{"id":0,"start":[1],"tasks":[{"name":"A","prio":1,"auto":["M"],"script":"ShutdownAllCores 16"}]},{"id":1,"resources":[{"name":"R","ceiling":1,"lock":2}],"tasks":[{"name":"B","prio":1,"auto":["M"],"script":"GetResource R;jump 1"}]}]}
 stimuli {"0":"op","1":"op tick tick tick"}
 run
@@ -382,6 +382,6 @@ ended
 "#;
 
 #[test]
-fn lock_budgets_come_to_their_texts(rt: HostRuntime) -> Result<(), Difference> {
+fn lock_budgets_print_their_texts(rt: HostRuntime) -> Result<(), Difference> {
     play_table(&rt, rt.alloc(), RUNS, 29)
 }

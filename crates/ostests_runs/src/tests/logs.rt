@@ -29,7 +29,7 @@ in 0 ActivateTask B E_OK
 pre B .. end B
 ended
 
-// The log of core 0, which replays to its block, also without its last line end.
+// The log of core 0. It replays to the core's block, even without its last line end.
 items 0
 began 1 E_OK .. pass2 0 1
 stim op
@@ -64,7 +64,7 @@ turns "0o 1l 1o 0o 0l 1l 0o 1o 0l 1l 0o 0o 1s0 1o 0s1 1l 0o 1o 0o 1o 1o 0l 1l 0l
 run
 as run
 
-// The same, with a turn that changes nothing before each that does.
+// The same schedule, with a turn that changes nothing before each turn that changes something.
 turns "1o 0o 0s1 1l 1s0 1o 1l 0o 0o 0l 1o 1l 0l 0o 0l 1o 1o 0l 0l 1l 1s0 0o 1s0 0o 0o 1s0 0s1 1o 1s0 0s1 0s1 0o 1s0 1o 0s1 0o 0l 1o 0l 1o 1o 0l 0o 1l 1o 0l 0l 1l"
 run
 as run
@@ -98,7 +98,7 @@ turns x
 run
 fault 12 BadStimulus
 
-// A log of no lines.
+// A log without lines.
 log
 
 replay 0
@@ -121,7 +121,7 @@ out 1 ActivateTask B
 stat A ActivateTask E_OK
 fault 15 ItemRefused 9
 
-// An item that may not be taken is told behind the block of those before: the first one,
+// If an item may not be taken, its fault is printed after the block of the items before it. Here it is the first item.
 log open
 @
 
@@ -130,7 +130,7 @@ replay 0
 core 0
 fault 15 ItemRefused 1
 
-// and one that a core which runs may not take.
+// Here it is an item that a running core may not take.
 log
 began 1 E_OK .. pass2 0 1
 @
@@ -142,7 +142,7 @@ core 0
 start 1 E_OK .. pre A
 fault 15 ItemRefused 6
 
-// A line of no item is a bad log.
+// A log with a line that is not an item is a bad log.
 log open
 @
 
@@ -166,7 +166,7 @@ with in 1 0 req SetEvent A 0|in 1 0 act SetEvent A 4294967296|in 1 0 req Activat
 replay 0
 fault 14 BadLog
 
-// So is an empty line, also between others.
+// So is a log with an empty line, even between other lines.
 log
 @
 
@@ -218,7 +218,7 @@ drained .. last
 replay 2
 as run
 
-// Cores that are not separate, and others that there are not.
+// A core that is not separate, and cores that are not configured.
 cut 0
 fault 20 NotSeparate
 
@@ -244,7 +244,7 @@ check
 ok
 core 2 separate
 
-// A core that is never started has a log of no lines.
+// A core that is never started has a log without lines.
 config {"cores":[{"id":0},{"id":5}]}
 stimuli {}
 items 5
@@ -252,7 +252,7 @@ items 5
 replay 5
 core 5
 
-// Two cores, the second with an alarm that the first one asks of, and that activates a task of the first.
+// Two cores. Core 0 sets and reads an alarm of core 1, whose action sets events of a task of core 0.
 config {"cores":[{"id":0,"start":[1],"tasks":[{"name":"A","prio":1,"auto":["M"],"script":"SetRelAlarm L 2 0;GetAlarm L v1;TerminateTask"},{"name":"T","prio":2,"extended":true,"script":"TerminateTask"}]},{"id":1,"counters":[{"name":"C","max":9}],"alarms":[{"name":"L","counter":"C","action":"SetEvent T 5"}]}]}
 stimuli {"0":"op op op","1":"tick tick"}
 turns "0o 1l 1o 0o 0l 1l 0o 1o 0l 1l 0o 0o 1s0 1o 0s1 0o 0o 1s0 1o 0s1 0o 0o 1o 1o 1o 0s1 1o 0l 1l 0l 1l"
@@ -284,7 +284,7 @@ hook Error E_OS_STATE
 "#;
 
 #[test]
-fn logs_come_to_their_texts(rt: HostRuntime) -> Result<(), Difference> {
+fn logs_print_their_texts(rt: HostRuntime) -> Result<(), Difference> {
     play_table(&rt, rt.alloc(), BORDER, 68)?;
     play_table(&rt, rt.alloc(), LOGS, 15)
 }

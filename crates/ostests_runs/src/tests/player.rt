@@ -1,4 +1,4 @@
-//! What plays the tables of the other tests: a right one passes, and a wrong one is refused for what is wrong with it.
+//! The player of the other tests' tables: a right table passes, and a wrong table is refused with the reason.
 
 use osplay::{Difference, play_table, same};
 use std::alloc::Global;
@@ -48,7 +48,7 @@ pre W .. wait W 1
 ended
 "#;
 
-// Plays a table of one core with this block, or with none. It has so many jobs.
+// Plays the table of `CONFIG` and these blocks, and expects this number of jobs.
 fn play_block(
     rt: &(impl Threads + Wait + Sync),
     alloc: Global,
@@ -144,7 +144,7 @@ fn a_wrong_table_is_refused(rt: HostRuntime) -> Result<(), Fail> {
             1,
             r#"Lacks("a line that `..` may follow")"#,
         ),
-        // A job that there is not, and none at all.
+        // A job that does not exist, and no job at all.
         ("walk\nok\ncore 0 separate\n", 1, r#"Lacks("a job")"#),
         ("", 1, "Jobs(0)"),
     ];

@@ -1,4 +1,4 @@
-//! The program over words: what is printed, sent off and told, and the status.
+//! The program over words: what is printed, sent off and reported, and the status.
 
 use super::writes::{Failing, Refusal};
 use osjob::{Fault, NoWords, Outcome, answer, close};
@@ -10,7 +10,8 @@ use std::sync::Wait;
 use std::test::Fail;
 use std::thread::Threads;
 
-// Closes over an output that has these bytes and refuses the write behind so many: so much is sent off, and this line is told.
+// Closes a job over an output of `bytes`, whose flush is refused if `left` is 0. Checks how many bytes are sent off,
+// the line that is reported, and the status.
 fn close_over(
     rt: &impl Abort,
     alloc: Global,
@@ -27,7 +28,7 @@ fn close_over(
 }
 
 #[test]
-fn a_text_is_sent_off_and_then_its_fault_is_told(rt: HostRuntime) -> Result<(), Fail> {
+fn a_text_is_sent_off_and_then_its_fault_is_reported(rt: HostRuntime) -> Result<(), Fail> {
     let examples = [
         (Ok(Outcome::Stalled), 1, (7, "", 3)),
         (Err(Fault::NoMemoryToRun), 1, (7, "fault 16 NoMemory\n", 1)),
@@ -45,7 +46,8 @@ fn a_text_is_sent_off_and_then_its_fault_is_told(rt: HostRuntime) -> Result<(), 
     Ok(())
 }
 
-// Answers these words over an output that takes nothing of the write behind so many.
+// Answers these words over an output that takes nothing of the write after `left` others. Checks the text that is
+// printed, the line that is reported, and the status.
 fn answer_words(
     rt: &(impl AllocGlobal + Files + Threads + Wait + Abort + Sync),
     words: Vec<&str>,
@@ -60,7 +62,7 @@ fn answer_words(
 }
 
 #[test]
-fn words_come_to_a_text_or_a_line_and_a_status(rt: HostRuntime) -> Result<(), Fail> {
+fn words_result_in_a_text_or_a_line_and_a_status(rt: HostRuntime) -> Result<(), Fail> {
     let version = ["mcos", "--version"].as_slice();
     let failed = "fault 19 WriteFailed\n";
     let examples = [

@@ -4,14 +4,14 @@ use osplay::examples::MUTUAL;
 use osplay::{Difference, play_table};
 
 const RUNS: &str = r#"
-// No configuration can be read.
+// The configuration cannot be read.
 check
 fault 21 Unreadable
 
 cut 0
 fault 21 Unreadable
 
-// Of a configuration that is read the fault is told, whatever the other files are.
+// If the configuration can be read and has a fault, that fault is reported, whether the other files are right or not.
 config {"cores":[
 stimuli {}
 run
@@ -106,8 +106,8 @@ core 1 off
 cut 1
 fault 20 NotSeparate
 
-// Tasks of one core: the greatest priority first, and of equal jobs the one that was activated first, also where it
-// was preempted.
+// Tasks of one core: the greatest priority runs first. Of jobs with equal priority the first activated runs first,
+// even if it was preempted.
 config {"cores":[{"id":0,"tasks":[{"name":"X","prio":1,"auto":["M"],"script":"ActivateTask Y;ActivateTask H;TerminateTask"},{"name":"Y","prio":1,"script":"TerminateTask"},{"name":"Z","prio":1,"script":"TerminateTask"},{"name":"H","prio":2,"script":"ActivateTask Z;TerminateTask"}]}]}
 stimuli {"0":"op op op op op op op"}
 run
@@ -168,7 +168,7 @@ pre H .. end H
 pre L .. end L
 ended
 
-// A job that holds a resource does not give way.
+// A job that holds a resource does not yield at Schedule.
 config {"cores":[{"id":0,"tasks":[{"name":"N","prio":1,"preemptable":false,"auto":["M"],"script":"GetResource R;ActivateTask U;Schedule;ReleaseResource R;TerminateTask"},{"name":"U","prio":2,"script":"TerminateTask"}],"resources":[{"name":"R","ceiling":1}]}]}
 stimuli {"0":"op op op op op op"}
 run
@@ -243,7 +243,7 @@ end B
 pre D .. end D
 ended
 
-// A task whose second job finds the variables of its first, and neither its position nor its status.
+// The second job of a task finds the variables of the first, but neither its position nor its status.
 config {"cores":[{"id":0,"tasks":[{"name":"A","prio":1,"auto":["M"],"activations":2,"script":"status v1;jz v0 4;set v2 -5;jump 8;ActivateTask A;ActivateTask A;status v1;add v0 9223372036854775807;add v0 2;addv v2 v2;jz v2 12;TerminateTask;jump 0"}]}]}
 stimuli {"0":"op op op op op op op op op op op op op op op op op op op op op"}
 run
@@ -276,7 +276,7 @@ core 7 separate
 "#;
 
 #[test]
-fn runs_come_to_their_texts(rt: HostRuntime) -> Result<(), Difference> {
+fn runs_print_their_texts(rt: HostRuntime) -> Result<(), Difference> {
     play_table(&rt, rt.alloc(), MUTUAL, 2)?;
     play_table(&rt, rt.alloc(), RUNS, 26)
 }

@@ -35,7 +35,7 @@ fn reports_of(alloc: Global, config: &Config, stimuli: &Stimuli) -> Result<Vec<R
     run_world(alloc, config, stimuli, turns.as_slice())
 }
 
-// What a run with these reports prints where each started core ended.
+// What a run with these reports prints if each started core ended.
 fn run_text(alloc: Global, config: &Config, reports: &[Report]) -> Result<String, Difference> {
     let mut text = blocks_of(alloc, config, reports)?;
     text.push_str("ended\n")?;

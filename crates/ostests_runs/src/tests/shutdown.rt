@@ -4,7 +4,7 @@ use osplay::examples::{ALL_DOWN, ASKERS};
 use osplay::{Difference, play_table};
 
 const RUNS: &str = r#"
-// Core 1 shuts itself down, and core 0 asks for a task of it.
+// Core 1 shuts itself down, and core 0 activates a task of core 1.
 config {"cores":[{"id":0,"start":[1],"tasks":[{"name":"A","prio":1,"auto":["M"],"script":"work;ActivateTask B;TerminateTask"}]},{"id":1,"tasks":[{"name":"B","prio":1,"auto":["M"],"script":"ShutdownOS 0"}]}]}
 stimuli {"0":"op op op","1":"op"}
 run
@@ -109,7 +109,7 @@ hook Protection E_OS_PROTECTION_LOCKED
 hook Shutdown E_OS_PROTECTION_LOCKED
 ended
 
-// A separate core that goes down,
+// A separate core that shuts down.
 config {"cores":[{"id":0,"start":[1],"tasks":[{"name":"A","prio":1,"auto":["M"],"script":"TerminateTask"}]},{"id":1,"resources":[{"lock":2,"name":"R","ceiling":1},{"name":"S","ceiling":0}],"tasks":[{"name":"X","prio":1,"auto":["M"],"script":"GetResource R;jump 1"}]}]}
 stimuli {"0":"op","1":"op tick tick op"}
 run
@@ -122,7 +122,7 @@ as run from core 1
 cut 1
 {"cap":16,"cores":[{"alarms":[],"counters":[],"id":1,"isrs":[],"mode":"M","protection":"PRO_SHUTDOWN","resources":[{"ceiling":1,"lock":2,"name":"R"},{"ceiling":0,"lock":0,"name":"S"}],"start":[],"tables":[],"tasks":[{"activations":1,"auto":["M"],"budget":0,"extended":false,"name":"X","preemptable":true,"prio":1,"script":"GetResource R;jump 1"}]}],"master":1,"modes":["M"],"spinlocks":[],"version":1}
 
-// prints the same by its own configuration.
+// With its own configuration that core prints the same.
 config
 stimuli {"1":"op tick tick op"}
 run
@@ -165,7 +165,7 @@ drained .. last 1 E_OS_STATE
 replay 0
 as run
 
-// The same without the spinlock.
+// The configuration above without the spinlock.
 config {"cap":1,"cores":[{"id":0,"start":[1],"counters":[{"name":"C","max":9}],"alarms":[{"name":"L1","counter":"C","action":"ActivateTask P","auto":{"modes":["M"],"start":1,"cycle":0}},{"name":"L2","counter":"C","action":"ActivateTask Q","auto":{"modes":["M"],"start":1,"cycle":0}}]},{"id":1,"tasks":[{"name":"X","prio":2,"auto":["M"],"script":"ShutdownAllCores 7"},{"name":"P","prio":1,"script":"TerminateTask"},{"name":"Q","prio":1,"script":"TerminateTask"}]}]}
 stimuli {"0":"op tick op","1":"op"}
 // A core that was halted drops actions.
@@ -204,7 +204,7 @@ drained .. last 1 E_OS_STATE
 replay 1
 as run
 
-// A core that has asked and was not halted yet serves others, and dispatches nothing.
+// A core that has called ShutdownAllCores and is not halted yet serves other cores, and dispatches nothing.
 config {"cores":[{"id":0,"start":[1],"counters":[{"name":"C","max":9}],"alarms":[{"name":"L","counter":"C","action":"ActivateTask P","auto":{"modes":["M"],"start":1,"cycle":0}}]},{"id":1,"tasks":[{"name":"X","prio":2,"auto":["M"],"script":"ShutdownAllCores 0"},{"name":"P","prio":3,"script":"TerminateTask"}]}]}
 stimuli {"0":"tick op op","1":"op op"}
 run
@@ -221,7 +221,7 @@ halt 1 E_OK
 hook Shutdown E_OK
 ended
 
-// One core alone: an ISR shuts all cores down, an ISR shuts the core down, and so does a task with another one
+// One core alone: an ISR shuts all cores down, an ISR shuts the core down, and a task does so while another one is
 // ready.
 config {"cores":[{"id":0,"tasks":[{"name":"A","prio":1,"auto":["M"],"script":"work;TerminateTask"}],"isrs":[{"name":"I","level":1,"script":"ShutdownAllCores 11"}]}]}
 stimuli {"0":"irq=I op op op"}
@@ -294,7 +294,7 @@ ended
 "#;
 
 #[test]
-fn shutdowns_come_to_their_texts(rt: HostRuntime) -> Result<(), Difference> {
+fn shutdowns_print_their_texts(rt: HostRuntime) -> Result<(), Difference> {
     play_table(&rt, rt.alloc(), ALL_DOWN, 24)?;
     play_table(&rt, rt.alloc(), ASKERS, 4)?;
     play_table(&rt, rt.alloc(), RUNS, 33)

@@ -1,4 +1,4 @@
-//! A kernel of a smaller size: it is large enough for the cores that fit it, takes the items of their runs, and prints the same marks.
+//! A kernel of a smaller size. It takes the items of the runs of all cores that fit it, and prints the same marks.
 
 ghost use Rattle.osplan.specs.Stimuli.{AreKnown};
 
@@ -41,8 +41,8 @@ const EXAMPLES: [(&str, &str); 6] = [
     ),
 ];
 
-/// Core 0 has a resource of ceiling 7, tasks of priorities up to 6 with four jobs, and three alarms that act on core 1 at once. Core 1 has
-/// a task of priority 8.
+/// Core 0 has a resource of ceiling 7, tasks of priorities up to 6 with four jobs, and three alarms that act on core 1
+/// at once. Core 1 has a task of priority 8.
 const BOUNDS: &str =
     r#"{"cores":[{"id":0,"tasks":[{"name":"A","prio":6,"script":"TerminateTask"},{"name":"B","prio":1,"activations":3,"script":"TerminateTask"}],"resources":[{"name":"R","ceiling":7}],"counters":[{"name":"C","max":9}],"alarms":[{"name":"K","counter":"C","action":"ActivateTask D"},{"name":"L","counter":"C","action":"ActivateTask D"},{"name":"N","counter":"C","action":"ActivateTask D"}]},{"id":1,"tasks":[{"name":"D","prio":8,"script":"TerminateTask"}]}]}"#;
 
@@ -59,8 +59,8 @@ fn reports_of(alloc: Global, config: &Config, stimuli: &Stimuli) -> Result<Vec<R
     run_default(alloc, config, stimuli)
 }
 
-// The small kernel may take each item of the report in turn, and prints its marks. It just fits: a call and fifteen replies need
-// sixteen places.
+// Checks that the small kernel may take each item of the report in turn, and prints the report's marks. The kernel just
+// fits: a call and fifteen replies need sixteen places.
 fn replay_small(
     rt: &impl Abort,
     alloc: Global,
@@ -82,7 +82,7 @@ fn replay_small(
     Ok(())
 }
 
-// So it does with each core's report.
+// Checks that the small kernel takes the items of each report, and prints the report's marks.
 fn replay_each(
     rt: &impl Abort,
     alloc: Global,
@@ -95,7 +95,7 @@ fn replay_each(
     Ok(())
 }
 
-// The small kernel takes what the cores of a run took.
+// Checks that the small kernel takes what each core of the run by the default schedule took.
 fn play_small(rt: &impl Abort, alloc: Global, config: &str, stimuli: &str) -> Result<(), Fail> {
     let config = read_config(alloc, config)?;
     let stimuli = read_stimuli(alloc, &config, stimuli)?;

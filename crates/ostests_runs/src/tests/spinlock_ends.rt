@@ -1,4 +1,4 @@
-//! Spinlocks that are given back for a job that ended or a core that is down, and the logs of that.
+//! Spinlocks that are given back for a job that ended or a core that is down, and the logs of these runs.
 
 use osplay::{Difference, play_table};
 
@@ -64,7 +64,7 @@ drained .. last
 replay 1
 as run
 
-// Of two the newest comes first, after a job's end, and after a halt.
+// Of two spinlocks the newest is given back first, after a job's end and after a halt.
 first
 began 1 E_OK .. pass2 0 1
 stim op
@@ -117,7 +117,7 @@ replay 0
 as before up to halt 1 E_OK
 hook Shutdown E_OK
 
-// A halt has to wait until all are given back.
+// A halt has to wait until all spinlocks are given back.
 log
 as before up to granted S2
 stim op
@@ -165,7 +165,7 @@ drained .. last 0 E_OS_LIMIT
 replay 1
 as run
 
-// Core 1 asks again and again; its look drops the call once the shutdown was asked for.
+// Core 1 asks again and again. Once the shutdown was requested, a look of core 1 drops the call.
 turns "0o 1l 1o 0o 0l 1l 0o 1o 0l 1l 0o 0o 1o 1o 1l 1o 0o 0o 1o 1l 1o 0o 0o 0l 1l 0l 1l"
 run
 as run
@@ -194,7 +194,7 @@ post C
 end C
 ended
 
-// The newest one is given back first, over the whole core.
+// The newest spinlock of the whole core is given back first.
 items 0
 began 1 E_OK .. pass2 0 1
 stim op

@@ -1,4 +1,4 @@
-//! Who gets a spinlock, and the logs of that.
+//! Which core gets a spinlock, and the logs of these runs.
 
 use osplay::examples::{POLLING, REFUSED};
 use osplay::{Difference, play_table};
@@ -7,7 +7,7 @@ const SERVING: &str = r#"
 // Core 1 waits for the spinlock of core 0, which activates a task of core 1.
 config {"spinlocks":[{"name":"S"}],"cores":[{"id":0,"start":[1],"tasks":[{"name":"A","prio":1,"auto":["M"],"script":"GetSpinlock S;ActivateTask H;ReleaseSpinlock S;TerminateTask"}]},{"id":1,"tasks":[{"name":"B","prio":1,"auto":["M"],"script":"GetSpinlock S;ReleaseSpinlock S;TerminateTask"},{"name":"H","prio":2,"script":"TerminateTask"}]}]}
 stimuli {"0":"op op op op","1":"op op op op op"}
-// A core that waits for a spinlock serves others, and dispatches when it got it.
+// While a core waits for a spinlock, it serves other cores. Once it has the spinlock, it dispatches.
 run
 core 0
 start 1 E_OK .. pre A
@@ -45,7 +45,7 @@ drained .. last
 replay 1
 as run
 
-// Whether the outbox comes before the spinlock is up to the core's own turns, and not to the item.
+// In a run, the core posts its letters before it takes the spinlock. In a log, the items may come in either order.
 log
 on .. pass2 0 1
 stim op

@@ -3,7 +3,7 @@
 use osplay::{Difference, play_table};
 
 const RUNS: &str = r#"
-// While a task has a spinlock it neither ends itself nor waits nor gives way. A chain to another core is not sent.
+// While a task has a spinlock, it may not end itself, wait or call Schedule. A chain to another core is not sent.
 config {"spinlocks":[{"name":"S"}],"cores":[{"id":0,"start":[1],"tasks":[{"name":"A","prio":1,"auto":["M"],"extended":true,"script":"GetSpinlock S;WaitEvent 1;Schedule;ChainTask A;ChainTask B;ChainTask C;ChainTask ?;TerminateTask;ReleaseSpinlock S;TerminateTask"}]},{"id":1,"tasks":[{"name":"B","prio":1,"script":"TerminateTask"}]},{"id":2,"tasks":[{"name":"C","prio":1,"script":"TerminateTask"}]}]}
 stimuli {"0":"op op op op op op op op op op"}
 run
@@ -30,7 +30,7 @@ end A
 core 1 .. core 2
 ended
 
-// If it has a resource too, that is what is said.
+// If the task has a resource too, the status is E_OS_RESOURCE.
 config {"spinlocks":[{"name":"S"}],"cores":[{"id":0,"tasks":[{"name":"A","prio":1,"auto":["M"],"extended":true,"script":"GetResource R;GetSpinlock S;TerminateTask;Schedule;ChainTask A;WaitEvent 1;ReleaseResource R;TerminateTask;ReleaseSpinlock S;TerminateTask"}],"resources":[{"name":"R","ceiling":1}]}]}
 stimuli {"0":"op op op op op op op op op op"}
 run
@@ -53,10 +53,10 @@ post A
 end A
 ended
 
-// The ISR asks for the spinlock of the task that it interrupts, and takes one that comes before it.
+// An ISR asks for the spinlock of the task that it interrupts, and takes one that comes earlier in the order.
 config {"spinlocks":[{"name":"S1","next":"S2"},{"name":"S2"}],"cores":[{"id":0,"tasks":[{"name":"A","prio":1,"auto":["M"],"script":"GetSpinlock S2;work;ReleaseSpinlock S2;TerminateTask"}],"isrs":[{"name":"I","level":1,"script":"GetSpinlock S2;TryToGetSpinlock S2 v0;ReleaseSpinlock S2;GetSpinlock S1;ReleaseSpinlock S1"}]}]}
 stimuli {"0":"op irq=I op op op op op op op op op"}
-// Orders hold within one job: an ISR may take one that comes before.
+// The order holds within one job, so the ISR may take a spinlock that comes before the task's.
 run
 core 0 .. pre A
 stat A GetSpinlock E_OK
@@ -98,7 +98,7 @@ drained .. last
 replay 0
 as run
 
-// So may a task that preempts.
+// A task that preempts may take an earlier spinlock, too.
 config {"spinlocks":[{"name":"S1","next":"S2"},{"name":"S2"}],"cores":[{"id":0,"tasks":[{"name":"L","prio":1,"auto":["M"],"script":"GetSpinlock S2;ActivateTask H;ReleaseSpinlock S2;TerminateTask"},{"name":"H","prio":2,"script":"GetSpinlock S2;GetSpinlock S1;ReleaseSpinlock S2;ReleaseSpinlock S1;TerminateTask"}]}]}
 stimuli {"0":"op op op op op op op op op"}
 run
@@ -122,7 +122,7 @@ post L
 end L
 ended
 
-// Of three spinlocks in a row one may be left out. They are given back newest first.
+// Of three spinlocks in a row one may be left out. The newest is given back first.
 config {"spinlocks":[{"name":"S1","next":"S2"},{"name":"S2","next":"S3"},{"name":"S3"}],"cores":[{"id":0,"tasks":[{"name":"A","prio":1,"auto":["M"],"script":"GetSpinlock S1;GetSpinlock S3;ReleaseSpinlock S1;GetSpinlock S2;ReleaseSpinlock S2;ReleaseSpinlock S3;GetSpinlock S2;TryToGetSpinlock S1 v0;TryToGetSpinlock S3 v0;ReleaseSpinlock S3;ReleaseSpinlock S2;ReleaseSpinlock S1;TerminateTask"}]}]}
 stimuli {"0":"op op op op op op op op op op op op op"}
 run
@@ -147,7 +147,7 @@ post A
 end A
 ended
 
-// Calls for no spinlock, and a try for one's own, which leaves the variable.
+// Calls that name no spinlock, and a TryToGetSpinlock for the job's own spinlock, which leaves the variable as it is.
 config {"spinlocks":[{"name":"S"}],"cores":[{"id":0,"tasks":[{"name":"A","prio":1,"auto":["M"],"script":"GetSpinlock ?;TryToGetSpinlock ? v0;ReleaseSpinlock ?;ReleaseSpinlock S;set v0 7;TryToGetSpinlock S v0;addv v0 v0;TryToGetSpinlock S v0;addv v0 v0;ReleaseSpinlock S;status v1;TerminateTask"}]}]}
 stimuli {"0":"op op op op op op op op op op op op"}
 run
@@ -172,7 +172,7 @@ post A
 end A
 ended
 
-// Spinlocks are got and given back also while interrupts are suspended.
+// Spinlocks can be taken and given back while interrupts are suspended.
 config {"spinlocks":[{"name":"S"}],"cores":[{"id":0,"tasks":[{"name":"A","prio":1,"auto":["M"],"script":"SuspendAllInterrupts;GetSpinlock S;ActivateTask A;GetSpinlock S;ReleaseSpinlock S;TryToGetSpinlock S v0;ReleaseSpinlock S;ReleaseSpinlock S;StartCore 0;ShutdownAllCores 0;ResumeAllInterrupts;TerminateTask"}],"isrs":[{"name":"I","level":1,"script":""}]}]}
 stimuli {"0":"op op irq=I op op op op op op op op op op op op"}
 run
@@ -195,7 +195,7 @@ post A
 end A
 ended
 
-// A job that has used up its budget: the tick goes on, and dispatch comes when its spinlock was given back.
+// If a job has used up its budget, the tick goes on. The core dispatches once the job's spinlock is given back.
 config {"spinlocks":[{"name":"S"}],"cores":[{"id":0,"tasks":[{"name":"A","prio":2,"auto":["M"],"budget":2,"script":"GetSpinlock S;work"},{"name":"N","prio":1,"auto":["M"],"script":"GetSpinlock S;ReleaseSpinlock S;TerminateTask"},{"name":"H","prio":3,"script":"TerminateTask"}],"protection":"PRO_TERMINATETASKISR","counters":[{"name":"C","max":9}],"alarms":[{"name":"L","counter":"C","action":"ActivateTask H","auto":{"modes":["M"],"start":2,"cycle":0}}]}]}
 stimuli {"0":"op tick tick op op op op"}
 run
@@ -217,7 +217,7 @@ post N
 end N
 ended
 
-// Or it has held a resource for too many ticks: its core gives the spinlock back before another job runs.
+// A job has held a resource for too many ticks: its core gives the job's spinlock back before another job runs.
 config {"spinlocks":[{"name":"S"}],"cores":[{"id":0,"protection":"PRO_TERMINATETASKISR","resources":[{"name":"R","ceiling":2,"lock":2}],"tasks":[{"name":"A","prio":2,"auto":["M"],"script":"GetResource R;GetSpinlock S;jump 2"},{"name":"N","prio":1,"auto":["M"],"script":"GetSpinlock S;ReleaseSpinlock S;TerminateTask"}]}]}
 stimuli {"0":"op op tick tick op op op"}
 run
@@ -232,7 +232,7 @@ hook Protection E_OS_PROTECTION_LOCKED
 end A
 as before from pre N
 
-// Or the core goes down by its execution budget.
+// A job with a spinlock has used up its execution budget, and its core shuts down.
 config {"spinlocks":[{"name":"S"}],"cores":[{"id":0,"start":[1],"tasks":[{"name":"A","prio":1,"auto":["M"],"budget":2,"script":"work;GetSpinlock S;work"}]},{"id":1,"tasks":[{"name":"B","prio":1,"auto":["M"],"script":"work;work;work;GetSpinlock S;ReleaseSpinlock S;TerminateTask"}]}]}
 stimuli {"0":"op op tick tick op","1":"op op op op op op"}
 run
@@ -250,7 +250,7 @@ post B
 end B
 ended
 
-// An ISR that ends with a spinlock. Two spinlocks without an order are not got one in the other.
+// An ISR that ends with a spinlock. A job that has one of two spinlocks without an order may not take the other.
 config {"spinlocks":[{"name":"S1"},{"name":"S2"}],"cores":[{"id":0,"tasks":[{"name":"A","prio":1,"auto":["M"],"script":"TryToGetSpinlock S1 v0;TryToGetSpinlock S2 v1;TerminateTask"}],"isrs":[{"name":"I","level":1,"script":"GetSpinlock S2;SuspendAllInterrupts"}]}]}
 stimuli {"0":"irq=I op op op op op op"}
 run
@@ -277,7 +277,7 @@ stat A GetSpinlock E_OK
 core 1 .. pre B
 stalled
 
-// As many spinlocks as there may be, all of one job.
+// The greatest number of spinlocks, all held by one job.
 config {"spinlocks":[{"name":"S0","next":"S1"},{"name":"S1","next":"S2"},{"name":"S2","next":"S3"},{"name":"S3","next":"S4"},{"name":"S4","next":"S5"},{"name":"S5","next":"S6"},{"name":"S6","next":"S7"},{"name":"S7","next":"S8"},{"name":"S8","next":"S9"},{"name":"S9","next":"Sa"},{"name":"Sa","next":"Sb"},{"name":"Sb","next":"Sc"},{"name":"Sc","next":"Sd"},{"name":"Sd","next":"Se"},{"name":"Se","next":"Sf"},{"name":"Sf"}],"cores":[{"id":0,"tasks":[{"name":"A","prio":1,"auto":["M"],"script":"GetSpinlock S0;GetSpinlock S1;GetSpinlock S2;GetSpinlock S3;GetSpinlock S4;GetSpinlock S5;GetSpinlock S6;GetSpinlock S7;GetSpinlock S8;GetSpinlock S9;GetSpinlock Sa;GetSpinlock Sb;GetSpinlock Sc;GetSpinlock Sd;GetSpinlock Se;GetSpinlock Sf"}]}]}
 stimuli {"0":"op op op op op op op op op op op op op op op op op"}
 items 0
@@ -394,14 +394,14 @@ stimuli {"2":"op op op"}
 run
 as run from core 2
 
-// A spinlock that no script names binds nobody.
+// A spinlock that no script names binds no core.
 config {"spinlocks":[{"name":"S"}],"cores":[{"id":0,"start":[1]},{"id":1}]}
 check
 ok
 core 0 bound
 core 1 separate
 
-// One that a script names binds that core, also an ISR's script, and also where no other core names it.
+// A spinlock binds each core with a script that names it, of a task or an ISR, even if no other core names it.
 config {"spinlocks":[{"name":"S"}],"cores":[{"id":0,"start":[1,2]},{"id":1,"isrs":[{"name":"I","level":1,"script":"work;ReleaseSpinlock S"}]},{"id":2,"tasks":[{"name":"X","prio":1,"script":"TryToGetSpinlock ? v0;ReleaseSpinlock ?"}]}]}
 check
 ok
@@ -416,14 +416,14 @@ core 0 bound
 core 1 separate
 core 2 off
 
-// Members `spinlocks` that are accepted.
+// Values of the member `spinlocks` that are accepted.
 config {"spinlocks":@,"cores":[{"id":0,"tasks":[{"name":"A","prio":1,"script":""}]}]}
 with []|[{"name":"S","next":null}]|[{"name":"S1","next":"S2"},{"name":"S2","next":"S3"},{"name":"S3"},{"name":"S4","next":"S3"}]|[{"name":"S1"},{"name":"S2","next":"S1"},{"name":"none"}]|[{"name":"S0","next":"S1"},{"name":"S1","next":"S2"},{"name":"S2","next":"S3"},{"name":"S3","next":"S4"},{"name":"S4","next":"S5"},{"name":"S5","next":"S6"},{"name":"S6","next":"S7"},{"name":"S7","next":"S8"},{"name":"S8","next":"S9"},{"name":"S9","next":"Sa"},{"name":"Sa","next":"Sb"},{"name":"Sb","next":"Sc"},{"name":"Sc","next":"Sd"},{"name":"Sd","next":"Se"},{"name":"Se","next":"Sf"},{"name":"Sf"}]
 check
 ok
 core 0 separate
 
-// Others, beside a task A and the mode M.
+// Values that are refused, beside a task A and the mode M.
 with {}|null|["S"]|[{}]|[{"name":"1S"}]|[{"name":"S","next":1}]|[{"name":"S","next":"?"}]|[{"name":"S","method":"LOCK_NOTHING"}]
 check
 fault 2 Shape
@@ -444,8 +444,8 @@ with [{"name":"S","next":"S"}]|[{"name":"S1","next":"S2"},{"name":"S2","next":"S
 check
 fault 7 SpinOrder
 
-// Operations that are in form, and name nothing that is not there, in a script of a task, and in one of an ISR. Core
-// 0 starts cores, so it is bound in any case.
+// Operations of the right form whose names are known, in a script of a task, and in one of an ISR. Core 0 starts
+// cores, so it is bound in any case.
 with GetSpinlock S|GetSpinlock ?|TryToGetSpinlock S v0|TryToGetSpinlock ? v7|ReleaseSpinlock S|ReleaseSpinlock ?
 config {"spinlocks":[{"name":"S"}],"cores":[{"id":0,"start":[0],"tasks":[{"name":"A","prio":1,"script":"@"}]},{"id":1}]}
 check
@@ -457,7 +457,7 @@ config {"spinlocks":[{"name":"S"}],"cores":[{"id":0,"start":[0],"isrs":[{"name":
 check
 as before
 
-// Operations that name what is not there, or no spinlock.
+// Operations with an unknown name, or with the name of an object of another kind.
 with GetSpinlock X|GetSpinlock A|GetSpinlock M|TryToGetSpinlock X v0|ReleaseSpinlock A|ActivateTask S
 config {"spinlocks":[{"name":"S"}],"cores":[{"id":0,"start":[0],"tasks":[{"name":"A","prio":1,"script":"@"}]},{"id":1}]}
 check
@@ -467,7 +467,7 @@ config {"spinlocks":[{"name":"S"}],"cores":[{"id":0,"start":[0],"isrs":[{"name":
 check
 as before
 
-// Operations that are not in form.
+// Operations of a wrong form.
 with GetSpinlock|GetSpinlock S S|GetSpinlock 0|GetSpinlock S;|getSpinlock S|TryToGetSpinlock|TryToGetSpinlock S|TryToGetSpinlock S v8|TryToGetSpinlock S 0|TryToGetSpinlock v0 S|ReleaseSpinlock|ReleaseSpinlock ? ?|ReleaseSpinlock S v0
 check
 fault 10 BadScript
@@ -478,6 +478,6 @@ as before
 "#;
 
 #[test]
-fn spinlocks_come_to_their_texts(rt: HostRuntime) -> Result<(), Difference> {
+fn spinlocks_print_their_texts(rt: HostRuntime) -> Result<(), Difference> {
     play_table(&rt, rt.alloc(), RUNS, 96)
 }

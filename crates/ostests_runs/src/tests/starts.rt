@@ -35,7 +35,7 @@ core 1
 conflict
 ended
 
-// A core that names no mode is in the conflict of the others.
+// A core that names no mode takes part in the conflict of the others.
 config {"modes":["M","N"],"cores":[{"id":0,"mode":"DONOTCARE","start":[1,2]},{"id":1,"mode":"M"},{"id":2,"mode":"N"}]}
 stimuli {}
 run
@@ -49,7 +49,7 @@ core 2
 conflict
 ended
 
-// A core that is never started is not in it.
+// A core that is never started takes no part in a conflict.
 config {"modes":["M","N"],"cores":[{"id":0,"start":[1]},{"id":1,"mode":"M","tasks":[{"name":"B","prio":1,"auto":["M"],"script":"TerminateTask"}]},{"id":2,"mode":"N"}]}
 stimuli {}
 run
@@ -60,7 +60,7 @@ core 1 .. pre B
 core 2
 ended
 
-// Two cores that name none.
+// Two cores that name no mode.
 config {"cores":[{"id":0,"mode":"DONOTCARE","start":[1],"counters":[{"name":"C","max":9}],"alarms":[{"name":"L","counter":"C","action":"ActivateTask A","auto":{"modes":["M"],"start":1,"cycle":0}}],"tables":[{"name":"S","counter":"C","duration":2,"points":[{"offset":0,"actions":["ActivateTask A"]}],"auto":{"modes":["M"],"offset":1}}],"tasks":[{"name":"A","prio":1,"auto":["M"],"script":"TerminateTask"}]},{"id":1,"mode":"DONOTCARE","tasks":[{"name":"B","prio":1,"auto":["M"],"script":"TerminateTask"}]}]}
 stimuli {"0":"op tick"}
 // If no core names a mode, StartupHook is called and nothing autostarts.
@@ -108,7 +108,7 @@ drained .. last
 replay 0
 as run
 
-// A core that names a mode passes in it or in a conflict; one that names none in any.
+// A core that names a mode passes only in that mode or in a conflict; a core that names none passes in each case.
 first
 on
 entered
@@ -187,8 +187,8 @@ post A
 end A
 ended
 
-// StartCore comes too late: of the invalid identifier, of cores that are not configured, and of a core that was
-// started, one that was never started, and the caller's own. No status calls the hook.
+// StartCore comes too late. It names the invalid identifier, two cores that are not configured, a started core, a core
+// that was never started, and the caller's own core. No status calls ErrorHook.
 config {"cores":[{"id":0,"start":[1],"tasks":[{"name":"A","prio":1,"auto":["M"],"script":"StartCore ?;StartCore 5;StartCore 255;StartCore 1;StartCore 2;StartCore 0;status v0;TerminateTask"}]},{"id":1},{"id":2}]}
 stimuli {"0":"op op op op op op op op"}
 run
@@ -224,7 +224,7 @@ post A
 end A
 ended
 
-// An ISR may call both. The number is that of the started cores, and not of the configured ones.
+// An ISR may call StartCore and GetNumberOfActivatedCores, which counts the started cores and not the configured ones.
 config {"cores":[{"id":0,"start":[1,2],"tasks":[{"name":"A","prio":1,"auto":["M"],"script":"TerminateTask"}],"isrs":[{"name":"I","level":1,"script":"StartCore 1;GetNumberOfActivatedCores v7;StartCore ?"}]},{"id":1},{"id":2},{"id":3}]}
 stimuli {"0":"irq=I op op op op op"}
 run
@@ -244,7 +244,7 @@ hook Startup
 core 2 .. core 3
 ended
 
-// Operations that are in form, in a script of a task, and in one of an ISR. Core 0 starts cores, so it is bound in
+// Operations of the right form, in a script of a task, and in one of an ISR. Core 0 starts cores, so it is bound in
 // any case.
 with StartCore ?|StartCore 0|StartCore 255|GetNumberOfActivatedCores v7|ShutdownOS 0|ShutdownOS 16|ShutdownAllCores 0|ShutdownAllCores 16
 config {"cores":[{"id":0,"start":[0],"tasks":[{"name":"A","prio":1,"script":"@"}]},{"id":1}]}
@@ -257,7 +257,7 @@ config {"cores":[{"id":0,"start":[0],"isrs":[{"name":"A","level":1,"script":"@"}
 check
 as before
 
-// Operations that are not.
+// Operations of a wrong form.
 with StartCore|StartCore 256|StartCore 01|StartCore -1|StartCore x|StartCore A|StartCore 1 2|StartCore 18446744073709551616|GetNumberOfActivatedCores|GetNumberOfActivatedCores v8|GetNumberOfActivatedCores ?|GetNumberOfActivatedCores 0|ShutdownOS|ShutdownOS 17|ShutdownOS 00|ShutdownOS ?|ShutdownOS E_OK|shutdownOS 0|ShutdownAllCores|ShutdownAllCores 17|ShutdownAllCores ?|ShutdownAllCores 0 0
 config {"cores":[{"id":0,"start":[0],"tasks":[{"name":"A","prio":1,"script":"@"}]},{"id":1}]}
 check
@@ -277,7 +277,7 @@ core 1 bound
 core 2 bound
 core 3 off
 
-// A core that is never started binds nobody by its mode.
+// A core that is never started binds no other core by its mode.
 config {"modes":["M","N"],"cores":[{"id":0,"start":[1]},{"id":1},{"id":2,"mode":"N"}]}
 check
 ok
@@ -298,7 +298,7 @@ check
 ok
 core 0 bound
 
-// A StartCore binds the core that calls it, also one of nobody, and not the core that it names.
+// A StartCore, even one that names no core, binds the core that calls it, and not the core that it names.
 config {"cores":[{"id":0,"start":[1,2]},{"id":1,"tasks":[{"name":"X","prio":1,"script":"StartCore ?"}]},{"id":2,"tasks":[{"name":"Y","prio":1,"script":"ShutdownOS 0"}]}]}
 check
 ok
@@ -313,7 +313,7 @@ core 0 bound
 core 1 bound
 core 2 separate
 
-// So does the question how many cores are started.
+// GetNumberOfActivatedCores binds the core that calls it, too.
 config {"cores":[{"id":0,"start":[1,2]},{"id":1,"isrs":[{"name":"I","level":1,"script":"GetNumberOfActivatedCores v0"}]},{"id":2}]}
 check
 ok
@@ -321,7 +321,7 @@ core 0 bound
 core 1 bound
 core 2 separate
 
-// A shutdown of all cores binds all, also in an ISR's script, and in one of a core that is never started.
+// ShutdownAllCores binds all cores, even in an ISR's script, or in a script of a core that is never started.
 config {"cores":[{"id":0,"start":[1,2]},{"id":1,"isrs":[{"name":"I","level":1,"script":"ShutdownAllCores 0"}]},{"id":2}]}
 check
 ok
@@ -343,6 +343,6 @@ core 0 bound
 "#;
 
 #[test]
-fn modes_and_starts_come_to_their_texts(rt: HostRuntime) -> Result<(), Difference> {
+fn modes_and_starts_print_their_texts(rt: HostRuntime) -> Result<(), Difference> {
     play_table(&rt, rt.alloc(), RUNS, 93)
 }

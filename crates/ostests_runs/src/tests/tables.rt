@@ -3,8 +3,8 @@
 use osplay::{Difference, play_table};
 
 const RUNS: &str = r#"
-// A table activates a task and releases one that waits, at one of its points: first the activation. At its end the
-// next table begins, whose point of offset 0 is done at once, and again at the end of each of its periods.
+// At an expiry point a table activates a task and releases a waiting task; the activation comes first. At the table's
+// end the next table begins. Its point of offset 0 is processed at once, and again at the end of each of its periods.
 config {"cores":[{"id":0,"tasks":[{"name":"W","prio":2,"extended":true,"auto":["M"],"script":"StartScheduleTableRel S1 1;NextScheduleTable S1 S2;WaitEvent 1;ClearEvent 1;WaitEvent 2"},{"name":"B","prio":1,"script":"TerminateTask"}],"counters":[{"name":"C","max":9}],"tables":[{"name":"S1","counter":"C","duration":3,"points":[{"offset":1,"actions":["SetEvent W 1","ActivateTask B"]}]},{"name":"S2","counter":"C","duration":2,"points":[{"offset":0,"actions":["ActivateTask B"]}],"repeating":true}]}]}
 stimuli {"0":"op op op tick tick op op op tick tick op tick tick"}
 run
@@ -39,8 +39,8 @@ act B
 pre B
 ended
 
-// Each check of the services that start a table, stop it, and ask for its status, which is also that of one that
-// waits for its offset.
+// Each check of the services that start a table, stop it, and ask for its status. The status is also asked for while
+// the table waits for its offset.
 config {"cores":[{"id":0,"counters":[{"name":"C","max":9}],"tables":[{"name":"S","counter":"C","duration":4,"points":[{"offset":2,"actions":["ActivateTask A"]}]},{"name":"U","counter":"C","duration":3,"points":[{"offset":0,"actions":["ActivateTask A"]}]}],"tasks":[{"name":"A","prio":1,"auto":["M"],"script":"StartScheduleTableRel ? 1;StartScheduleTableRel S 0;StartScheduleTableRel S 8;GetScheduleTableStatus S v0;StartScheduleTableRel S 7;StartScheduleTableRel S 7;StartScheduleTableRel S 8;StartScheduleTableAbs S 10;GetScheduleTableStatus S v0;add v0 0;StartScheduleTableAbs ? 0;StartScheduleTableAbs U 10;StopScheduleTable ?;StopScheduleTable U;StartScheduleTableAbs U 9;StartScheduleTableRel U 9;StopScheduleTable U;StopScheduleTable U;StartScheduleTableRel U 9;GetScheduleTableStatus ? v0;status v1;TerminateTask"}]}]}
 stimuli {"0":"op op op op op op op op op op op op op op op op op op op op op op"}
 run
@@ -83,8 +83,8 @@ post A
 end A
 ended
 
-// Each check of NextScheduleTable, in their order: what is no table or goes by another counter, then a second table
-// that is not stopped, and then a first one that does not run. A table that waits is not started.
+// NextScheduleTable checks, in this order, that both tables are valid and of one counter, that the second table is
+// stopped, and that the first table runs. A table that waits to be the next cannot be started.
 config {"cores":[{"id":0,"counters":[{"name":"C","max":9},{"name":"D","max":9}],"tables":[{"name":"S","counter":"C","duration":4,"points":[{"offset":2,"actions":["ActivateTask A"]}]},{"name":"U","counter":"C","duration":3,"points":[{"offset":0,"actions":["ActivateTask A"]}]},{"name":"V","counter":"D","duration":3,"points":[{"offset":0,"actions":["ActivateTask A"]}]},{"name":"X","counter":"C","duration":3,"points":[{"offset":0,"actions":["ActivateTask A"]}]}],"tasks":[{"name":"A","prio":1,"auto":["M"],"script":"StartScheduleTableRel S 1;NextScheduleTable ? U;NextScheduleTable S ?;NextScheduleTable S V;NextScheduleTable V S;NextScheduleTable S S;NextScheduleTable U S;NextScheduleTable U U;NextScheduleTable U X;NextScheduleTable S U;NextScheduleTable S U;NextScheduleTable U U;NextScheduleTable U X;StartScheduleTableRel U 0;StartScheduleTableAbs U 10;GetScheduleTableStatus U v0;TerminateTask"}]}]}
 stimuli {"0":"op op op op op op op op op op op op op op op op op"}
 run
@@ -112,7 +112,7 @@ post A
 end A
 ended
 
-// A table that waits is replaced, and the new one begins.
+// A table that waits to be the next is replaced, and the new one begins.
 config {"cores":[{"id":0,"counters":[{"name":"C","max":9}],"tables":[{"name":"U","counter":"C","duration":2,"points":[{"offset":0,"actions":["ActivateTask B"]}]},{"name":"S","counter":"C","duration":2,"points":[{"offset":1,"actions":["ActivateTask B"]}],"repeating":true},{"name":"V","counter":"C","duration":2,"points":[{"offset":0,"actions":["ActivateTask B"]},{"offset":2,"actions":["ActivateTask B"]}]}],"tasks":[{"name":"A","prio":2,"auto":["M"],"script":"StartScheduleTableRel S 1;NextScheduleTable S U;NextScheduleTable S V;GetScheduleTableStatus U v0;GetScheduleTableStatus V v1;TerminateTask"},{"name":"B","prio":1,"script":"TerminateTask"}]}]}
 stimuli {"0":"op op op op op op tick tick op tick op tick tick op tick tick"}
 run
@@ -145,8 +145,8 @@ tick
 tick
 ended
 
-// A table that waits is stopped, and the other one ends alone; a table that is stopped takes the one
-// that waits for it along.
+// If the table that waits to be the next is stopped, the first one ends alone. If the first one is
+// stopped, the one that waits is stopped with it.
 config {"cores":[{"id":0,"counters":[{"name":"C","max":9}],"tables":[{"name":"S","counter":"C","duration":1,"points":[{"offset":1,"actions":["ActivateTask B"]}]},{"name":"U","counter":"C","duration":1,"points":[{"offset":0,"actions":["ActivateTask B"]}]}],"tasks":[{"name":"B","prio":1,"script":"GetScheduleTableStatus S v0;GetScheduleTableStatus U v1;TerminateTask"},{"name":"A","prio":2,"extended":true,"auto":["M"],"script":"StartScheduleTableRel S 1;NextScheduleTable S U;StopScheduleTable U;GetScheduleTableStatus U v0;GetScheduleTableStatus S v1;WaitEvent 1;StartScheduleTableRel S 1;NextScheduleTable S U;StopScheduleTable S;GetScheduleTableStatus U v0;TerminateTask"},{"name":"N","prio":3,"script":"SetEvent A 1;TerminateTask"}],"alarms":[{"name":"L","counter":"C","action":"ActivateTask N","auto":{"modes":["M"],"start":4,"cycle":0}}]}]}
 stimuli {"0":"op op op op op op tick tick tick op op op tick op op op op op op op tick tick tick"}
 run
@@ -190,8 +190,8 @@ tick
 tick
 ended
 
-// A point on the end of a period comes before that end. A table whose last point comes earlier stops, or repeats,
-// behind its final delay alone.
+// A point at the end of a period is processed before that end. If a table's last point comes earlier, the table stops,
+// or repeats, only after its final delay.
 config {"cores":[{"id":0,"counters":[{"name":"C","max":9}],"tables":[{"name":"S","counter":"C","duration":3,"points":[{"offset":1,"actions":["ActivateTask B"]},{"offset":3,"actions":["ActivateTask B"]}],"auto":{"modes":["M"],"offset":1}},{"name":"U","counter":"C","duration":3,"points":[{"offset":1,"actions":["ActivateTask B"]}],"auto":{"modes":["M"],"offset":2}},{"name":"V","counter":"C","duration":3,"points":[{"offset":2,"actions":["ActivateTask B"]}],"repeating":true,"auto":{"modes":["M"],"offset":1}}],"tasks":[{"name":"B","prio":1,"activations":9,"script":"TerminateTask"}]}]}
 stimuli {"0":"tick tick tick tick tick tick tick tick tick"}
 run
@@ -221,8 +221,8 @@ point V 2
 act B
 ended
 
-// A point of offset 0 is done where each period begins: the first one behind the table's offset, or at the value
-// that it is started for, which is a full turn away if the counter has it.
+// A point of offset 0 is processed where each period begins. The first period begins after the table's offset, or at
+// the value that the table is started for. If the counter already has that value, this is a full turn later.
 config {"cores":[{"id":0,"counters":[{"name":"C","max":3}],"tables":[{"name":"S","counter":"C","duration":3,"points":[{"offset":0,"actions":["ActivateTask B"]}]},{"name":"U","counter":"C","duration":2,"points":[{"offset":0,"actions":["ActivateTask B"]},{"offset":1,"actions":["ActivateTask B"]}],"repeating":true},{"name":"V","counter":"C","duration":2,"points":[{"offset":0,"actions":["ActivateTask B"]}]}],"tasks":[{"name":"A","prio":1,"auto":["M"],"script":"StartScheduleTableRel S 2;StartScheduleTableAbs U 0;StartScheduleTableAbs V 3;TerminateTask"},{"name":"B","prio":0,"activations":9,"script":"TerminateTask"}]}]}
 stimuli {"0":"op op tick op op tick tick tick tick tick tick tick"}
 run
@@ -259,8 +259,8 @@ point U 0
 act B
 ended
 
-// Tables that begin at the end of another one stand behind it and before it in the list: neither goes on by the same
-// count, and neither waits for an offset.
+// Tables that follow another one may come after it or before it in the list. The tick that starts such a table does not
+// advance it too, and the table does not wait for an offset.
 config {"cores":[{"id":0,"counters":[{"name":"C","max":9}],"tables":[{"name":"U","counter":"C","duration":2,"points":[{"offset":1,"actions":["ActivateTask N"]}],"repeating":true},{"name":"S","counter":"C","duration":1,"points":[{"offset":0,"actions":["ActivateTask N"]}]},{"name":"V","counter":"C","duration":2,"points":[{"offset":1,"actions":["ActivateTask B"]},{"offset":2,"actions":["ActivateTask N"]}]}],"tasks":[{"name":"A","prio":2,"auto":["M"],"script":"StartScheduleTableRel S 1;NextScheduleTable S V;TerminateTask"},{"name":"B","prio":1,"script":"NextScheduleTable V U;TerminateTask"},{"name":"N","prio":0,"activations":8,"script":"TerminateTask"}]}]}
 stimuli {"0":"op op op tick tick tick op op tick tick tick tick"}
 run
@@ -299,8 +299,8 @@ point U 1
 act N
 ended
 
-// By one tick the alarms of a counter act first, then its tables, both in their order; then the next counter goes
-// on. A counter that a task advances does the same before the service returns.
+// At a tick, the alarms of a counter act first, then its tables, both in their order; then the next counter is
+// incremented. If a task increments a counter, the same happens for that counter before the service returns.
 config {"cores":[{"id":0,"counters":[{"name":"C","max":9},{"name":"D","max":9},{"name":"E","max":9,"software":true}],"alarms":[{"name":"K","counter":"D","action":"ActivateTask B","auto":{"modes":["M"],"start":1,"cycle":1}},{"name":"L","counter":"C","action":"ActivateTask B","auto":{"modes":["M"],"start":1,"cycle":0}},{"name":"N","counter":"E","action":"ActivateTask B","auto":{"modes":["M"],"start":1,"cycle":0}}],"tables":[{"name":"R","counter":"D","duration":1,"points":[{"offset":0,"actions":["ActivateTask B"]}],"auto":{"modes":["M"],"offset":1}},{"name":"S","counter":"C","duration":1,"points":[{"offset":0,"actions":["ActivateTask B"]}],"auto":{"modes":["M"],"offset":1}},{"name":"U","counter":"C","duration":1,"points":[{"offset":0,"actions":["ActivateTask B"]}],"auto":{"modes":["M"],"offset":1}},{"name":"V","counter":"E","duration":1,"points":[{"offset":0,"actions":["ActivateTask B"]}],"auto":{"modes":["M"],"offset":1}}],"tasks":[{"name":"A","prio":2,"auto":["M"],"script":"IncrementCounter E;IncrementCounter E;TerminateTask"},{"name":"B","prio":1,"activations":9,"script":"TerminateTask"}]}]}
 stimuli {"0":"tick op tick op op"}
 run
@@ -334,8 +334,8 @@ end A
 pre B
 ended
 
-// Of a point's actions first the activations and then the events, both in their order; one that is refused calls the
-// hook, and the others are done.
+// Of a point's actions, the activations come first and then the events, both in their order. If an action is refused,
+// ErrorHook is called, and the other actions are done.
 config {"cores":[{"id":0,"counters":[{"name":"C","max":9}],"tables":[{"name":"S","counter":"C","duration":9,"points":[{"offset":0,"actions":["SetEvent W 1","ActivateTask A","SetEvent A 1","ActivateTask B","SetEvent V 2","ActivateTask V"]}],"auto":{"modes":["M"],"offset":1}}],"tasks":[{"name":"A","prio":1,"auto":["M"],"script":"TerminateTask"},{"name":"W","prio":2,"extended":true,"auto":["M"],"script":"WaitEvent 1;TerminateTask"},{"name":"B","prio":3,"script":"TerminateTask"},{"name":"V","prio":1,"extended":true,"script":"GetEvent V v0;TerminateTask"}]}]}
 stimuli {"0":"op tick op op op op op"}
 run
@@ -362,8 +362,8 @@ post V
 end V
 ended
 
-// What a table does on another core goes there by envelopes without replies, and is refused there; on a core that
-// was never started it is refused here. A table that a task of another core makes begin.
+// A table's actions on another core are sent in envelopes without replies, and that core may refuse them. If that core
+// was never started, core 0 refuses them. Also, a task names the next table, which begins when the first one ends.
 config {"cap":1,"cores":[{"id":0,"start":[1],"counters":[{"name":"C","max":3}],"tables":[{"name":"S","counter":"C","duration":2,"points":[{"offset":1,"actions":["SetEvent X 4","ActivateTask N","ActivateTask X","ActivateTask B","SetEvent Y 2"]},{"offset":2,"actions":["ActivateTask X"]}],"auto":{"modes":["M"],"offset":1}},{"name":"U","counter":"C","duration":1,"points":[{"offset":0,"actions":["SetEvent X 4"]}]}],"tasks":[{"name":"B","prio":1,"script":"NextScheduleTable S U;TerminateTask"}]},{"id":1,"tasks":[{"name":"X","prio":2,"extended":true,"script":"WaitEvent 4;TerminateTask"},{"name":"Y","prio":1,"extended":true,"auto":["M"],"script":"WaitEvent 2;ActivateTask B;TerminateTask"}]},{"id":2,"tasks":[{"name":"N","prio":1,"script":"TerminateTask"}]}]}
 stimuli {"0":"tick tick op op tick tick","1":"op"}
 run
@@ -407,7 +407,7 @@ in 0 SetEvent X 4 E_OK
 core 2
 ended
 
-// Tables that start by themselves, in the mode that their list names, behind the tasks and before any of these runs.
+// Tables that autostart in the mode that their list names, after the tasks autostart and before any task runs.
 config {"cores":[{"id":0,"counters":[{"name":"C","max":9}],"tables":[{"name":"S","counter":"C","duration":2,"points":[{"offset":1,"actions":["ActivateTask B"]}],"repeating":true,"auto":{"modes":["M","M"],"offset":2}},{"name":"U","counter":"C","duration":2,"points":[{"offset":0,"actions":["ActivateTask B"]}],"auto":{"modes":[],"offset":1}},{"name":"V","counter":"C","duration":2,"points":[{"offset":0,"actions":["ActivateTask B"]}]},{"name":"X","counter":"C","duration":2,"points":[{"offset":1,"actions":["ActivateTask B"]},{"offset":2,"actions":["ActivateTask B"]}],"auto":{"modes":["M"],"offset":8}}],"tasks":[{"name":"A","prio":1,"auto":["M"],"script":"GetScheduleTableStatus S v0;GetScheduleTableStatus U v0;GetScheduleTableStatus V v0;TerminateTask"},{"name":"B","prio":1,"activations":9,"script":"TerminateTask"}]}]}
 stimuli {"0":"op op op op tick tick tick op tick tick op tick tick tick tick"}
 run
@@ -436,7 +436,7 @@ point X 1
 act B
 ended
 
-// Faults of a table that repeats without a final delay, of one of another core, and of an operation with a word too many.
+// Faults: a repeating table without a final delay, a table of another core, and an operation with a word too many.
 config {"cores":[{"id":0,"tasks":[{"name":"A","prio":1,"script":"TerminateTask"}],"counters":[{"name":"C","max":9}],"tables":[{"name":"S","counter":"C","duration":3,"repeating":true,"points":[{"offset":3,"actions":["ActivateTask A"]}]}]},{"id":1,"counters":[{"name":"F","max":9}],"tables":[{"name":"G","counter":"F","duration":1,"points":[{"offset":0,"actions":["ActivateTask A"]}]}]}]}
 check
 fault 9 BadTable
@@ -451,6 +451,6 @@ fault 10 BadScript
 "#;
 
 #[test]
-fn tables_come_to_their_texts(rt: HostRuntime) -> Result<(), Difference> {
+fn tables_print_their_texts(rt: HostRuntime) -> Result<(), Difference> {
     play_table(&rt, rt.alloc(), RUNS, 15)
 }

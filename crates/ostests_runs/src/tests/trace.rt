@@ -32,7 +32,7 @@ fn report(alloc: Global, core: CoreId, marks: Vec<Mark>) -> Report {
     }
 }
 
-// The marks of core 0 have these lines.
+// Checks that the report of core 0 with these marks is written as these lines.
 fn compare(rt: &impl Abort, alloc: Global, marks: &[Mark], lines: &str) -> Result<(), Fail> {
     let report = report(alloc, ZERO, marks.to_vec(alloc)?);
     let config = read_config(alloc, CONFIG)?;
@@ -64,14 +64,14 @@ fn exchange(alloc: Global) -> Result<Vec<Report>, AllocError> {
     Ok(reports)
 }
 
-// Memory takes the text of the exchange.
+// Checks that a sink in memory takes the text of the exchange, which these reports are.
 fn write_to_memory(rt: &impl Abort, alloc: Global, config: &Config, reports: &[Report]) {
     let mut out = MemorySink::new(Vec::new(alloc));
     assert!(rt; write_reports(config, &mut out, reports).is_ok());
     assert!(rt; out.bytes.as_slice() == marks::EXCHANGE_LINES.as_bytes());
 }
 
-// So does a stream.
+// Checks that a stream takes the text of the exchange, which these reports are.
 fn write_to_a_stream(rt: &impl Abort, alloc: Global, config: &Config, reports: &[Report]) {
     let mut stream = WriteSink::new(Vec::new(alloc));
     assert!(rt; write_reports(config, &mut stream, reports).is_ok());
@@ -96,8 +96,8 @@ fn a_report_is_shown_by_how_much_it_has(rt: HostRuntime) -> Result<(), Fail> {
     Ok(())
 }
 
-// Behind so many writes of three bytes one was refused, and the sink has a prefix of the text: all before that write, and
-// nothing that stands behind it. The outcome says so, unless there was no such write.
+// Checks a sink that refused the write after `writes` others: it has a prefix of the text. If that is not the whole
+// text, the outcome is a failed write, and the sink counts one; else neither. Answers how many bytes the sink has.
 fn judge(
     rt: &impl Abort,
     out: &FailingSink,
@@ -123,7 +123,7 @@ fn judge(
     bytes.len()
 }
 
-// How many bytes of the reports' text a sink takes that refuses the write behind so many.
+// How many bytes of the reports' text a sink takes, if it refuses the write after `writes` others. Judges the sink.
 fn taken_of(
     rt: &impl Abort,
     alloc: Global,
@@ -137,7 +137,8 @@ fn taken_of(
     judge(rt, &out, outcome, text, writes)
 }
 
-// Each write of the exchange is refused in turn, and at last none.
+// Refuses each write of the exchange's text in turn, and at last none. Checks that the sink takes three bytes by each
+// write before the refused one.
 fn refuse_each(rt: &impl Abort, alloc: Global, refusal: Refusal) -> Result<(), Fail> {
     let config = read_config(alloc, CONFIG)?;
     let reports = exchange(alloc)?;
@@ -160,12 +161,13 @@ fn refuse_each(rt: &impl Abort, alloc: Global, refusal: Refusal) -> Result<(), F
 }
 
 #[test]
-fn each_refused_write_leaves_a_beginning(rt: HostRuntime) -> Result<(), Fail> {
+fn each_refused_write_leaves_a_prefix(rt: HostRuntime) -> Result<(), Fail> {
     refuse_each(&rt, rt.alloc(), Refusal::Fails)?;
     refuse_each(&rt, rt.alloc(), Refusal::TakesNothing)
 }
 
-// More writes leave more of this text, and at last all of it.
+// Refuses a write of the report's text, each time after more writes. Checks that the sink has no less of the text than
+// the time before, and at last all of it.
 fn refuse_some(rt: &impl Abort, alloc: Global, config: &Config, report: &Report, text: &[u8]) {
     let reports = slice::from_ref(report);
     let mut before = 0;
@@ -187,7 +189,7 @@ fn many_lines_are_written_in_parts(rt: HostRuntime) -> Result<(), Fail> {
     Ok(())
 }
 
-// So many marks of tasks.
+// `count` marks of tasks.
 fn marks_of(alloc: Global, count: usize) -> Result<Vec<Mark>, AllocError> {
     let mut marks = Vec::with_capacity(alloc, count)?;
     for at in 0..count {
@@ -196,7 +198,7 @@ fn marks_of(alloc: Global, count: usize) -> Result<Vec<Mark>, AllocError> {
     Ok(marks)
 }
 
-// So many marks of core 0, an eighth of them once more, and few of core 1.
+// Reports of `count` marks of core 0, of an eighth as many marks of core 0, and of a few marks of core 1.
 fn uneven(alloc: Global, count: usize) -> Result<Vec<Report>, AllocError> {
     let mut reports = Vec::with_capacity(alloc, 3)?;
     for count in [count, count / 8] {
@@ -213,7 +215,7 @@ fn text_of(alloc: Global, config: &Config, reports: &[Report]) -> Result<Vec<u8>
     Ok(out.bytes)
 }
 
-// Threads write the same.
+// Checks that the text that threads make of these reports is this one.
 fn compare_by_threads(
     rt: &(impl Abort + Threads + Sync),
     alloc: Global,
@@ -227,7 +229,8 @@ fn compare_by_threads(
     Ok(())
 }
 
-// There are too few lines for threads, some more parts than a round has, and just as many lines as a round has, with others.
+// The reports have too few lines for threads; then some more parts than a round has; then a first report that fills a
+// round.
 #[test]
 fn threads_write_the_same_text(rt: HostRuntime) -> Result<(), Fail> {
     let config = read_config(rt.alloc(), CONFIG)?;
@@ -240,7 +243,8 @@ fn threads_write_the_same_text(rt: HostRuntime) -> Result<(), Fail> {
     Ok(())
 }
 
-// A write of what threads made is refused, and the sink has a prefix of the text.
+// Refuses a write of what threads made of these reports, each time after more writes. Checks that the sink has a prefix
+// of their text.
 fn refuse_by_threads(
     rt: &(impl Abort + Threads + Sync),
     alloc: Global,
@@ -257,7 +261,7 @@ fn refuse_by_threads(
 }
 
 #[test]
-fn a_refused_write_of_what_threads_made_leaves_a_beginning(rt: HostRuntime) -> Result<(), Fail> {
+fn a_refused_write_of_what_threads_made_leaves_a_prefix(rt: HostRuntime) -> Result<(), Fail> {
     let config = read_config(rt.alloc(), CONFIG)?;
     for count in [100, 40_000] {
         let reports = uneven(rt.alloc(), count)?;
@@ -266,7 +270,8 @@ fn a_refused_write_of_what_threads_made_leaves_a_beginning(rt: HostRuntime) -> R
     Ok(())
 }
 
-// More writes leave more of the words' text, and at last all of it.
+// Refuses a write of the words' text, each time after more writes. Checks that the sink has no less of the text than
+// the time before, and at last all of it.
 fn refuse_words(rt: &impl Abort, alloc: Global, words: &[Word], text: &[u8]) {
     let mut before = 0;
     for writes in [0, 1, 5460, 5461, 5462, 9000, 15000, 20000, 30000] {
@@ -279,7 +284,7 @@ fn refuse_words(rt: &impl Abort, alloc: Global, words: &[Word], text: &[u8]) {
     assert!(rt; before == text.len());
 }
 
-// Behind words for which there is room comes one for which there never is.
+// Behind words for which there is room comes a word for which there is never room.
 #[test]
 fn a_long_word_is_written_by_itself(rt: HostRuntime) -> Result<(), Fail> {
     let ticks = "tick".repeat(rt.alloc(), 4000)?;

@@ -30,7 +30,7 @@ pub(super) enum Refusal {
 pub(super) struct Failing {
     pub(super) bytes: Vec<u8>,
     refusal: Refusal,
-    // How many writes come before that.
+    // How many writes come before the refused one.
     left: usize,
     failed: u64,
     /// How many of the bytes are sent off.
@@ -86,7 +86,7 @@ impl Output for Failing {
     }
 }
 
-// The result of a job over these files whose output refuses the write behind so many.
+// The result of a job over these files, if its output refuses the write after `left` others.
 fn result_within(
     rt: &(impl Threads + Wait + Sync),
     alloc: Global,
@@ -100,7 +100,7 @@ fn result_within(
     result_from(alloc, out.bytes, err.bytes, status)
 }
 
-// What that is to be, of a job that prints this text and has this whole result.
+// What `result_within` is to answer for a job that prints `text` and, without a refusal, has the result `whole`.
 fn due_within(alloc: Global, text: &str, whole: &str, left: usize) -> Result<String, AllocError> {
     match text.get(..left) {
         Some(prefix) if left < text.len() => {
@@ -110,7 +110,7 @@ fn due_within(alloc: Global, text: &str, whole: &str, left: usize) -> Result<Str
     }
 }
 
-// The write behind so many of the job's text is refused, or none if it has no more.
+// Refuses the write of the job's text after `left` others, or none if there are no more. Checks the job's result.
 fn refuse_one(
     rt: &(impl Threads + Wait + Sync),
     alloc: Global,
@@ -124,7 +124,7 @@ fn refuse_one(
     same(alloc, "", result.as_str(), due.as_str())
 }
 
-// Each write of the job's text is refused in turn, and at last none.
+// Refuses each write of the job's text in turn, and at last none. Checks the job's result each time.
 fn refuse_each(
     rt: &(impl Threads + Wait + Sync),
     alloc: Global,
@@ -147,7 +147,7 @@ fn refuse_each(
     Ok(())
 }
 
-// A run of which the log of core 0 is printed.
+// A run that prints the log of core 0.
 const LOG_OF_0: Job = Job::Run {
     config: "config.json",
     stimuli: "stim.json",

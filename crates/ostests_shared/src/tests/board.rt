@@ -14,7 +14,7 @@ use std::thread::Threads;
 
 type BoardEntry = Entry<BoardCall, BoardReply>;
 
-// What a worker did: its calls but the looks, and whether each look showed its `enter`.
+// What a worker did: its calls except the looks, and whether each look showed what the worker had done.
 #[derive(Drop)]
 struct Work {
     log: Vec<BoardEntry>,
@@ -34,11 +34,12 @@ fn entry(core: CoreId, call: BoardCall, reply: BoardReply) -> BoardEntry
     Entry { core, call, reply }
 }
 
+// Whether the view shows that the core has entered, and mode 7.
 fn has_entered(view: &BoardView, core: CoreId) -> bool {
     view.entered.contains(core) && view.modes.members[7]
 }
 
-// Whether a look shows that the core has entered, and with which mode.
+// Whether a look from the seat shows that its core has entered, and mode 7.
 fn is_shown(board: &Board, seat: &mut BoardSeat) -> bool
     requires { seat.old.place ≡ board.now }
     ensures place { seat.new.place ≡ seat.old.place }
@@ -49,7 +50,7 @@ fn is_shown(board: &Board, seat: &mut BoardSeat) -> bool
     has_entered(&view, seat.core())
 }
 
-// Whether a thousand looks do.
+// Whether each of a thousand looks from the seat shows that its core has entered, and mode 7.
 fn is_shown_often(board: &Board, seat: &mut BoardSeat) -> bool
     requires { seat.old.place ≡ board.now }
     ensures place { seat.new.place ≡ seat.old.place }
@@ -64,7 +65,9 @@ fn is_shown_often(board: &Board, seat: &mut BoardSeat) -> bool
     shown
 }
 
-// Where the core has a place on the board: starts a core, enters, looks often, passes the gates and asks for a shutdown.
+// Makes no call if the seat's core number is not below `CORES`, or if there is no memory for the log. Else starts core
+// 1, enters in mode 7, looks often, is ready, drains and asks for a shutdown; then looks who has drained, and at the
+// halt.
 fn take_part(board: &Board, alloc: Global, seat: BoardSeat) -> Run
     requires place { seat.place ≡ board.now }
     requires fresh { seat.mine ≡ [] }
@@ -109,7 +112,7 @@ fn take_part(board: &Board, alloc: Global, seat: BoardSeat) -> Run
     run
 }
 
-// Each seat goes to a thread of its own.
+// Takes part from each seat, on a thread of its own.
 fn share<R: Threads + Sync>(
     rt: &R,
     board: &Board,
@@ -123,7 +126,7 @@ fn share<R: Threads + Sync>(
     thread::map_vec(rt, seats, &|seat| take_part(board, alloc, seat))
 }
 
-// The seats, and what was done from them.
+// The seats of the runs, and what was done from them.
 fn part(alloc: Global, runs: Vec<Run>) -> Result<(Vec<BoardSeat>, Vec<Work>), AllocError>
     ensures seats { IfOk result (λ r. r.0.items ≡ map (λ run. run.seat) runs.items) }
     ensures works { IfOk result (λ r. r.1.items ≡ map (λ run. run.work) runs.items) }
@@ -138,8 +141,8 @@ fn part(alloc: Global, runs: Vec<Run>) -> Result<(Vec<BoardSeat>, Vec<Work>), Al
     Ok((seats, works))
 }
 
-// A worker for each core, each on a thread of its own. One history is legal and has the calls of all logs, and
-// no others.
+// Runs a worker for each core on a thread of its own. Returns what each worker did. There is a legal history that has
+// the calls of all logs, and no other calls.
 fn run_all<R: Threads + Sync>(
     rt: &R,
     alloc: Global,
@@ -157,12 +160,12 @@ fn run_all<R: Threads + Sync>(
     Ok(works)
 }
 
-// Whether the log has the reply.
+// Whether the worker's log has the reply.
 fn has_reply(work: &Work, reply: BoardReply) -> bool {
     work.log.iter().any(|entry| entry.reply == reply)
 }
 
-// Who decided the shutdown, and with which status.
+// The reply to the worker's last call: who decided the shutdown, and with which status.
 fn decided(work: &Work) -> Option<BoardReply> {
     match work.log.as_slice().last() {
         Some(entry) => Some(entry.reply),
@@ -170,7 +173,8 @@ fn decided(work: &Work) -> Option<BoardReply> {
     }
 }
 
-// Each of the four workers was shown what it did, all know of the same shutdown, and one of them started the core.
+// Checks that each of the four workers made its five calls and was shown what it did, that all know of the same
+// shutdown, and that exactly one of them started core 1.
 fn agree(rt: &impl Abort, works: &[Work]) {
     assert!(rt; works.len() == 4);
     let Some(first) = works.first() else {
@@ -200,7 +204,7 @@ fn four_threads_share_a_board(rt: HostRuntime) -> Result<(), Fail> {
 }
 
 #[test]
-fn the_listed_board_answers_alike(rt: HostRuntime) -> Result<(), Fail> {
+fn the_listed_board_shows_what_each_call_did(rt: HostRuntime) -> Result<(), Fail> {
     let (two, five) = (CoreId { number: 2 }, CoreId { number: 5 });
     let mut board = BoardList::new(two);
     assert!(rt; board.start(two, two) == Status::EOsState && board.start(two, five) == Status::EOk);

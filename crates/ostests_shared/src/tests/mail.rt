@@ -18,16 +18,19 @@ fn envelope(number: u64, message: Message) -> Envelope {
     Envelope { letter, clock: 0 }
 }
 
+// An envelope that answers a call with the value -3.
 fn value(number: u64) -> Envelope {
     envelope(number, Message::Value(Status::EOk, -3))
 }
 
+// An envelope that replies `E_OK` to a request.
 fn reply(number: u64) -> Envelope {
     envelope(number, Message::Reply(Status::EOk))
 }
 
-// The mailbox from the first core to the last has room for two envelopes, and hands a third one back.
-fn is_filled(rt: &impl Abort, mail: &mut ListMail<4>) {
+// Checks that the mailbox from the first core to the last has room for two envelopes, and hands a third one back. The
+// mailbox the other way gets one envelope.
+fn fill_list(rt: &impl Abort, mail: &mut ListMail<4>) {
     assert!(rt; mail.has_room(FIRST, LAST));
     assert!(rt; !mail.has_mail(LAST));
     assert_eq!(rt; mail.send(FIRST, LAST, value(0)), Ok(()));
@@ -38,8 +41,8 @@ fn is_filled(rt: &impl Abort, mail: &mut ListMail<4>) {
     assert_eq!(rt; mail.send(FIRST, LAST, value(2)), Err(value(2)));
 }
 
-// What stands in the mailboxes leaves them in its order.
-fn is_emptied(rt: &impl Abort, mail: &mut ListMail<4>) {
+// Takes all envelopes out of the mailboxes, and checks that they leave in the order in which they were sent.
+fn empty_list(rt: &impl Abort, mail: &mut ListMail<4>) {
     assert_eq!(rt; mail.take(LAST, FIRST), Some(value(0)));
     assert_eq!(rt; mail.take(LAST, FIRST), Some(value(1)));
     assert_eq!(rt; mail.take(LAST, FIRST), None);
@@ -52,12 +55,12 @@ fn is_emptied(rt: &impl Abort, mail: &mut ListMail<4>) {
 #[test]
 fn envelopes_leave_in_the_order_in_which_they_came(rt: HostRuntime) -> Result<(), Fail> {
     let mut mail: ListMail<4> = ListMail::new(rt.alloc(), 2)?;
-    is_filled(&rt, &mut mail);
-    is_emptied(&rt, &mut mail);
+    fill_list(&rt, &mut mail);
+    empty_list(&rt, &mut mail);
     Ok(())
 }
 
-// An end with room for one more call sends this envelope, and is answered so.
+// Makes room for one call at this end of the mail, sends this envelope, and checks the answer.
 fn sends<R: Abort, M: Mail>(
     rt: &R,
     end: &mut M,
@@ -70,7 +73,7 @@ fn sends<R: Abort, M: Mail>(
     Ok(())
 }
 
-// An end with room for one more call takes this envelope, or none.
+// Makes room for one call at this end of the mail, and checks that the end takes this envelope, or none.
 fn takes<R: Abort, M: Mail>(
     rt: &R,
     end: &mut M,
@@ -82,7 +85,8 @@ fn takes<R: Abort, M: Mail>(
     Ok(())
 }
 
-// Two envelopes fill what leads from one end to the other, a third one comes back, and the oldest one leaves.
+// Checks that two envelopes fill the mailbox from the sender to the receiver, that a third one comes back, and that the
+// oldest one leaves.
 fn fills<R: Abort, M: Mail>(
     rt: &R,
     sender: &mut M,
@@ -97,14 +101,15 @@ fn fills<R: Abort, M: Mail>(
     takes(rt, receiver, from, Some(reply(0)))
 }
 
-// A filled mailbox takes the letter whose turn it is once one has left, and no other.
+// Checks that a full mailbox, once an envelope has left it, takes the next envelope in order, and refuses the one after
+// that.
 fn take_in_turn<R: Abort, M: Mail>(rt: &R, sender: &mut M, receiver: &mut M) -> Result<(), Fail> {
     fills(rt, sender, receiver, (FIRST, SECOND))?;
     sends(rt, sender, SECOND, reply(3), Err(reply(3)))?;
     sends(rt, sender, SECOND, reply(2), Ok(()))
 }
 
-// What the ends of the first core and of the second one sent and took.
+// The steps of the first core's end and of the second core's, after `take_in_turn`.
 fn steps_of(
     rt: &(impl Abort + Wait),
     alloc: Global,
@@ -116,7 +121,8 @@ fn steps_of(
     Ok((sender.into_steps(), receiver.into_steps()))
 }
 
-// The mailbox from the first core to the second has what was sent and not taken.
+// Checks that the mailbox from the first core to the second has what was sent and not taken, and that this comparison
+// fails if the steps of taking are left out.
 fn is_settled(rt: &impl Abort, mail: &mut LockedMail<4>, sent: &[MailStep], taken: &[MailStep]) {
     let Some(left) = mail.left(FIRST, SECOND) else {
         panic!(rt; "a mailbox")
@@ -133,7 +139,7 @@ fn what_is_taken_and_left_is_what_was_sent(rt: HostRuntime) -> Result<(), Fail> 
     Ok(())
 }
 
-// Rings pass envelopes both ways, each in order.
+// Checks that rings pass envelopes both ways, each in order.
 fn pass_both_ways(
     rt: &impl Abort,
     sender: &mut RingEnd,
@@ -160,7 +166,7 @@ fn envelopes_leave_a_ring_in_the_order_in_which_they_came(rt: HostRuntime) -> Re
 }
 
 #[test]
-fn an_end_has_rings_of_its_own_run_alone(rt: HostRuntime) -> Result<(), Fail> {
+fn an_end_has_rings_to_the_cores_of_its_run_alone(rt: HostRuntime) -> Result<(), Fail> {
     let (first, other) = (CoreId { number: 3 }, CoreId { number: 4 });
     let made: (RingMail<4>, Vec<RingEnd>) = RingMail::new(rt.alloc(), &[first], 1)?;
     let (_mail, mut ends) = made;

@@ -16,15 +16,15 @@ type SpinEntry = Entry<SpinCall, SpinReply>;
 
 // What a worker wants of the spinlocks.
 trait Wish {
-    // The spinlock that it takes next; none where it has taken all that it wants.
+    // The spinlock that it takes next; `None` once it has taken all that it wants.
     fn wanted(&self) -> Option<SpinlockId>
         ensures { IfSome result (λ lock. lock.index < SPINLOCKS) };
 
-    // It was granted the spinlock, and has freed it.
+    // Notes that the worker was granted the spinlock and has freed it.
     fn granted(&mut self);
 }
 
-// Each spinlock in turn, this often.
+// The wish for each spinlock in turn, in `left` rounds.
 #[derive(Clone, Copy)]
 struct Rounds {
     lock: u8,
@@ -50,14 +50,15 @@ impl Wish for Rounds {
     }
 }
 
-// What a worker hands back: its seat, and its calls but the tries that were refused.
+// What a worker hands back: its seat, and its calls except the tries that were refused.
 #[derive(Drop)]
 struct Run {
     seat: SpinSeat,
     log: Vec<SpinEntry>,
 }
 
-// Tries for a spinlock. If it is granted, looks who holds it, frees it, and says so.
+// Tries for the spinlock. If it is granted, looks who holds it, frees it, logs the three calls, and answers `true`.
+// Answers `false` if it is not granted, or if there is no memory for the log.
 fn visit(bank: &SpinBank, run: &mut Run, lock: SpinlockId) -> bool
     requires place { run.old.seat.place ≡ bank.now }
     requires lock { lock.index < SPINLOCKS }
@@ -93,7 +94,7 @@ fn entry(core: CoreId, lock: SpinlockId, action: SpinAction, reply: SpinReply) -
     }
 }
 
-// Takes and frees the spinlocks that are wanted, or tries very often.
+// Takes and frees, one after the other, the spinlocks that `wish` wants. Gives up after very many tries.
 fn work<W: Wish + Drop>(bank: &SpinBank, alloc: Global, seat: SpinSeat, mut wish: W) -> Run
     requires place { seat.place ≡ bank.now }
     requires fresh { seat.mine ≡ [] }
@@ -118,7 +119,7 @@ fn work<W: Wish + Drop>(bank: &SpinBank, alloc: Global, seat: SpinSeat, mut wish
     run
 }
 
-// Each seat goes to a thread of its own.
+// Works from each seat, on a thread of its own, with the wish for all spinlocks in a hundred rounds.
 fn share<R: Threads + Sync>(
     rt: &R,
     bank: &SpinBank,
@@ -133,7 +134,7 @@ fn share<R: Threads + Sync>(
     thread::map_vec(rt, seats, &|seat| work(bank, alloc, seat, rounds))
 }
 
-// The seats and the logs.
+// The seats and the logs of the runs.
 fn part(alloc: Global, runs: Vec<Run>) -> Result<(Vec<SpinSeat>, Vec<Vec<SpinEntry>>), AllocError>
     ensures seats { IfOk result (λ r. r.0.items ≡ map (λ run. run.seat) runs.items) }
     ensures logs { IfOk result (λ r. r.1.items ≡ map (λ run. run.log) runs.items) }
@@ -148,8 +149,8 @@ fn part(alloc: Global, runs: Vec<Run>) -> Result<(Vec<SpinSeat>, Vec<Vec<SpinEnt
     Ok((seats, logs))
 }
 
-// A worker for each core, each on a thread of its own. One history is legal and has the calls of all logs, and
-// no others.
+// Runs a worker for each core on a thread of its own. Returns the workers' logs. There is a legal history that has the
+// calls of all logs, and no other calls.
 fn run_all<R: Threads + Sync>(
     rt: &R,
     alloc: Global,
@@ -165,7 +166,7 @@ fn run_all<R: Threads + Sync>(
     Ok(logs)
 }
 
-// What stands at a place of a worker's log, whatever the schedule.
+// The entry that the log of the core's worker has at a place, whatever order the threads run in.
 fn expected(core: CoreId, place: usize) -> SpinEntry {
     let lock = SpinlockId {
         index: (place / 3 % SPINLOCKS) as u8,
@@ -177,13 +178,14 @@ fn expected(core: CoreId, place: usize) -> SpinEntry {
     }
 }
 
+// Whether each entry of the core's log is the expected one.
 fn has_expected(core: CoreId, log: &[SpinEntry]) -> bool {
     log.iter()
         .enumerate()
         .all(|(place, entry)| *entry == expected(core, place))
 }
 
-// There is a log for each of these cores, with all that it is to have.
+// Checks that there is a log for each of the four cores, with all its expected entries.
 fn have_expected(rt: &impl Abort, numbers: &[u8], logs: &[Vec<SpinEntry>]) {
     assert!(rt; logs.len() == 4);
     for (log, number) in logs.iter().zip(numbers) {
@@ -204,7 +206,8 @@ fn four_threads_share_sixteen_spinlocks(rt: HostRuntime) -> Result<(), Fail> {
     Ok(())
 }
 
-// The first core takes the spinlock. Until it frees it, neither core takes it, and the second one does not free it.
+// Checks that the first core can take the spinlock. Until the first core frees it, neither core can take it, and the
+// second core cannot free it.
 fn holds_until_freed(
     rt: &impl Abort,
     bank: &SpinBank,
@@ -227,7 +230,8 @@ fn holds_until_freed(
     assert!(rt; bank.free(first, lock));
 }
 
-// The second core takes the free spinlock, and the first one gets it once the second one has freed it.
+// Checks that the second core can take the free spinlock, and that the first one gets it once the second one has freed
+// it.
 fn goes_to_second_and_back(
     rt: &impl Abort,
     bank: &SpinBank,
@@ -265,8 +269,9 @@ fn one_core_holds_a_spinlock(rt: HostRuntime) -> Result<(), Fail> {
     Ok(())
 }
 
+// No spinlock has the index 16: each core that takes it gets the answer `true`.
 #[test]
-fn the_listed_spinlocks_answer_alike(rt: HostRuntime) -> Result<(), Fail> {
+fn a_listed_spinlock_is_held_by_one_core(rt: HostRuntime) -> Result<(), Fail> {
     let mut locks = SpinList::new();
     let (a, b) = (CoreId { number: 0 }, CoreId { number: 5 });
     let lock = SpinlockId { index: 15 };

@@ -10,7 +10,7 @@ use std::sync::Wait;
 use std::test::Fail;
 use std::thread::Threads;
 
-// The clocks of the letters that a report's core posted to this one, in order.
+// The clocks of the letters that the report's core posted to the core `to`, in order.
 fn posted(alloc: Global, report: &Report, to: CoreId) -> Result<Vec<u64>, Fail> {
     let mut clocks = Vec::new(alloc);
     for (item, clock) in report.items.as_slice().iter().zip(report.clocks.as_slice()) {
@@ -21,8 +21,8 @@ fn posted(alloc: Global, report: &Report, to: CoreId) -> Result<Vec<u64>, Fail> 
     Ok(clocks)
 }
 
-// Each letter that the second core received of the first has a greater clock there than where it was posted. Answers how many
-// there are.
+// Checks that each letter that the receiver took from the sender has a greater clock there than at the sender. Answers
+// how many such letters there are.
 fn come_later(
     rt: &impl Abort,
     alloc: Global,
@@ -48,7 +48,7 @@ fn come_later(
     Ok(count)
 }
 
-// A report has a clock for each item, and they ascend.
+// Checks that the report has a clock for each item, and that the clocks ascend.
 fn ascend(rt: &impl Abort, report: &Report) {
     assert_eq!(rt; report.clocks.len(), report.items.len());
     let mut last = 0;
@@ -58,7 +58,8 @@ fn ascend(rt: &impl Abort, report: &Report) {
     }
 }
 
-// So it is of this report, with the letters of all senders. Answers how many there are.
+// Checks that the receiver's clocks ascend, and that each letter that it took was posted at a smaller clock. Answers
+// how many letters it took.
 fn is_clocked(
     rt: &impl Abort,
     alloc: Global,
@@ -73,7 +74,7 @@ fn is_clocked(
     Ok(count)
 }
 
-// So it is of all these reports. Answers how many letters were received.
+// Checks the clocks of each of these reports. Answers how many letters their cores received.
 fn are_clocked(rt: &impl Abort, alloc: Global, reports: &[Report]) -> Result<usize, Fail> {
     let mut count = 0;
     for receiver in reports {
@@ -82,7 +83,7 @@ fn are_clocked(rt: &impl Abort, alloc: Global, reports: &[Report]) -> Result<usi
     Ok(count)
 }
 
-// So it is of all reports of a run. Answers how many letters were received.
+// Checks the clocks of a run by threads of a table's first files. Answers how many letters its cores received.
 fn received(
     rt: &(impl Abort + Threads + Wait + Sync),
     alloc: Global,
@@ -94,7 +95,8 @@ fn received(
     are_clocked(rt, alloc, reports.as_slice())
 }
 
-// So it is with each kind of mail, and so many letters are received.
+// Checks, with each kind of mail, the clocks of a run by threads of a table's first files, and that its cores receive
+// this number of letters.
 fn all_are_clocked(
     rt: &(impl Abort + Threads + Wait + Sync),
     alloc: Global,

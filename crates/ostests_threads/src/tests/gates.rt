@@ -1,5 +1,5 @@
 //! Runs by threads under gates of the tests' own, which say when a core begins a turn and for whom it waits. Each test
-//! has the same verdict whatever the schedule is.
+//! has the same result whatever the schedule is.
 
 use super::reports::text_under;
 use super::threads::KINDS;
@@ -21,13 +21,13 @@ pub(super) const FOUR_CORES: &str =
 /// Three operations of each core that is started.
 pub(super) const STIMULI: &str = r#"{"0":"op op op","1":"op op op","2":"op op op"}"#;
 
-/// The separate core's own.
+/// The operations of the separate core alone.
 const STIMULI_OF_CORE_2: &str = r#"{"2":"op op op"}"#;
 
 /// What the services of the first two cores return.
 const BOTH_RETURN: &str = "stat A ActivateTask E_OK\nstat B ActivateTask E_OK\n";
 
-/// The separate core's block, and the line behind it as far as every run has it.
+/// The separate core's block, and the part of the line behind it that is the same in every run.
 const SEPARATE: &str = "core 2\nhook Startup\nact V\npre V\nvar V v0 3\npost V\nend V\ntook ";
 
 const THREE_END: &str = "worker 0 ended\nworker 1 ended\nworker 2 ended\nworker 3 stopped\n";
@@ -45,15 +45,15 @@ const CORE_0: CoreId = CoreId { number: 0 };
 
 const CORE_3: CoreId = CoreId { number: 3 };
 
-/// Turns that change nothing before a worker stops: many where its core is to end, so that it waits for the others.
+/// How many turns may change nothing before a worker stops: many, so that a core that is to end waits for the others.
 const MANY: u64 = 100_000;
 
-/// As many turns as a worker makes whole rounds before it sleeps.
+/// As many turns as the rounds that a worker makes before it sleeps.
 const SLEEPLESS: u64 = AWAKE;
 
-// Lets each thread start but that of one core, if it names one, and counts the turns that each of so many cores began. Where
-// cores meet, each of the first turns of a core waits until every other began as many, for so many tries. A started core whose
-// turn changed nothing gives way until another one began a turn, so that no core stops while the others have no processor.
+// Lets each thread start, but not that of the core `refused`, and counts the turns that each core began. If cores meet,
+// each of a core's first turns waits until every other core began as many, for at most `TRIES` tries. A started core
+// whose turn changed nothing yields until another core began a turn. So none stops while the others have no processor.
 #[derive(Drop)]
 pub(super) struct Watcher {
     cores: usize,
@@ -73,7 +73,7 @@ const TRIES: u32 = 1_000_000;
 const YIELDS: u32 = 100;
 
 impl Watcher {
-    // The gate of cores 0 to one less than so many.
+    // The gate of this number of cores, from core 0 on.
     fn over(cores: usize, unstarted: Option<CoreId>, refused: Option<CoreId>, meets: bool) -> Self {
         Watcher {
             cores,
@@ -91,7 +91,7 @@ impl Watcher {
         Watcher::over(4, Some(CORE_3), refused, meets)
     }
 
-    // Whether every core has begun so many turns, within the tries. After a miss nobody waits any more.
+    // Whether every core begins this number of turns within the tries. After a miss no core waits any more.
     fn have_all_begun(&self, turns: u64) -> bool {
         for _ in 0..TRIES {
             if self
@@ -112,6 +112,7 @@ impl Watcher {
 }
 
 impl Gate for Watcher {
+    // The thread of each core may start, except that of the core `refused`.
     fn starts(&self, core: CoreId) -> bool {
         self.refused != Some(core)
     }
@@ -138,8 +139,8 @@ impl Gate for Watcher {
     }
 }
 
-// Holds every core but core 0 until core 0 has stopped, for so many tries. It stops after so many turns in a row that changed
-// nothing, so few that it never sleeps among them.
+// Holds every core but core 0 until core 0 has stopped, for at most `TRIES` tries. Core 0 stops after `SLEEPLESS`
+// turns in a row that changed nothing. These are so few that core 0 does not sleep before.
 #[derive(Drop)]
 struct Delay {
     fruitless: AtomicU64,
@@ -156,6 +157,7 @@ impl Delay {
         }
     }
 
+    // Whether, within the tries, `SLEEPLESS` turns of core 0 in a row change nothing.
     fn has_core_0_stopped(&self) -> bool {
         for _ in 0..TRIES {
             if self.fruitless.load(Ordering::SeqCst) >= SLEEPLESS {
@@ -201,7 +203,7 @@ fn four_under<R: Threads + Wait + Sync, G: Gate + Sync>(
     text_under(rt, alloc, mail, (FOUR_CORES, STIMULI), gate, turns)
 }
 
-// Each core came to the gate before each of its first turns, and all others began as many.
+// Checks that no core waited in vain at the gate, and that each core began all the turns at which the cores meet.
 fn have_met(rt: &impl Abort, gate: &Watcher) {
     assert_eq!(rt; gate.missed.load(Ordering::SeqCst), 0);
     for begun in gate.turns.iter().take(gate.cores) {
@@ -209,8 +211,8 @@ fn have_met(rt: &impl Abort, gate: &Watcher) {
     }
 }
 
-// The lines of a text that begin with a word are these.
-fn has(alloc: Global, text: &str, word: &str, due: &str) -> Result<(), Fail> {
+// Checks that the lines of the text that begin with this word are `due`.
+fn has_lines(alloc: Global, text: &str, word: &str, due: &str) -> Result<(), Fail> {
     let mut lines = String::new(alloc);
     for line in text.lines().filter(|line| line.starts_with(word)) {
         lines.push_str(line)?;
@@ -220,7 +222,7 @@ fn has(alloc: Global, text: &str, word: &str, due: &str) -> Result<(), Fail> {
     Ok(())
 }
 
-// The text of a run of the four cores under this gate, in which all that are started end.
+// The text of a run of the four cores under this gate. Checks that the three started cores end, and the fourth stops.
 fn three_end(
     rt: &(impl Threads + Wait + Sync),
     alloc: Global,
@@ -228,7 +230,7 @@ fn three_end(
     gate: &Watcher,
 ) -> Result<String, Fail> {
     let text = four_under(rt, alloc, mail, gate, MANY)?;
-    has(alloc, text.as_str(), "worker ", THREE_END)?;
+    has_lines(alloc, text.as_str(), "worker ", THREE_END)?;
     Ok(text)
 }
 
@@ -236,7 +238,7 @@ fn three_end(
 fn cores_that_call_each_other_end(rt: HostRuntime) -> Result<(), Fail> {
     for mail in KINDS.iter() {
         let text = three_end(&rt, rt.alloc(), *mail, &Watcher::new(None, false))?;
-        has(rt.alloc(), text.as_str(), "stat ", BOTH_RETURN)?;
+        has_lines(rt.alloc(), text.as_str(), "stat ", BOTH_RETURN)?;
     }
     Ok(())
 }
@@ -251,7 +253,7 @@ fn all_cores_run_at_once(rt: HostRuntime) -> Result<(), Fail> {
     Ok(())
 }
 
-// The sixteen cores end under this gate.
+// Checks that the sixteen cores end under this gate.
 fn sixteen_end(
     rt: &(impl Threads + Wait + Sync),
     alloc: Global,
@@ -259,7 +261,7 @@ fn sixteen_end(
     gate: &Watcher,
 ) -> Result<(), Fail> {
     let text = text_under(rt, alloc, mail, (SIXTEEN_CORES, "{}"), gate, MANY)?;
-    has(alloc, text.as_str(), "worker ", SIXTEEN_END)
+    has_lines(alloc, text.as_str(), "worker ", SIXTEEN_END)
 }
 
 #[test]
@@ -281,7 +283,7 @@ fn a_core_that_nobody_starts_does_not_hold_up_the_others(rt: HostRuntime) -> Res
     Ok(())
 }
 
-// The separate core prints its block by this configuration, which is its own.
+// Checks that the separate core ends and prints its block by this configuration, which is its own.
 fn prints_by(
     rt: &(impl Abort + Threads + Wait + Sync),
     alloc: Global,
@@ -290,12 +292,13 @@ fn prints_by(
     config: &str,
 ) -> Result<(), Fail> {
     let text = text_under(rt, alloc, mail, (config, STIMULI_OF_CORE_2), gate, MANY)?;
-    has(alloc, text.as_str(), "worker ", "worker 2 ended\n")?;
+    has_lines(alloc, text.as_str(), "worker ", "worker 2 ended\n")?;
     assert!(rt; text.starts_with(SEPARATE));
     Ok(())
 }
 
-// The separate core prints its block among the four cores, and by the configuration that is cut out of theirs.
+// Checks that the separate core prints its block among the four cores, and also by the configuration that is cut out
+// of theirs.
 fn prints_alike(
     rt: &(impl Abort + Threads + Wait + Sync),
     alloc: Global,
@@ -318,13 +321,14 @@ fn a_separate_core_prints_what_its_configuration_alone_prints(rt: HostRuntime) -
     Ok(())
 }
 
-// A run's text begins so, and no worker ended.
+// Checks that a run's text begins with `start`, and says that no worker ended.
 fn none_ends(rt: &impl Abort, alloc: Global, text: &str, start: &str) -> Result<(), Fail> {
     assert!(rt; text.starts_with(start), "{text}");
-    has(alloc, text, "worker ", NONE_ENDS)
+    has_lines(alloc, text, "worker ", NONE_ENDS)
 }
 
-// Core 0 waits for the others, which come to their first turns only once it has stopped: no core ends.
+// Checks that no core ends if core 0 waits for the others, and these begin their first turns only once core 0 has
+// stopped.
 fn waits_in_vain(
     rt: &(impl Abort + Threads + Wait + Sync),
     alloc: Global,
@@ -345,10 +349,10 @@ fn a_core_that_waits_for_ever_does_not_end(rt: HostRuntime) -> Result<(), Fail> 
     Ok(())
 }
 
-// No worker ended, and none took anything.
+// Checks that no worker ended, and that no core took an item.
 fn none_takes(alloc: Global, text: &str) -> Result<(), Fail> {
-    has(alloc, text, "worker ", NONE_ENDS)?;
-    has(alloc, text, "took ", "took 0\ntook 0\ntook 0\ntook 0\n")
+    has_lines(alloc, text, "worker ", NONE_ENDS)?;
+    has_lines(alloc, text, "took ", "took 0\ntook 0\ntook 0\ntook 0\n")
 }
 
 #[test]
@@ -361,7 +365,8 @@ fn with_no_turn_allowed_nothing_is_done(rt: HostRuntime) -> Result<(), Fail> {
     Ok(())
 }
 
-// In a run's text no worker went on, since a thread could not be started, and this core's report is empty.
+// Checks that the run's text says that a thread could not be started and that no worker ended, and that this core's
+// report is empty.
 fn are_stopped(rt: &impl Abort, alloc: Global, text: &str, core: u8) -> Result<(), Fail> {
     none_ends(rt, alloc, text, "a thread could not be started\ncore 0\n")?;
     let none = format!(in alloc; "core {core}\ntook 0\nworker {core} stopped\n")?;
@@ -369,7 +374,7 @@ fn are_stopped(rt: &impl Abort, alloc: Global, text: &str, core: u8) -> Result<(
     Ok(())
 }
 
-// Where the thread of this core may not start, no worker goes on: there is a report for each core, and that core's is empty.
+// Checks that no worker ends if the thread of this core may not start, and that this core's report is empty.
 fn stops_all(
     rt: &(impl Abort + Threads + Wait + Sync),
     alloc: Global,

@@ -1,4 +1,4 @@
-//! One order of a run by threads: the listed run of it has the same reports.
+//! One order of the turns of a run by threads: the listed run of these turns has the same reports.
 
 ghost use Rattle.std.specs.List.{AllByRecursion};
 ghost use Rattle.osplan.specs.Stimuli.{AreKnown};
@@ -35,14 +35,14 @@ const CALLS: [(&str, &str); 3] = [
     ),
 ];
 
-/// Four cores, each of which takes two nested spinlocks over and over and activates a task of the next one, with room for one envelope
-/// in each mailbox. One may drain with a spinlock, and then those that wait for it stall.
+/// Four cores, each of which takes two nested spinlocks over and over and activates a task of the next core, with room
+/// for one envelope in each mailbox. A core may drain with a spinlock, and then the cores that wait for it stall.
 const NESTED: (&str, &str) = (
     r#"{"cap":1,"spinlocks":[{"name":"S2","next":"S1"},{"name":"S1"}],"cores":[{"id":0,"start":[1,2,3],"tasks":[{"name":"Door","prio":1,"auto":["M"],"script":"GetSpinlock S2;GetSpinlock S1;ReleaseSpinlock S1;ReleaseSpinlock S2;ActivateTask U1;jump 0"},{"name":"U0","prio":2,"activations":8,"script":"TerminateTask"}]},{"id":1,"tasks":[{"name":"Light","prio":1,"auto":["M"],"script":"GetSpinlock S2;GetSpinlock S1;ReleaseSpinlock S1;ReleaseSpinlock S2;ActivateTask U2;jump 0"},{"name":"U1","prio":2,"activations":8,"script":"TerminateTask"}]},{"id":2,"tasks":[{"name":"Wiper","prio":1,"auto":["M"],"script":"GetSpinlock S2;GetSpinlock S1;ReleaseSpinlock S1;ReleaseSpinlock S2;ActivateTask U3;jump 0"},{"name":"U2","prio":2,"activations":8,"script":"TerminateTask"}]},{"id":3,"tasks":[{"name":"Horn","prio":1,"auto":["M"],"script":"GetSpinlock S2;GetSpinlock S1;ReleaseSpinlock S1;ReleaseSpinlock S2;ActivateTask U0;jump 0"},{"name":"U3","prio":2,"activations":8,"script":"TerminateTask"}]}]}"#,
     r#"{"0":"op op op op op op op op op op op op op op op op op op op op","1":"op op op op op op op op op op op op op op op op op op op op","2":"op op op op op op op op op op op op op op op op op op op op","3":"op op op op op op op op op op op op op op op op op op op op"}"#,
 );
 
-// Whether a listed run's report is this one, but for the clocks, of which it has none.
+// Whether a listed run's report is this one, except that it has no clocks.
 fn is_listed(listed: &Report, report: &Report) -> bool {
     listed.core == report.core
         && listed.items.as_slice() == report.items.as_slice()
@@ -51,7 +51,7 @@ fn is_listed(listed: &Report, report: &Report) -> bool {
         && listed.ended == report.ended
 }
 
-// The reports of a listed run are these.
+// Checks that the reports of a listed run are these, except that they have no clocks.
 fn are_listed(rt: &impl Abort, listed: &[Report], reports: &[Report]) {
     assert_eq!(rt; listed.len(), reports.len());
     for (one, report) in listed.iter().zip(reports) {
@@ -59,7 +59,7 @@ fn are_listed(rt: &impl Abort, listed: &[Report], reports: &[Report]) {
     }
 }
 
-// The text of these turns is read as these turns.
+// Checks that the text of these turns is read as these turns.
 fn is_read(rt: &impl Abort, alloc: Global, config: &Config, turns: &[Turn]) -> Result<(), Fail> {
     let text = schedule_text(alloc, turns)?;
     let read = read_schedule(alloc, config, text.as_str())?;
@@ -67,7 +67,7 @@ fn is_read(rt: &impl Abort, alloc: Global, config: &Config, turns: &[Turn]) -> R
     Ok(())
 }
 
-// The listed run of these turns has these reports, and its text is read as these turns.
+// Checks that the listed run of these turns has these reports, and that the text of the turns is read as these turns.
 fn plays(
     rt: &impl Abort,
     alloc: Global,
@@ -83,7 +83,8 @@ fn plays(
     is_read(rt, alloc, config, turns)
 }
 
-// These reports have an order.
+// Checks that `order` finds turns for these reports, that the listed run of these turns has the reports, and that the
+// text of the turns is read as the turns.
 fn are_ordered(
     rt: &impl Abort,
     alloc: Global,
@@ -98,7 +99,7 @@ fn are_ordered(
     plays(rt, alloc, config, stimuli, turns.as_slice(), reports)
 }
 
-// A run by threads of what was read has an order.
+// Checks that `order` finds turns for a run by threads of this configuration and these stimuli.
 fn run_has_order(
     rt: &(impl Abort + Threads + Wait + Sync),
     alloc: Global,
@@ -114,7 +115,7 @@ fn run_has_order(
     are_ordered(rt, alloc, config, stimuli, reports.as_slice())
 }
 
-// A run by threads has an order.
+// Checks that `order` finds turns for a run by threads of this configuration and these stimuli, given as texts.
 fn has_order(
     rt: &(impl Abort + Threads + Wait + Sync),
     alloc: Global,
@@ -156,7 +157,8 @@ fn calls_and_spinlocks_of_threads_have_an_order(rt: HostRuntime) -> Result<(), F
     Ok(())
 }
 
-// A run of what was read whose gate refuses a core's thread has an order.
+// The gate refuses a core's thread. Checks that the run breaks off for this reason, and that `order` finds turns for
+// the reports that there are.
 fn refused_run_has_order(
     rt: &(impl Abort + Threads + Wait + Sync),
     alloc: Global,
@@ -178,7 +180,7 @@ fn refused_run_has_order(
     }
 }
 
-// A run of the four cores whose gate refuses a core's thread has an order.
+// Checks that `order` finds turns for a run of the four cores whose gate refuses a core's thread.
 fn has_order_without(
     rt: &(impl Abort + Threads + Wait + Sync),
     alloc: Global,
@@ -201,7 +203,7 @@ fn a_run_without_a_thread_for_a_core_has_an_order(rt: HostRuntime) -> Result<(),
     Ok(())
 }
 
-// No reports have no order.
+// Checks that `order` finds no turns for an empty list of reports.
 fn has_none(rt: &impl Abort, alloc: Global, config: &Config, stimuli: &Stimuli)
     requires { AreKnown config.now stimuli.now }
 {

@@ -1,5 +1,6 @@
-//! A worker to whose core an envelope comes that this core cannot take: it stops, and hands the letter out beside its
-//! core's report. Core 0 works here. The test makes core 1's calls of the board, and sends from core 1's end of the mail.
+//! A worker whose core receives an envelope that it cannot take: the worker stops, and hands the letter out beside its
+//! core's report. Core 0 works here. The test makes core 1's calls of the board, and sends from core 1's end of the
+//! mail.
 
 ghost use Rattle.std.specs.Prelude.{◌≡◌, ◌<◌, ◌∷◌, [], IfOk, vec_len, vec_capacity};
 ghost use Rattle.osbase.specs.declared.references.CoreId.{CoreId as CoreIdValue};
@@ -57,7 +58,7 @@ impl Gate for Open {
     fn idle(&self, _core: CoreId) {}
 }
 
-// An end of mail that is no mailbox's: it hands over one envelope from core 1, and sends none.
+// An end of mail without a mailbox: it hands over one envelope from core 1, and sends none.
 #[derive(Drop)]
 struct Forged {
     envelope: Option<Envelope>,
@@ -114,7 +115,7 @@ fn at_spinlocks(alloc: Global) -> Result<(SpinBank, Vec<SpinSeat>), AllocError>
     SpinBank::new(alloc, cores)
 }
 
-// Core 0's seats; core 1 has entered, and is ready.
+// Core 0's seats, once core 1 has entered and is ready.
 fn seats_of(
     rt: &impl Abort,
     board: &Board,
@@ -172,7 +173,8 @@ fn work<R: Wait + Abort, M: Mail>(rt: &R, alloc: Global, mail: M) -> Worked<M>
     core_worker(rt, alloc, &run, seats, mail, &Open)
 }
 
-// The core started, and took nothing from core 1.
+// Checks that the worker stopped at the refused letter, and that its core started, took nothing from core 1 and did not
+// end.
 fn judge(rt: &impl Abort, report: &Report, stop: Stop) {
     let Stop::Refused(from, letter) = stop else {
         panic!(rt; "a refusal")
@@ -196,7 +198,7 @@ fn judge(rt: &impl Abort, report: &Report, stop: Stop) {
     assert!(rt; !report.ended);
 }
 
-// The end took the one envelope.
+// Whether an end with these steps took the reply from core 1, and did nothing else.
 fn has_taken(steps: &[MailStep]) -> bool {
     match steps {
         [MailStep::Taken(from, letter)] => *from == CORE_1 && *letter == REPLY,

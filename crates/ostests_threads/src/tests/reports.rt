@@ -46,13 +46,13 @@ fn reports_under<R: Threads + Wait + Sync, G: Gate + Sync>(
     run_threads(rt, alloc, config, stimuli, mail, gate, turns)
 }
 
-// Why a run broke off, and the reports that there are.
+// Why a run broke off, and the reports that there are, as a text.
 fn fault_text(alloc: Global, config: &Config, fault: &ThreadFault) -> Result<String, Fail> {
     let text = reports_text(alloc, config, fault.reports.as_slice())?;
     Ok(format!(in alloc; "{}\n{text}", fault.reason)?)
 }
 
-// The reports of such a run, as a text. Where it broke off, its first line says why.
+// The reports of a run by threads, as a text. If the run broke off, the first line of the text says why.
 fn text_of<R: Threads + Wait + Sync, G: Gate + Sync>(
     rt: &R,
     alloc: Global,
@@ -70,7 +70,8 @@ fn text_of<R: Threads + Wait + Sync, G: Gate + Sync>(
     }
 }
 
-/// The reports of a run by threads with this kind of mail, under a gate, as a text. Where the run broke off, its first line says why.
+/// The reports of a run by threads under a gate, as a text. The configuration and the stimuli are texts, too. If the
+/// run broke off, the first line of the text says why.
 pub(super) fn text_under<R: Threads + Wait + Sync, G: Gate + Sync>(
     rt: &R,
     alloc: Global,
@@ -84,7 +85,7 @@ pub(super) fn text_under<R: Threads + Wait + Sync, G: Gate + Sync>(
     text_of(rt, alloc, mail, &config, &stimuli, gate, turns)
 }
 
-// A core's log replays to this block, by a configuration. Both are given as texts.
+// Checks that a core's log replays to this block, by this configuration. All three are texts.
 fn replays_to(
     rt: &(impl Threads + Wait + Sync),
     alloc: Global,
@@ -97,7 +98,7 @@ fn replays_to(
     Ok(())
 }
 
-// The report's log replays to its block, by the configuration of this text.
+// Checks that the report's log replays to its block, by this configuration, which is also given as a text.
 fn replay_one(
     rt: &(impl Threads + Wait + Sync),
     alloc: Global,
@@ -110,7 +111,7 @@ fn replay_one(
     replays_to(rt, alloc, report.core, (text, log.as_str()), block.as_str())
 }
 
-// Each report's log replays to its block, by the configuration of this text.
+// Checks that each report's log replays to its block, by the configuration of this text.
 fn replay_all(
     rt: &(impl Threads + Wait + Sync),
     alloc: Global,
@@ -124,8 +125,8 @@ fn replay_all(
     Ok(())
 }
 
-// The reports of a run by threads with this kind of mail, all of whose cores end.
-fn reports_at_end(
+// The reports of a run by threads with this kind of mail, under the program's own gate.
+fn reports_under_own_gate(
     rt: &(impl Threads + Wait + Sync),
     alloc: Global,
     mail: MailKind,
@@ -139,7 +140,8 @@ fn reports_at_end(
     Ok(reports_under(rt, alloc, mail, config, stimuli, &gate, turns)?)
 }
 
-/// The reports of a run by threads with this kind of mail.
+/// The reports of a run by threads with this kind of mail, under the program's own gate. The configuration and the
+/// stimuli are given as texts.
 pub(super) fn reports_of(
     rt: &(impl Threads + Wait + Sync),
     alloc: Global,
@@ -149,10 +151,11 @@ pub(super) fn reports_of(
 ) -> Result<Vec<Report>, Fail> {
     let config = read_config(alloc, config)?;
     let stimuli = read_stimuli(alloc, &config, stimuli)?;
-    reports_at_end(rt, alloc, mail, &config, &stimuli, turns)
+    reports_under_own_gate(rt, alloc, mail, &config, &stimuli, turns)
 }
 
-/// Each report's log of a run by threads with this kind of mail replays to its block. Answers how many reports there are.
+/// Checks that in a run by threads with this kind of mail each report's log replays to its block. Answers the number of
+/// reports.
 pub(super) fn replays(
     rt: &(impl Threads + Wait + Sync),
     alloc: Global,

@@ -75,7 +75,7 @@ replay 1
 as run up to stat B ReleaseSpinlock E_OK
 halt 0 E_OK
 
-// What an ended job had is given back before all else.
+// The spinlock of an ended job is given back before anything else.
 first
 began 1 E_OK .. pass2 0 1
 stim op
@@ -135,7 +135,7 @@ replay 0
 as before up to stat A GetSpinlock E_OK
 hook Shutdown E_OS_ID
 
-// Lines of no spinlock are a bad log.
+// A log is bad if the line of a spinlock is not in form, or names no spinlock.
 first
 
 log open

@@ -12,7 +12,7 @@ use std::sync::Wait;
 use std::test::Fail;
 use std::thread::Threads;
 
-/// More turns than any core of the runs below may find nothing to do in.
+/// More turns than any core of the runs below may spend with nothing to do.
 pub(super) const MANY: u64 = 1_000_000_000;
 
 /// The kinds of mail. What a test says holds with each.
@@ -56,7 +56,7 @@ post V
 end V
 ended
 
-// Sixteen rounds of three cores, each round the other way round than the default schedule's.
+// Sixteen rounds of three cores, each round in the reverse order of the default schedule.
 turns "2l 2o 1l 1s0 1o 0l 0s1 0o 2l 2o 1l 1s0 1o 0l 0s1 0o 2l 2o 1l 1s0 1o 0l 0s1 0o 2l 2o 1l 1s0 1o 0l 0s1 0o 2l 2o 1l 1s0 1o 0l 0s1 0o 2l 2o 1l 1s0 1o 0l 0s1 0o 2l 2o 1l 1s0 1o 0l 0s1 0o 2l 2o 1l 1s0 1o 0l 0s1 0o 2l 2o 1l 1s0 1o 0l 0s1 0o 2l 2o 1l 1s0 1o 0l 0s1 0o 2l 2o 1l 1s0 1o 0l 0s1 0o 2l 2o 1l 1s0 1o 0l 0s1 0o 2l 2o 1l 1s0 1o 0l 0s1 0o 2l 2o 1l 1s0 1o 0l 0s1 0o 2l 2o 1l 1s0 1o 0l 0s1 0o 2l 2o 1l 1s0 1o 0l 0s1 0o"
 run
 as before
@@ -85,7 +85,7 @@ stimuli {"2":"op op"}
 run
 as run from core 2
 
-// A core gives up once so many turns in a row changed nothing.
+// A core gives up once the given number of turns in a row changed nothing.
 config {"cores":[{"id":0,"tasks":[{"name":"A","prio":1,"auto":["M"],"script":"work;TerminateTask"}]}]}
 stimuli {"0":"op op"}
 threads 1 -> 3
@@ -111,14 +111,14 @@ threads 1000
 core 0 .. core 5
 ended
 
-// One order of the turns. By each of them the core takes an item.
+// One order of the turns. At each turn the core takes an item.
 threads 1000 order
 "0o 0l 0o 0l 0o 0l 0l"
 
 threads locked 1000 order
 as before
 
-// A core of a number above 7.
+// A core with a number above 7.
 config {"version":2,"cores":[{"id":0,"start":[9],"tasks":[{"name":"A","prio":1,"auto":["M"],"script":"ActivateTask B;TerminateTask"}]},{"id":9,"tasks":[{"name":"B","prio":1,"script":"TerminateTask"}]}]}
 stimuli {"0":"op op"}
 run
@@ -175,7 +175,7 @@ turns "0o 1l 1o 0o 0l 1l 0o 1o 0l 1l 0o 0o 0o 0o 1s0 0o 1s0 0o 1s0 0o 1o 0l 1l 0
 run
 as before
 
-// Faults come in their order.
+// Faults are reported in their order: of the configuration, of the core to log, and of the stimuli.
 config {}
 stimuli x
 threads 1000000000 9
@@ -198,7 +198,7 @@ fault 21 Unreadable
 const SEPARATE_END: &str = "core 2\nhook Startup\nact V\npre V\nvar V v0 3\npost V\nend V\nended\n";
 
 #[test]
-fn runs_by_threads_come_to_their_texts(rt: HostRuntime) -> Result<(), Difference> {
+fn runs_by_threads_print_their_texts(rt: HostRuntime) -> Result<(), Difference> {
     play_table(&rt, rt.alloc(), RUNS, 27)?;
     play_table(&rt, rt.alloc(), OWED, 36)?;
     play_table(&rt, rt.alloc(), SHARED, 3)
@@ -217,7 +217,8 @@ fn threaded(
     result_of(rt, alloc, &threads_of(mail, turns, None), &texts)
 }
 
-// Two cores that called each other have their answers, and the text of the run, which ended, ends so.
+// Checks that in this result of a run two cores that called each other have their answers. The run ended, and its text
+// ends with `end`.
 fn has_both_answers(rt: &impl Abort, text: &str, end: &str) -> Result<(), Fail> {
     assert!(rt; text.contains("stat A ActivateTask E_OK\n"));
     assert!(rt; text.contains("stat B ActivateTask E_OK\n"));
@@ -226,7 +227,8 @@ fn has_both_answers(rt: &impl Abort, text: &str, end: &str) -> Result<(), Fail> 
     Ok(())
 }
 
-// Two cores that call each other end, and the run's text ends so.
+// Checks that in a run by threads two cores that call each other have their answers. The run ends, and its text ends
+// with `end`.
 fn both_answer(
     rt: &(impl Abort + Threads + Wait + Sync),
     alloc: Global,
@@ -248,7 +250,8 @@ fn cores_that_call_each_other_end_and_a_separate_one_prints_its_block(
     Ok(())
 }
 
-// Each of the sixteen cores got its answer, and the run ended.
+// Checks that by this result of a run each of the sixteen cores got its answer, no status is an error, and the run
+// ended.
 fn has_sixteen_answers(rt: &impl Abort, alloc: Global, text: &str) -> Result<(), Fail> {
     for core in 0..16u8 {
         let answered = format!(in alloc; "stat A{core} ActivateTask E_OK\n")?;
@@ -259,7 +262,7 @@ fn has_sixteen_answers(rt: &impl Abort, alloc: Global, text: &str) -> Result<(),
     Ok(())
 }
 
-// Each of the sixteen cores gets its answer, and the run ends.
+// Checks that in a run by threads each of the sixteen cores gets its answer, and the run ends.
 fn ring_answers(
     rt: &(impl Abort + Threads + Wait + Sync),
     alloc: Global,
@@ -320,7 +323,7 @@ pub(super) const EXAMPLES: [(Example, usize, usize, u64); 9] = [
     (Example::Refused, 2, 0, FEW),
 ];
 
-// With each kind of mail so many cores' logs replay to their blocks.
+// Checks that with each kind of mail the run has `cores` reports, and each report's log replays to its block.
 fn each_replays(
     rt: &(impl Abort + Threads + Wait + Sync),
     alloc: Global,
@@ -343,7 +346,8 @@ fn each_log_of_a_run_by_threads_replays_to_its_block(rt: HostRuntime) -> Result<
     Ok(())
 }
 
-// A run by threads of a table's first files ends, with this kind of mail, and has one of these results.
+// Checks that a run by threads of a table's first files, with this kind of mail, ends and has one or the other of these
+// results.
 fn ends_as(
     rt: &(impl Abort + Threads + Wait + Sync),
     alloc: Global,
@@ -357,8 +361,8 @@ fn ends_as(
     Ok(())
 }
 
-// A run by threads of a table's first files ends, with each kind of mail. Its result is that of their run by the default schedule, or that of the run of
-// these files.
+// Checks that with each kind of mail a run by threads of a table's first files ends. Its result is that of their run by
+// the default schedule, or that of the run of `files` by `schedule`.
 fn is_either(
     rt: &(impl Abort + Threads + Wait + Sync),
     alloc: Global,

@@ -7,7 +7,7 @@ use Rattle.osservice.specs.{declared.returning.ServiceResult.ServiceResult, Serv
 use Rattle.osservice.specs.Terms.{Serves, ServesQuietly}
 use Rattle.oscall.proofs.border.serve.Goals as goal
 
--- A service without a line is one with at most two.
+-- A service that prints no line stays within the bound of two lines.
 with-lines : {service : Seen → Service} {result : ServiceResult} {s s' : KernelState} {vec : Vec Mark Global} → ServesQuietly 1 service result s s' → Serves 2 2 service result s s' vec vec
 with-lines e = record { answer = e.answer; steps = wider (lit≤ tt) (lit≤ tt) (unprinted e.steps); refused = λ no. unprinted (e.refused no); border = e.border }
 

@@ -8,7 +8,7 @@ use Rattle.osclock.specs.Clocks.{IsBounded, unset}
 use Rattle.osclock.proofs.{Beyond.beyond-bounded, Beyond.set-keeps, Beyond.written, Quiet.quiet-more}
 use Rattle.osclock.proofs.clocks.pass_alarms.Goals as goal
 
--- what stands for an alarm that is not there
+-- the reference in place of an alarm that does not exist
 abbrev no_alarm : AlarmRef
 no_alarm = record { core = record { number = 0 }; index = 0 }
 

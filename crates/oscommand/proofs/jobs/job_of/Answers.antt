@@ -26,7 +26,7 @@ has_fault kinds are app is words error fails = record {
   fails = first_fails _ _ (kind_of error) (subst (λ (a : App). is_simple_and_free a ≡ true → HasKind (fault_of a words) error) is fails (is_free kinds));
 }
 
--- out of memory is an error of any words
+-- for any words, the error may be that memory ran out
 has_no_memory : (kinds : MailKinds) → AreMailKinds kinds → (made : Result Command AllocError) → IfOk made (λ command. app_of command ≡ command_line kinds)
     → (words : List Text) (error : Error) → kind_of error ≡ OutOfMemory → FailsByWords words (Err error)
 has_no_memory kinds are made is words error out = record { kinds = kinds; kinds_are = are; fails = inl out }
@@ -51,7 +51,7 @@ module _ (kinds : MailKinds) (are : AreMailKinds kinds) (words : List Text) (m :
   asks_for : (job : Job) → IsNamed (subcommand_rows_of m) job → AsksFor words job
   asks_for job named = record { kinds = kinds; kinds_are = are; rows = named.rows; names = sym parse.rows ∙ named.names; entries = named.entries }
 
-  -- and the only fault is that two of them exclude each other
+  -- the words have at most one fault: that two entries exclude each other
   usage_of : (b : Bool) → excludes (subcommand_rows_of m) ≡ b → usage_fault (command_line kinds) words ≡ cond b (ArgumentConflict ∷ []) []
   usage_of b e = past _ _ parse.faultless ∙ ap (λ (both : Bool). cond both (ArgumentConflict ∷ []) []) (ap excludes (sym parse.rows) ∙ e)
 

@@ -45,7 +45,7 @@ record IsOrdered (n : ℕ) (js : List Job) : Type 0 where
   pub ascend : are_ascending js ≡ true
   pub before : list_all (is_before n) js ≡ true
 
--- the oldest of a runner goes to the end, with a stamp that is later than all
+-- a runner's oldest job moves to the end, with a stamp that is later than all others
 anew : (r : Runner) (n : ℕ) (js : List Job) → IsOrdered n js → IsOrdered (suc n) (stamped_anew r n js)
 anew r n js is = by (oldest r js)
   where

@@ -8,7 +8,7 @@ use Rattle.osstate.specs.{Does.HasRoom, State.KernelState}
 use Rattle.osacts.specs.Acts.{Acts, Notes, both, one_then}
 use Rattle.osacts.specs.Runs.{runs, says}
 use Rattle.osacts.proofs.Each.{as_steps, noted, then, unprinted}
-use Rattle.osexpiry.specs.{Advancing.posted_at_point, Advancing.posted_for, Expiring.expire_each, ExpiryPoints.process_tables, ExpiryPoints.posted_by_table}
+use Rattle.osexpiry.specs.{Advancing.most_posted_of_table, Advancing.posted_for, Expiring.expire_each, ExpiryPoints.process_tables, ExpiryPoints.posted_by_table}
 use Rattle.osexpiry.proofs.{Counted.fewer-entries, Counted.fewer-marks, Postings.both-posted, Postings.due-posted}
 use Rattle.osexpiry.proofs.advancing.advance.Goals as goal
 
@@ -40,7 +40,7 @@ process_tables-requires g c =
     let joined = rw (counted.view, c.as_slice-due_alarms.ensures.value) at c.expire_each.ensures.outbox in
     let alarms = rw (c.as_slice-due_alarms.ensures.value) at c.expire_each.ensures.steps in
     let tables = c.due_tables-tables.ensures in
-    let both = both-posted c.args.state.now.view.own c.args.counter c.args.state.now.clocks c.due_next-alarms.result.items c.due_tables-tables.result.items c.due_next-alarms.ensures.value tables.ends (tables.once (posted_at_point c.args.state.now.view.own)) in
+    let both = both-posted c.args.state.now.view.own c.args.counter c.args.state.now.clocks c.due_next-alarms.result.items c.due_tables-tables.result.items c.due_next-alarms.ensures.value tables.ends (tables.once (most_posted_of_table c.args.state.now.view.own)) in
     let own : IsTrue (list_all (are_own c.expire_each.new.state.view.own) due) = rw (c.expire_each.ensures.steps.view, counted.view, c.as_slice-due_tables.ensures.value) tables.own in
     let outbox : length c.expire_each.new.state.border.outbox + sum_by (posted_by_table c.expire_each.new.state.view.own) due ≤ g.row.OUT =
     rw (c.expire_each.ensures.steps.view, counted.view, c.as_slice-due_tables.ensures.value) (omega (arith, same, both, joined, c.requires.posts.outbox)) in
@@ -62,7 +62,7 @@ returns g c =
     let joined = rw (counted.view, c.as_slice-due_alarms.ensures.value) at c.expire_each.ensures.outbox in
     let more = rw (c.expire_each.ensures.steps.view, counted.view, c.as_slice-due_tables.ensures.value) at c.process_tables.ensures.outbox in
     let due = c.due_tables-tables.ensures in
-    let posted = both-posted c.args.state.now.view.own c.args.counter c.args.state.now.clocks c.due_next-alarms.result.items c.due_tables-tables.result.items c.due_next-alarms.ensures.value due.ends (due.once (posted_at_point c.args.state.now.view.own)) in
+    let posted = both-posted c.args.state.now.view.own c.args.counter c.args.state.now.clocks c.due_next-alarms.result.items c.due_tables-tables.result.items c.due_next-alarms.ensures.value due.ends (due.once (most_posted_of_table c.args.state.now.view.own)) in
     record {
       steps =
           as_steps (ap (λ (x : Acts). runs x c.args.state.now) same) (ap (λ (x : Acts). says x c.args.state.now) same)

@@ -4,7 +4,7 @@ use Rattle.osplan.specs.{declared.plans.Core.Core, Objects.is_own_object}
 use Rattle.osservice.proofs.InTurn.{next-at, none-acted, one-acted, places-left, room-left, still-passes}
 use Rattle.osexpiry.proofs.advancing.expire_each.Goals as goal
 
--- what stands past the last one
+-- the reference that is read past the last one
 abbrev blank : AlarmRef
 blank = record { core = record { number = 0 }; index = 0 }
 

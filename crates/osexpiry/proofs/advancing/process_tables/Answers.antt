@@ -3,7 +3,7 @@ use Rattle.ostable.specs.{declared.tables.DueTable.DueTable, Waiting.are_own}
 use Rattle.osservice.proofs.InTurn.{next-at, none-acted, one-acted, places-left, room-left, still-passes}
 use Rattle.osexpiry.proofs.advancing.process_tables.Goals as goal
 
--- what stands past the last one
+-- the due table that is read past the last one
 abbrev blank : DueTable
 blank = record { table = record { core = record { number = 0 }; index = 0 }; due = record { point = None; ends = false }; next = None }
 

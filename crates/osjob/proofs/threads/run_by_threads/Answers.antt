@@ -11,7 +11,7 @@ breaks : (reason : ThreadReason) → BreaksThreads (of_threads reason)
 breaks reason.NotBegun = tt
 breaks other = tt
 
--- and none of them names a file
+-- no reason is the fault `Unreadable`
 names_none : (reason : ThreadReason) → of_threads reason ≡ Unreadable → ⊥
 names_none reason.NotBegun e = cc
 names_none other e = cc

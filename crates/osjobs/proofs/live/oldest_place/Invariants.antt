@@ -3,7 +3,7 @@ use Rattle.osbase.specs.History.{job_count, same_runner}
 use Rattle.osjobs.proofs.Counting.{no-job}
 use Rattle.osjobs.proofs.live.oldest_place.Given as goal
 
--- from this place on nobody has one before the one that was found
+-- from this place on no job of the runner comes before the one that was found
 abbrev pub invariant-loop-place : goal.invariant-loop-place
 invariant-loop-place l = record {
   within : l.place ≤ length l.jobs;

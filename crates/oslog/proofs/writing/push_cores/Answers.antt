@@ -1,5 +1,5 @@
 use Rattle.std.proofs.Common.{◌≡◌, ◌++◌, string_bytes, ap, sym, ◌∙◌, arith}
-use Rattle.oslog.specs.Items.{led}
+use Rattle.oslog.specs.Items.{after_spaces}
 use Rattle.oslog.proofs.{Cores.core-more, Cores.no-core-more, Cores.words_from, writing.push_cores.Goals.then-contains+in_ok-push_number, writing.push_cores.Goals.else-contains}
 use Rattle.oslog.proofs.writing.push_cores.Goals as goal
 
@@ -16,4 +16,4 @@ loop-number-preserved c =
 pub returns : goal.returns
 returns c =
     let all : c.loop-number.number ≡ 16 = omega arith in
-    c.loop-number.invariant ∙ ap (λ n. string_bytes c.args.text.now ++ led (words_from c.args.cores.now 0 n)) all
+    c.loop-number.invariant ∙ ap (λ n. string_bytes c.args.text.now ++ after_spaces (words_from c.args.cores.now 0 n)) all

@@ -3,7 +3,7 @@ use Rattle.osbase.specs.declared.messages.Letter.{Letter}
 use Rattle.osmail.specs.Ends.{sent_to, taken_from}
 use Rattle.osmail.proofs.settling.without_taken.Given as goal
 
--- Whatever follows, what is left of both lists begins alike where the whole lists do.
+-- For each `more`, the one whole list and then `more` are the other list exactly if this holds of what is left of both.
 abbrev pub invariant-loop-step : goal.invariant-loop-step
 invariant-loop-step l =
     (more : List Letter) →

@@ -6,7 +6,7 @@ if-weaker : {A E : Type 0} (r : Result A E) (P Q : A → Type 0) (N : E → Type
 if-weaker (Ok a) P Q N imply m = imply a m
 if-weaker (Err e) P Q N imply m = tt
 
--- the copy's parts, of which the search needs to be led to the alarms and the tables
+-- the copy's parts; the search has to be led to the alarms and the tables
 pub returns : goal.returns
 returns c = if-weaker c.clone.result _ _ _
     (λ copy parts.

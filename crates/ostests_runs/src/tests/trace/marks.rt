@@ -36,7 +36,7 @@ const TABLE: TableRef = TableRef {
 
 const SEVENTH: Variable = Variable { index: 7 };
 
-/// Of a core's start, its hooks and its end.
+/// Marks of a core's start, its hooks and its end.
 pub const HOOKS: [Mark; 8] = [
     Mark::StartCoreReturned {
         core: ONE,
@@ -68,7 +68,7 @@ hook Shutdown E_OK
 halt 1 E_OS_STATE
 ";
 
-/// Of tasks and their events.
+/// Marks of tasks and their events.
 pub const TASKS: [Mark; 9] = [
     Mark::Activated(TASK),
     Mark::Terminated(BLINK),
@@ -102,7 +102,7 @@ free A
 tick
 ";
 
-/// Of ISRs, alarms and schedule tables.
+/// Marks of ISRs, alarms and schedule tables.
 pub const OBJECTS: [Mark; 8] = [
     Mark::InterruptAccepted(ISR),
     Mark::InterruptLost(ISR),
@@ -130,7 +130,7 @@ begin S1
 
 const ACTIVATE: RemoteCall = RemoteCall::ActivateTask(BLINK);
 
-/// Of calls that go from core to core.
+/// Marks of calls from core to core.
 pub const CALLS: [Mark; 8] = [
     Mark::CallQueued {
         core: ONE,
@@ -196,7 +196,7 @@ in 0 GetAlarm L v7 E_OK 12
 
 const FIRST: Variable = Variable { index: 0 };
 
-/// Of what a job's services and operations came to.
+/// Marks of the results of a job's services and operations.
 pub const SERVICES: [Mark; 5] = [
     Mark::ServiceReturned {
         runner: Runner::Isr(ISR),
@@ -243,7 +243,7 @@ pub const REQUEST: [Mark; 3] = [
     },
 ];
 
-/// What core 1 does then.
+/// What core 1 does after the request of core 0.
 pub const ANSWER: [Mark; 2] = [
     Mark::Activated(BLINK),
     Mark::CallServed {

@@ -14,7 +14,7 @@ pub enum Refusal {
     TakesNothing,
 }
 
-/// Takes at most three bytes a write, but refuses one: that behind so many.
+/// Takes at most three bytes a write, but refuses one write, after `left` others.
 #[derive(Drop)]
 pub struct FailingSink {
     pub bytes: Vec<u8>,

@@ -19,7 +19,7 @@ ended-more run os rest outfit es more e split pushed ended here =
     rw (split, map-snoc (λ (o : Outfit). o.seats.board.core) rest outfit, pushed)
     (ended-push run.config.now run.stimuli.now run.turns (shared run.board.now run.bank.now) (outfit_cores rest) es outfit.seats.board.core e ended here)
 
--- and the end of the rings that it gave back is the one that the outfit had
+-- the end of the rings that the worker gave back is the one that its outfit had
 ends-more : (os rest : List Outfit) (outfit : Outfit) (es more : List Ending) (e : Ending) → os ≡ rest ++ outfit ∷ [] → more ≡ es ++ e ∷ [] → map end_kept es ≡ map end_of rest → end_kept e ≡ end_of outfit → map end_kept more ≡ map end_of os
 ends-more os rest outfit es more e split pushed ends here = rw (split, pushed, map-snoc end_kept es e, map-snoc end_of rest outfit, ends, here)
 

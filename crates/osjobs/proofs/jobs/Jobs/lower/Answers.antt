@@ -4,8 +4,8 @@ use Rattle.osrunner.specs.Rows.{held_in}
 use Rattle.osjobs.proofs.Keeping.{dropped-fewer, fewer-holders, keeps}
 use Rattle.osjobs.proofs.jobs.Jobs.lower.Goals as goal
 
-pub if_holder-self-inside-requires : goal.if_holder-self-inside-requires
-if_holder-self-inside-requires g c = rw c.lower.ensures.rest (fewer-holders c.args.runner (λ (row : Row). record row { held = drop 1 row.held }) c.self.inside.rows c.self.inside.holders c.self.invariant.holders (dropped-fewer (held_in c.args.runner c.self.inside.rows)))
+pub without_free-self-inside-requires : goal.without_free-self-inside-requires
+without_free-self-inside-requires g c = rw c.lower.ensures.rest (fewer-holders c.args.runner (λ (row : Row). record row { held = drop 1 row.held }) c.self.inside.rows c.self.inside.holders c.self.invariant.holders (dropped-fewer (held_in c.args.runner c.self.inside.rows)))
 
 pub invariant_of-self : goal.invariant_of-self
 invariant_of-self g c = record {
@@ -13,6 +13,6 @@ invariant_of-self g c = record {
   counted = c.self.invariant.counted;
   isrs_counted = c.self.invariant.isrs_counted;
   queue = rw c.lower.ensures.rest (keeps g.row.P g.row.J _ _ _ _ c.self.invariant.queue c.args.runner (λ (row : Row). record row { held = drop 1 row.held }) refl);
-  holders = c.if_holder-self-inside.ensures;
+  holders = c.without_free-self-inside.ensures;
   current = c.self.invariant.current;
 }

@@ -3,7 +3,7 @@ use Rattle.osbase.specs.declared.messages.Letter.{Letter}
 use Rattle.osmail.specs.Ends.{letters_of, sent_to}
 use Rattle.osmail.proofs.mailbox.Mailbox.without_left.Given as goal
 
--- Whatever follows, what is left of both lists begins alike where the whole lists do.
+-- For each `more`, the one whole list and then `more` are the other list exactly if this holds of what is left of both.
 abbrev pub invariant-loop-i : goal.invariant-loop-i
 invariant-loop-i g l =
     (more : List Letter) →

@@ -8,7 +8,7 @@ use Rattle.ostable.proofs.{Bounds.list-at, tables.Tables.due_next.Goals.in-Some,
 use Rattle.ostable.proofs.Listed.{filter_map-more, none-kept, one-kept, timed-own}
 use Rattle.ostable.proofs.tables.Tables.due_next.Goals as goal
 
--- what stands for a table that is not there
+-- the reference in place of a table that does not exist
 abbrev no_table : TableRef
 no_table = record { core = record { number = 0 }; index = 0 }
 

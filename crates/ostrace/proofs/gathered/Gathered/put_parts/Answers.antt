@@ -1,10 +1,10 @@
 use Rattle.std.proofs.Common.{Err, Ok, [], ◌∷◌, refl}
-use Rattle.ostrace_text.specs.Trace.{led}
+use Rattle.ostrace_text.specs.Trace.{after_spaces}
 use Rattle.ostrace.proofs.Gathering.{Gathers-stop, Gathers-then, joining}
 use Rattle.ostrace.proofs.gathered.Gathered.put_parts.Goals as goal
 
 pub returns-in_err-put_text : goal.returns-in_err-put_text
-returns-in_err-put_text g c = Gathers-stop (led (c.args.second.now ∷ [])) _ c.from_residual.ensures.0 c.in_err-put_text.ensures refl
+returns-in_err-put_text g c = Gathers-stop (after_spaces (c.args.second.now ∷ [])) _ c.from_residual.ensures.0 c.in_err-put_text.ensures refl
 
 pub returns-in_err-put_text-2 : goal.returns-in_err-put_text-2
 returns-in_err-put_text-2 g c =

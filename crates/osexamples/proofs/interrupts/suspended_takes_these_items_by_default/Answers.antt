@@ -1,5 +1,5 @@
 use Rattle.std.proofs.Common.{refl}
-use Rattle.osexamples.proofs.interrupts.locked_takes_these_items_by_default.Goals as goal
+use Rattle.osexamples.proofs.interrupts.suspended_takes_these_items_by_default.Goals as goal
 
 pub returns-clause-rounds : goal.returns-clause-rounds
 returns-clause-rounds c = refl

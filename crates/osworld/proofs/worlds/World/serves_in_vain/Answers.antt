@@ -1,7 +1,7 @@
 use Rattle.std.proofs.Common.{◌∷◌, [], sym, ◌∙◌}
 use Rattle.std.proofs.lemmas.Bool.{not-true}
 use Rattle.osworld.proofs.Served.{unserved-played}
-use Rattle.osworld.proofs.worlds.World.serves_none.Goals as goal
+use Rattle.osworld.proofs.worlds.World.serves_in_vain.Goals as goal
 
 pub returns-in-Serve : goal.returns-in-Serve
 returns-in-Serve c passes stimuli w plays =

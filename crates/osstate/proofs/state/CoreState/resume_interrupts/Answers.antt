@@ -2,10 +2,10 @@ use Rattle.std.proofs.Common.{rules, refl, subst, []}
 use Rattle.osbase.specs.History.{Noted, InterruptsResumed}
 use Rattle.osstate.specs.Sound.{IsSound}
 use Rattle.osstate.proofs.{Histories.own-step, Sounds.same-jobs}
-use Rattle.osstate.proofs.state.CoreState.unlock_interrupts.Goals as goal
+use Rattle.osstate.proofs.state.CoreState.resume_interrupts.Goals as goal
 
 pub invariant_of-self : goal.invariant_of-self
-invariant_of-self g c = rw c.unlock_interrupts.ensures (same-jobs [] (Noted (InterruptsResumed c.args.runner)) refl refl c.self.invariant)
+invariant_of-self g c = rw c.resume_interrupts.ensures (same-jobs [] (Noted (InterruptsResumed c.args.runner)) refl refl c.self.invariant)
 
 pub returns : goal.returns
 returns g c = own-step (Noted (InterruptsResumed c.args.runner)) (subst (IsSound g.row.P g.row.J) c.self.view_is c.self.invariant) c.requires.own (search rules)

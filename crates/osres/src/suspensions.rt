@@ -7,11 +7,11 @@ use std::marker::Model;
 
 /// How often a job has suspended interrupts and not resumed them, at most 255 times.
 #[derive(Drop)]
-pub struct Locks {
+pub struct Suspensions {
     depth: u8,
 }
 
-impl Model for Locks {
+impl Model for Suspensions {
     ghost use Rattle.std.specs.Prelude.{ℕ};
 
     ghost Value = { ℕ };
@@ -19,17 +19,17 @@ impl Model for Locks {
     ghost view = { λ l. l.depth };
 }
 
-impl Locks {
+impl Suspensions {
     /// Interrupts are not suspended.
     pub fn new() -> Self
         ensures { result ≡ 0 }
     {
-        Locks { depth: 0 }
+        Suspensions { depth: 0 }
     }
 
-    /// The job suspends interrupts once more; after 255 times nothing changes (OSEK/VDX OS 2.2.3, section 13.3.2.4; the
-    /// most: own).
-    pub fn lock_interrupts(&mut self)
+    /// The job suspends interrupts once more; after 255 times nothing changes (OSEK/VDX OS 2.2.3, section 13.3.2.4;
+    /// that limit is the project's own).
+    pub fn suspend_interrupts(&mut self)
         ensures { self.new ≡ deeper self.old }
     {
         if self.depth < u8::MAX {
@@ -39,7 +39,7 @@ impl Locks {
 
     /// The job resumes interrupts once; if it has not suspended them, nothing changes (OSEK/VDX OS 2.2.3, section
     /// 13.3.2.3).
-    pub fn unlock_interrupts(&mut self)
+    pub fn resume_interrupts(&mut self)
         ensures { self.new ≡ shallower self.old }
     {
         if self.depth > 0 {
@@ -55,17 +55,17 @@ impl Locks {
     }
 
     /// Whether the job has suspended interrupts.
-    pub fn is_locked(&self) -> bool
+    pub fn has_suspended_interrupts(&self) -> bool
         ensures { result ≡ nat_lt 0 self.now }
     {
         0 < self.depth
     }
 }
 
-impl Default for Locks {
+impl Default for Suspensions {
     fn default() -> Self
         ensures { result ≡ 0 }
     {
-        Locks::new()
+        Suspensions::new()
     }
 }

@@ -1,8 +1,0 @@
-use Rattle.std.proofs.Common.{refl}
-use Rattle.osbase.specs.Interrupts.{deeper}
-use Rattle.oscript.specs.Runners.{Row}
-use Rattle.osjobs.proofs.Keeping.{kept}
-use Rattle.osjobs.proofs.jobs.Jobs.lock_interrupts.Goals as goal
-
-pub invariant_of-self : goal.invariant_of-self
-invariant_of-self g c = rw c.lock_interrupts.ensures (kept c.self.invariant c.args.runner (λ (row : Row). record row { depth = deeper row.depth }) refl (λ h. h))
