@@ -166,8 +166,12 @@ fn nested(alloc: Global, depth: u32) -> Result<String, Fail> {
     Ok(text)
 }
 
+// Texts that are not JSON, and JSON texts with or without the shape of a configuration: each has the fault that its
+// table names, or none. The `@` of a frame stands for the text, and the last argument says how many cases there are.
 #[test]
-fn texts_of_other_shapes_have_their_faults_or_none(rt: HostRuntime) -> Result<(), Fail> {
+fn texts_that_are_not_json_or_not_of_the_shape_have_their_faults_or_none(
+    rt: HostRuntime,
+) -> Result<(), Fail> {
     play_configurations(&rt, rt.alloc(), "@", TEXTS, 395)?;
     play_configurations(&rt, rt.alloc(), "\u{feff}@", AROUND, 1)?;
     play_configurations(&rt, rt.alloc(), "@\0", AROUND, 1)?;
